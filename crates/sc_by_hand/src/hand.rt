@@ -5,7 +5,7 @@ ghost use Rattle.sc_actor.specs.declared.rows.Event.TheVariants.{Go};
 ghost use Rattle.sc_base.specs.Limits.{client_actor};
 ghost use Rattle.sc_by_hand.specs.Deeds.{after_deed, deeds_of, delivery};
 ghost use Rattle.sc_scenario.specs.scenario.Valid.{IsValid};
-ghost use Rattle.sc_world.specs.Replays.{IsReplayError};
+ghost use Rattle.sc_world.specs.ReplayErrors.{IsReplayError};
 ghost use Rattle.sc_world.specs.Worlds.{StandsFor};
 
 use crate::steps::{Log, deliver, start};

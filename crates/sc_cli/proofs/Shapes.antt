@@ -243,24 +243,24 @@ in_range words = of_asked IsInRange words (record {
 })
 
 -- what is asked tells which words they are
-abbrev Tells : List (List ℕ) → Subcommand → Type 0
-Tells words Run = is_run words ≡ true
-Tells words Journal = is_journal words ≡ true
-Tells words Audit = is_audit words ≡ true
-Tells words Pool = is_pool words ≡ true
-Tells words Explain = is_explain words ≡ true
-Tells words (Scan sight) = ⊤
-Tells words (Make n seed) = ⊤
+abbrev IsSpelled : List (List ℕ) → Subcommand → Type 0
+IsSpelled words Run = is_run words ≡ true
+IsSpelled words Journal = is_journal words ≡ true
+IsSpelled words Audit = is_audit words ≡ true
+IsSpelled words Pool = is_pool words ≡ true
+IsSpelled words Explain = is_explain words ≡ true
+IsSpelled words (Scan sight) = ⊤
+IsSpelled words (Make n seed) = ⊤
 
-tells : (words : List (List ℕ)) (asked : Subcommand) → subcommand_by words ≡ Some asked → Tells words asked
-tells words = of_asked (Tells words) words (record {
+tells : (words : List (List ℕ)) (asked : Subcommand) → subcommand_by words ≡ Some asked → IsSpelled words asked
+tells words = of_asked (IsSpelled words) words (record {
   of_run = λ t. t;
   of_journal = λ t. t;
   of_audit = λ t. t;
   of_pool = λ t. t;
   of_explain = λ t. t;
-  of_made = λ asked e. subst (Tells words) (made (nth words 1) (nth words 2) asked e).2 tt;
-  of_seen = λ asked e. subst (Tells words) (sighted (number_of (nth words 1) last_number) (count_in whole_circle (nth words 2)) (number_of (nth words 3) last_number) (count_in most_pairs (nth words 4)) asked e).4 tt;
+  of_made = λ asked e. subst (IsSpelled words) (made (nth words 1) (nth words 2) asked e).2 tt;
+  of_seen = λ asked e. subst (IsSpelled words) (sighted (number_of (nth words 1) last_number) (count_in whole_circle (nth words 2)) (number_of (nth words 3) last_number) (count_in most_pairs (nth words 4)) asked e).4 tt;
 })
 
 -- a run is asked for by the one word alone

@@ -1,4 +1,4 @@
 pub mod Itself
 pub mod Lines
 pub mod Rings
-pub mod Whole
+pub mod PlainFacts

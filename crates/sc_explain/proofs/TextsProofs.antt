@@ -1,3 +1,3 @@
 pub mod Pieces
 pub mod Strings
-pub mod Whole
+pub mod PlainCommands

@@ -1,4 +1,4 @@
 pub mod Movers
 pub mod Moves
-pub mod Rising
+pub mod RisingNodes
 pub mod Totals

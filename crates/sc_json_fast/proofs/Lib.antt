@@ -2,7 +2,7 @@ pub mod AnswerTexts
 pub mod Bare
 pub mod BodyTexts
 pub mod CommandTexts
-pub mod Digits
+pub mod NumberDigits
 pub mod ListTexts
 pub mod MailTexts
 pub mod OpTexts

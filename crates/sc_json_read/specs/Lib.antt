@@ -1,3 +1,3 @@
-pub mod Json
+pub mod ParsedJson
 pub mod Presence
 pub mod Reading

@@ -8,7 +8,8 @@ ghost use Rattle.sc_json_text.specs.rows.Answers.{answer_body_json, FitsAnswerBo
 
 use crate::errors::RowError;
 use crate::from_json::FromJson;
-use crate::reading::{pair_of, single_of, variant_parts, whole};
+use crate::objects::{pair_of, single_of};
+use crate::tagged::{variant_parts, whole};
 use sc_mail::AnswerBody;
 use serde_json::Value as Json;
 use std::alloc::Global;

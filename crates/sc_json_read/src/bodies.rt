@@ -10,7 +10,8 @@ ghost use Rattle.sc_json_text.specs.rows.Bodies.{watch_json, FitsWatch};
 
 use crate::errors::RowError;
 use crate::from_json::FromJson;
-use crate::reading::{pair_of, single_of, six_of, variant_parts, word};
+use crate::objects::{pair_of, single_of, six_of};
+use crate::tagged::{variant_parts, word};
 use sc_words::{Body, Offer, Watch};
 use serde_json::Value as Json;
 use std::alloc::Global;

@@ -9,7 +9,8 @@ ghost use Rattle.sc_json_text.specs.rows.Commands.{report_json, FitsReport};
 
 use crate::errors::RowError;
 use crate::from_json::FromJson;
-use crate::reading::{pair_of, single_of, triple_of, variant_parts, word};
+use crate::objects::{pair_of, single_of, triple_of};
+use crate::tagged::{variant_parts, word};
 use sc_words::{Command, Report};
 use serde_json::Value as Json;
 use std::alloc::Global;

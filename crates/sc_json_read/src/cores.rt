@@ -10,7 +10,8 @@ ghost use Rattle.sc_json_text.specs.rows.Cores.{base_json, FitsBase};
 
 use crate::errors::RowError;
 use crate::from_json::FromJson;
-use crate::reading::{four_of, pair_of, triple_of, twelve_of, variant_parts, word};
+use crate::objects::{four_of, pair_of, triple_of, twelve_of};
+use crate::tagged::{variant_parts, word};
 use sc_words::{Base, Core, Lock};
 use serde_json::Value as Json;
 use std::alloc::Global;

@@ -7,7 +7,7 @@ ghost use Rattle.sc_json_text.specs.rows.Rows.{event_json, FitsEvent};
 
 use crate::errors::RowError;
 use crate::from_json::FromJson;
-use crate::reading::{variant_parts, whole, word};
+use crate::tagged::{variant_parts, whole, word};
 use sc_actor::Event;
 use sc_words::OrderLine;
 use serde_json::Value as Json;

@@ -4,7 +4,7 @@ ghost use Rattle.sc_json_text.specs.rows.Links.{route_json, FitsRoute};
 
 use crate::errors::RowError;
 use crate::from_json::{FromJson, Present};
-use crate::reading::{pair_of, triple_of};
+use crate::objects::{pair_of, triple_of};
 use sc_words::{Link, Route};
 use serde_json::Value as Json;
 use std::alloc::Global;

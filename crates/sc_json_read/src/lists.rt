@@ -8,7 +8,7 @@ ghost use Rattle.sc_json_read.specs.Reading.{Shows};
 
 use crate::errors::RowError;
 use crate::from_json::{FromJson, Present};
-use crate::reading::pair_in;
+use crate::items::pair_in;
 use sc_base::{Boxed, Sequence};
 use serde_json::Value as Json;
 use std::alloc::Global;

@@ -6,7 +6,7 @@ ghost use Rattle.sc_json_text.specs.rows.Names.{draw_json, FitsDraw, ballot_json
 
 use crate::errors::RowError;
 use crate::from_json::{FromJson, Present};
-use crate::reading::pair_in;
+use crate::items::pair_in;
 use sc_base::{Ballot, Draw, read_number};
 use serde_json::Value as Json;
 use std::alloc::Global;
@@ -20,7 +20,7 @@ fn dot_of(text: &[u8]) -> Option<usize>
 }
 
 /// Returns the name that a text spells.
-#[tactic(auto, unfolding(crate::specs::Json::draw_json, crate::specs::Json::FitsDraw))]
+#[tactic(auto, unfolding(crate::specs::ParsedJson::draw_json, crate::specs::ParsedJson::FitsDraw))]
 fn draw_of(text: &[u8]) -> Option<Draw>
     ensures finds { (draw : Draw) → FitsDraw draw → string text.now ≡ draw_json draw
         → result ≡ Some draw }
@@ -63,7 +63,7 @@ impl FromJson for Ballot {
 
     ghost Fits = { FitsBallot };
 
-    #[tactic(auto, unfolding(crate::specs::Json::ballot_json, crate::specs::Json::FitsBallot))]
+    #[tactic(auto, unfolding(crate::specs::ParsedJson::ballot_json, crate::specs::ParsedJson::FitsBallot))]
     fn from_json(alloc: Global, json: &Json) -> Result<Ballot, RowError> {
         let (round, node) = pair_in(alloc, json)?;
         Ok(Ballot { round, node })

@@ -13,7 +13,8 @@ ghost use Rattle.sc_json_text.specs.rows.Orders.{order_result_json, FitsOrderRes
 
 use crate::errors::RowError;
 use crate::from_json::FromJson;
-use crate::reading::{pair_of, single_of, variant_parts, whole, word};
+use crate::objects::{pair_of, single_of};
+use crate::tagged::{variant_parts, whole, word};
 use sc_words::{Order, OrderLine, OrderRefusal, OrderResult};
 use serde_json::Value as Json;
 use std::alloc::Global;

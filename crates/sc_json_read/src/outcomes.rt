@@ -9,7 +9,8 @@ ghost use Rattle.sc_json_text.specs.rows.Outcomes.{outcome_json, FitsOutcome};
 
 use crate::errors::RowError;
 use crate::from_json::{FromJson, Present};
-use crate::reading::{pair_of, single_of, variant_parts, word};
+use crate::objects::{pair_of, single_of};
+use crate::tagged::{variant_parts, word};
 use sc_words::{Gift, Outcome};
 use serde_json::Value as Json;
 use std::alloc::Global;

@@ -12,8 +12,8 @@ ghost use Rattle.sc_json_read.specs.Reading.{Finds, Shows};
 
 use crate::errors::RowError;
 use crate::from_json::{FromJson, Present};
+use crate::items::{pair_in, triple_in};
 use crate::lists::items_of;
-use crate::reading::{pair_in, triple_in};
 use sc_base::{Key, Members, Noted, Ordered, OutOfMemory, RingArc, Value};
 use serde_json::Value as Json;
 use std::alloc::Global;
@@ -115,7 +115,7 @@ impl FromJson for Ordered<Key, Value> {
 
     ghost Fits = { FitsPairs };
 
-    #[tactic(auto, unfolding(crate::specs::Json::pairs_json, crate::specs::Json::FitsPairs))]
+    #[tactic(auto, unfolding(crate::specs::ParsedJson::pairs_json, crate::specs::ParsedJson::FitsPairs))]
     fn from_json(alloc: Global, json: &Json) -> Result<Ordered<Key, Value>, RowError> {
         let entries = items_of::<(Key, Value)>(alloc, json)?;
         match rising(alloc, entries)? {
@@ -132,7 +132,7 @@ impl Present for Ordered<Key, Value> {
 }
 
 /// Returns the entry of a client table that has this JSON.
-#[tactic(auto, unfolding(crate::specs::Json::client_json, crate::specs::Json::FitsNoted))]
+#[tactic(auto, unfolding(crate::specs::ParsedJson::client_json, crate::specs::ParsedJson::FitsNoted))]
 fn client_from_json(alloc: Global, json: &Json) -> Result<(u16, Noted), RowError>
     ensures finds { (entry : ℕ × Noted) → PairFits FitsU16 FitsNoted entry
         → view json.now ≡ client_json entry → Finds entry result }
@@ -162,7 +162,7 @@ impl FromJson for Ordered<u16, Noted> {
 
     ghost Fits = { FitsClients };
 
-    #[tactic(auto, using(crate::proofs::Arrays::is_array), unfolding(crate::specs::Json::clients_json, crate::specs::Json::FitsClients))]
+    #[tactic(auto, using(crate::proofs::Arrays::is_array), unfolding(crate::specs::ParsedJson::clients_json, crate::specs::ParsedJson::FitsClients))]
     fn from_json(alloc: Global, json: &Json) -> Result<Ordered<u16, Noted>, RowError> {
         let Some(list) = json.as_array() else {
             return Err(RowError::NoRow);

@@ -14,7 +14,8 @@ ghost use Rattle.sc_json_text.specs.rows.Votes.{past_json, FitsPast};
 
 use crate::errors::RowError;
 use crate::from_json::{FromJson, Present};
-use crate::reading::{five_of, pair_of, single_of, variant_parts, whole, word};
+use crate::objects::{five_of, pair_of, single_of};
+use crate::tagged::{variant_parts, whole, word};
 use sc_words::{Frozen, Heard, No, Past, Vote};
 use serde_json::Value as Json;
 use std::alloc::Global;

@@ -1,2 +1,2 @@
-pub mod Arrays
-pub mod TextSteps
+pub mod ListsAsArrays
+pub mod WrittenTexts

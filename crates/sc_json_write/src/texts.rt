@@ -12,7 +12,7 @@ use serde_json::Value as Json;
 use std::alloc::Global;
 
 /// Returns the JSON string of visible bytes.
-#[tactic(auto, using(crate::proofs::TextSteps::visible_utf8))]
+#[tactic(auto, using(crate::proofs::WrittenTexts::visible_utf8))]
 fn string_of(alloc: Global, bytes: &[u8]) -> Result<Json, OutOfMemory>
     requires { IsTrue (list_all is_visible bytes.now) }
     ensures { IfOk result (λ json. view json ≡ string bytes.now) }

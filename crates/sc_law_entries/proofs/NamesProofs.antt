@@ -11,6 +11,7 @@ pub mod ExecutedNames
 pub mod Voted
 pub mod NamesInRows
 pub mod Playing
+pub mod AcceptedLogs
 pub mod LoggedNames
 pub mod Fresh
 pub mod DrawingExample

@@ -8,7 +8,8 @@ pub mod Facts
 pub mod EntryKinds
 pub mod Ends
 pub mod Effects
-pub mod RequestsAndVotes
+pub mod RequestsAndOrders
+pub mod VotesOfParties
 pub mod Finds
 pub mod CutLookups
 pub mod GroupsInLists

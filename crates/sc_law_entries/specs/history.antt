@@ -1,8 +1,8 @@
-pub mod Example
+pub mod HistoryExample
 pub mod HistoryPrefixes
-pub mod Laws
+pub mod LogHistories
 pub mod Moves
 pub mod PlanMoves
-pub mod Telling
+pub mod AppliedEntries
 pub mod Worlds
 pub mod Definitions

@@ -1,9 +1,9 @@
 pub mod Allows
 pub mod Beside
 pub mod Descent
-pub mod Example
+pub mod LogExample
 pub mod Findings
 pub mod InTurn
-pub mod Laws
+pub mod LogLaws
 pub mod OneMap
 pub mod Definitions

@@ -1,7 +1,7 @@
 pub mod Owners
 pub mod Names
-pub mod Laws
+pub mod NameLaws
 pub mod Fresh
-pub mod Example
+pub mod NameExample
 pub mod Naming
 pub mod Definitions

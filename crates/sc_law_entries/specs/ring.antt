@@ -1,6 +1,6 @@
 pub mod Allowed
 pub mod Invariant
 pub mod Stories
-pub mod Laws
-pub mod Example
+pub mod RingLaws
+pub mod RingExample
 pub mod Definitions

@@ -1,12 +1,12 @@
 //! The law of histories. Of one group: what its log makes of the store. Of all groups: moves of
 //! what they hold (arcs, pairs and client tables) keep one legal history, and the map after it is
 //! the groups' pairs. No mail is in it. Definitions and laws; no code that runs.
-ghost use Rattle.sc_law_entries.specs.history.Example.{ExampleOfEntries, ExampleOfMoves};
+ghost use Rattle.sc_law_entries.specs.history.HistoryExample.{ExampleOfEntries, ExampleOfMoves};
 ghost use Rattle.sc_law_entries.specs.history.HistoryPrefixes.{PrefixesAnswerByHistory, LogsMakeStates};
-ghost use Rattle.sc_law_entries.specs.history.Laws.{LogsMakeHistories};
+ghost use Rattle.sc_law_entries.specs.history.LogHistories.{LogsMakeHistories};
 ghost use Rattle.sc_law_entries.specs.history.Moves.{MovesKeepHistories, MovesMakeHistories};
 ghost use Rattle.sc_law_entries.specs.history.PlanMoves.{PlansAreMoves};
-ghost use Rattle.sc_law_entries.specs.history.Telling.{EntriesMakeMoves, AppliedEntriesMakeHistory};
+ghost use Rattle.sc_law_entries.specs.history.AppliedEntries.{EntriesMakeMoves, AppliedEntriesMakeHistory};
 ghost use Rattle.sc_law_entries.specs.history.Worlds.{MovingEntriesMakeHistory, QuietEntriesMakeHistory};
 
 /// Shows that, whatever requests, joins and leaves a group executes from an empty start, the

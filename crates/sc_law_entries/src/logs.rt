@@ -1,8 +1,8 @@
 //! The law of entries and the law of histories together, and what the rows of a journal decide,
 //! entry by entry, with the groups that entries create: the bridge from decided logs to these laws.
 //! Of mail it uses only what a decided log is. Definitions and laws; no code that runs.
-ghost use Rattle.sc_law_entries.specs.logs.Example.{ExampleInTurn};
-ghost use Rattle.sc_law_entries.specs.logs.Laws.{AllowedStaysAllowed, EntriesAreAllowed, EntriesAreLogs, EntriesMakeOneMap, PrefixesAllow, GroupsAllowOthers, GroupsAreFound, GroupsAreOldOrNew, HistoryIsDecided, JournalsInTurnAreSound, RowsDecideForOne, RowsGoOn, StatesAllow, DecidingRowsStay};
+ghost use Rattle.sc_law_entries.specs.logs.LogExample.{ExampleInTurn};
+ghost use Rattle.sc_law_entries.specs.logs.LogLaws.{AllowedStaysAllowed, EntriesAreAllowed, EntriesAreLogs, EntriesMakeOneMap, PrefixesAllow, GroupsAllowOthers, GroupsAreFound, GroupsAreOldOrNew, HistoryIsDecided, JournalsInTurnAreSound, RowsDecideForOne, RowsGoOn, StatesAllow, DecidingRowsStay};
 ghost use Rattle.sc_law_entries.specs.logs.OneMap.{AllowedEntriesMakeOneMap};
 
 /// Shows that after every list of allowed entries, from groups in place that hold nothing, the ring

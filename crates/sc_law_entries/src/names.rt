@@ -7,11 +7,11 @@ ghost use Rattle.sc_base.specs.Among.{Each};
 ghost use Rattle.sc_meaning.specs.sound.Players.{Lawful};
 ghost use Rattle.sc_scenario.specs.scenario.Groups.{lone_name};
 ghost use Rattle.sc_meaning.specs.sound.Example.{four};
-ghost use Rattle.sc_law_entries.specs.names.Example.{drawing_rows, drawing_scenario, example_name, second_name, third_name};
+ghost use Rattle.sc_law_entries.specs.names.NameExample.{drawing_rows, drawing_scenario, example_name, second_name, third_name};
 ghost use Rattle.sc_law_entries.specs.names.Owners.{owner_in};
 ghost use Rattle.sc_law_entries.specs.names.Fresh.{BeginsUndrawn, DrawnNamesAreNew, NamesAreDrawn};
 ghost use Rattle.sc_law_entries.specs.names.Naming.{AllowedNamesAreDrawn, LoggedNamesAreDrawn, MoreOwnersAllow};
-ghost use Rattle.sc_law_entries.specs.names.Laws.{DrawnNamesAreOwned, NodesHaveNames, TakenOrdersAreAllowed, TakenWishesAreAllowed, WishesAreAtPositions, OrdersAreQueued, OtherNamesAreFree, OwnedNamesAreDrawn, OwnedNamesAreOfNodes, OwnersStay, RowsDrawOnce};
+ghost use Rattle.sc_law_entries.specs.names.NameLaws.{DrawnNamesAreOwned, NodesHaveNames, TakenOrdersAreAllowed, TakenWishesAreAllowed, WishesAreAtPositions, OrdersAreQueued, OtherNamesAreFree, OwnedNamesAreDrawn, OwnedNamesAreOfNodes, OwnersStay, RowsDrawOnce};
 
 /// Shows that the names that a row draws, for an order or for what policies order, differ, had no
 /// owner before the row, and are owned by the orders' groups from then on, whatever rows come

@@ -1,10 +1,10 @@
 //! The law of entries: what the entries of all logs make of the groups and of the ring, where each
 //! entry is allowed by what the entries before it record. This is nested consensus without mail
 //! (Scatter, SOSP 2011, multi-group operations). Definitions and laws; no code that runs.
-ghost use Rattle.sc_law_entries.specs.ring.Laws.{EntriesKeepTheRing, EntriesKeepThePromises};
-ghost use Rattle.sc_law_entries.specs.ring.Laws.{AllowedEntriesStayAllowed, AllowedListsAppend};
-ghost use Rattle.sc_law_entries.specs.ring.Laws.{DrawsAreOfOneLog};
-ghost use Rattle.sc_law_entries.specs.ring.Example.{MergeIsAllowed, SplitIsAllowed};
+ghost use Rattle.sc_law_entries.specs.ring.RingLaws.{EntriesKeepTheRing, EntriesKeepThePromises};
+ghost use Rattle.sc_law_entries.specs.ring.RingLaws.{AllowedEntriesStayAllowed, AllowedListsAppend};
+ghost use Rattle.sc_law_entries.specs.ring.RingLaws.{DrawsAreOfOneLog};
+ghost use Rattle.sc_law_entries.specs.ring.RingExample.{MergeIsAllowed, SplitIsAllowed};
 
 /// Shows that after every list of allowed entries, from groups in place (`BeginInPlace`), the ring
 /// covers; that the effective record of each range's group is not gone, has the range's arc and

@@ -13,6 +13,7 @@ pub mod Offering
 pub mod Entering
 pub mod Welcoming
 pub mod ChosenEntries
+pub mod MajorityVotes
 pub mod Counting
 pub mod Offspring
 pub mod Transacting
@@ -23,6 +24,7 @@ pub mod Frames
 pub mod Holding
 pub mod Newborn
 pub mod Names
+pub mod PartsOfNodes
 pub mod GroupNodes
 pub mod Ticks
 pub mod Projected
@@ -34,6 +36,7 @@ pub mod LoggedReplies
 pub mod Replicated
 pub mod ScenarioBirths
 pub mod RowSteps
+pub mod JournalPlayers
 pub mod JournalRows
 pub mod ElectionExample
 pub mod JoinExample

@@ -1,4 +1,4 @@
-pub mod Example
+pub mod ElectionExample
 pub mod JoinExample
-pub mod Steps
+pub mod PaxosSteps
 pub mod Definitions

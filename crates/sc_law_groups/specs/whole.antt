@@ -1,5 +1,5 @@
 pub mod Begins
-pub mod Laws
+pub mod WholeJournalLaws
 pub mod Orders
 pub mod Parameters
 pub mod Parties

@@ -9,7 +9,7 @@ ghost use Rattle.sc_meaning.specs.sound.Logs.{decided_log, decided_state};
 ghost use Rattle.sc_meaning.specs.sound.Histories.{decided_row};
 ghost use Rattle.sc_meaning.specs.sound.Requests.{issue_row};
 ghost use Rattle.sc_meaning.specs.sound.Players.{Lawful};
-ghost use Rattle.sc_law_groups.specs.group.Example.{three_nodes, election_scenario, election_example, example_call};
+ghost use Rattle.sc_law_groups.specs.group.ElectionExample.{three_nodes, election_scenario, election_example, example_call};
 ghost use Rattle.sc_law_groups.specs.group.JoinExample.{join_scenario, join_example, join};
 
 /// Shows a lawful journal of three nodes in which two of them decide a request, and then another

@@ -1,5 +1,4 @@
 pub mod Reports
-pub mod SilentMail
 pub mod LoggedReplicas
 pub mod ReportedRows
 pub mod ReportedSteps

@@ -50,7 +50,7 @@ module _ (group : Group) (tx : Draw) (vote : Vote) (by : ℕ) (Q : Group × Effe
 
   by_answer : (cast : Vote) → vote ≡ cast → (body : Body) (order : ℕ) → group.core.lock ≡ Coordinating tx body order None → Q (participant_answered cast body group tx order by)
   by_answer (Vows.Yes frozen) votes body order lock = by_granted body order lock frozen votes
-  by_answer (Vows.No why) is body order lock = k.aborts body order lock why is
+  by_answer (Vows.No why) fact body order lock = k.aborts body order lock why fact
 
   -- a vote is counted only where the participant was not heard before
   by_heard : (body : Body) (order : ℕ) (got : Option Heard) → group.core.lock ≡ Coordinating tx body order got → asks_watcher body got ≡ false → Q (participant_answered vote body group tx order by)
@@ -105,8 +105,8 @@ module _ (group : Group) (tx : Draw) (vote : Past) (Q : Group × Effect → Type
 
   by_watch_answer : (cast : Past) → vote ≡ cast → (body : Body) (order : ℕ) (got : Option Heard) → group.core.lock ≡ Coordinating tx body order got → Q (watch_answered cast body got group tx)
   by_watch_answer Cast.Yes votes body order got lock = by_released body order got lock votes
-  by_watch_answer (Cast.No why) is body order got lock = k.aborts body order got lock (λ votes. (let no_way : Cast.No why ≡ Cast.Yes = sym is ∙ votes in cc))
-  by_watch_answer Cast.Ended is body order got lock = k.aborts body order got lock (λ votes. (let no_way : Cast.Ended ≡ Cast.Yes = sym is ∙ votes in cc))
+  by_watch_answer (Cast.No why) fact body order got lock = k.aborts body order got lock (λ votes. (let no_way : Cast.No why ≡ Cast.Yes = sym fact ∙ votes in cc))
+  by_watch_answer Cast.Ended fact body order got lock = k.aborts body order got lock (λ votes. (let no_way : Cast.Ended ≡ Cast.Yes = sym fact ∙ votes in cc))
 
   by_watch : (lock : Lock) → group.core.lock ≡ lock → Q (watch_recorded lock group tx vote)
   by_watch (Coordinating t body order got) e =

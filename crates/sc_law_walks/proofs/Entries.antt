@@ -25,11 +25,11 @@ pub entry_low : (slot : ℕ) (log : LogState Command) (command : Command) → en
 entry_low slot log command e = by (nat_lt log.base slot) refl e
   where
     held : (place : ℕ) → slice_get log.entries place ≡ Some command → place < length log.entries
-    held place is = elim (cases_lt place (length log.entries)) [ inl low ↦ low | inr past ↦ (let none = slice_get_past log.entries place past in cc (is, none)) ]
+    held place fact = elim (cases_lt place (length log.entries)) [ inl low ↦ low | inr past ↦ (let none = slice_get_past log.entries place past in cc (fact, none)) ]
 
     by : (b : Bool) → nat_lt log.base slot ≡ b → cond b (slice_get log.entries (slot - log.base - 1)) None ≡ Some command → slot < next_of log
-    by true t is = (let low = held (slot - log.base - 1) is in let up = ltb-true log.base slot t in omega (arith, low, up))
-    by false f is = cc
+    by true t fact = (let low = held (slot - log.base - 1) fact in let up = ltb-true log.base slot t in omega (arith, low, up))
+    by false f fact = cc
 
 -- a counted entry takes no slot from another command
 pub lost_counted : (command : Command) (o : Option Command) (r : ReplicaState) → slot_lost true command o r ≡ r

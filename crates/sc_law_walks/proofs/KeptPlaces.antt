@@ -31,11 +31,11 @@ unfolding offered
 offered_kept me slot set command r mails on kept = (kept.0, kept.1, (λ off. absurd (true≢false (sym on ∙ off)), kept.2.1, kept.2.2))
 
 -- what waits without its first
-acts_kept : (me : ℕ) (act : Command) (acts : List Command) (r : ReplicaState) → r.running ≡ true → r.acts ≡ act ∷ acts → IsKept me r → IsKept me (record r { acts = acts })
-acts_kept me act acts r on e kept = (let filed : Each IsFiled (act ∷ acts) = subst (λ (cs : List Command). Each IsFiled cs) e kept.2.1 in waiting me r acts r.backlog on filed.1 kept.2.2 kept)
+acts_kept : (me : ℕ) (act : Command) (rest : List Command) (r : ReplicaState) → r.running ≡ true → r.acts ≡ act ∷ rest → IsKept me r → IsKept me (record r { acts = rest })
+acts_kept me act rest r on e kept = (let filed : Each IsFiled (act ∷ rest) = subst (λ (cs : List Command). Each IsFiled cs) e kept.2.1 in waiting me r rest r.backlog on filed.1 kept.2.2 kept)
 
-calls_kept : (me : ℕ) (command : Command) (backlog : List Command) (r : ReplicaState) → r.running ≡ true → r.backlog ≡ command ∷ backlog → IsKept me r → IsKept me (record r { backlog = backlog })
-calls_kept me command backlog r on e kept = (let asked : Each IsAsked (command ∷ backlog) = subst (λ (cs : List Command). Each IsAsked cs) e kept.2.2 in waiting me r r.acts backlog on kept.2.1 asked.1 kept)
+calls_kept : (me : ℕ) (command : Command) (rest : List Command) (r : ReplicaState) → r.running ≡ true → r.backlog ≡ command ∷ rest → IsKept me r → IsKept me (record r { backlog = rest })
+calls_kept me command rest r on e kept = (let asked : Each IsAsked (command ∷ rest) = subst (λ (cs : List Command). Each IsAsked cs) e kept.2.2 in waiting me r r.acts rest on kept.2.1 asked.1 kept)
 
 near_kept : (me slot : ℕ) (r : ReplicaState) → IsKept me r → slot < next r + length r.sets → slot < next r + slots_ahead
 near_kept me slot r kept near = subst (λ n. slot < next r + n) kept.1 near

@@ -36,3 +36,7 @@ pub mod EnteredReplicas
 pub mod Routes
 pub mod AscendingMembers
 pub mod ReplicaNodes
+pub mod Replays
+pub mod Lists
+pub mod RefusedOrders
+pub mod TransactionRows

@@ -68,7 +68,7 @@ module _ (group : Group) (P : Command → Group × Effect → Type 0) (k : Machi
       })
     where
       cast : (given : Vote) → vote ≡ given → (x : Group × Effect) → P (RecordVote tx given by) x → P (RecordVote tx vote by) x
-      cast given is x = subst (λ v. P (RecordVote tx v by) x) (sym is)
+      cast given fact x = subst (λ v. P (RecordVote tx v by) x) (sym fact)
 
   by_watch : (tx : Draw) (vote : Past) (by : ℕ) → P (RecordWatch tx vote by) (watch_recorded group.core.lock group tx vote)
   by_watch tx vote by =
@@ -80,7 +80,7 @@ module _ (group : Group) (P : Command → Group × Effect → Type 0) (k : Machi
       })
     where
       cast : vote ≡ Cast.Yes → (x : Group × Effect) → P (RecordWatch tx Cast.Yes by) x → P (RecordWatch tx vote by) x
-      cast is x = subst (λ v. P (RecordWatch tx v by) x) (sym is)
+      cast fact x = subst (λ v. P (RecordWatch tx v by) x) (sym fact)
 
   by_finish : (tx : Draw) (outcome : Outcome) → P (Finish tx outcome) (finished group.core.lock group tx outcome)
   by_finish tx =

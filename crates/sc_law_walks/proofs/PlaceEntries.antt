@@ -12,7 +12,7 @@ use Rattle.sc_law_walks.specs.Definitions.{IsKept}
 use Rattle.sc_law_walks.proofs.Ways.{either_way}
 use Rattle.sc_law_walks.proofs.Places.{landed_place}
 use Rattle.sc_law_walks.proofs.Queues.{turned_sets, back_kept, back_runs}
-use Rattle.sc_law_walks.proofs.PlaceWalks.{Talk, grows, entered_place}
+use Rattle.sc_law_walks.proofs.PlaceWalks.{Talk, parties, grows, entered_place}
 use Rattle.sc_law_walks.proofs.Talks.{others_sent, client_reported, desk_reported, spoken_said}
 
 -- That each part of an entry keeps P, where the commands at slots are as Entry says, and what goes back to a queue, from a flight or as a request, is as Back says.
@@ -65,7 +65,7 @@ module _ (me : ℕ) (P : Place → Type 0) (Entry : ℕ → Command → Type 0) 
 
   call_at : (answer : Option AnswerBody) (command : Command) (place : Place) → b ≡ true → At place → At (answered_or_put_back answer command place)
   unfolding answered_or_put_back
-  call_at (Some answer) (Call client seq op) (r, mails) on k = (k.0, client_reported r.me (λ ms. P (r, ms)) (p.talks r k.0.0) client (name_of r) seq answer mails k.1, k.2)
+  call_at (Some answer) (Call client seq op) (r, mails) on k = (k.0, client_reported r.me (λ ms. P (r, ms)) (parties r.me (λ ms. P (r, ms)) (p.talks r k.0.0)) client (name_of r) seq answer mails k.1, k.2)
   call_at None (Call client seq op) place on k = back_at (Call client seq op) place on (p.asked client seq op) k
   call_at (Some answer) _ place on k = k
   call_at None _ place on k = k

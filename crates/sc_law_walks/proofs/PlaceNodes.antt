@@ -1,5 +1,5 @@
 -- What holds of replicas with the mails of a row is kept by each row of a node's table.
-use Rattle.std.proofs.Common.{◌≡◌, ℕ, ◌||◌, not, nat_lt, eqb, refl, Bool, true, false, cond, List, [], ◌∷◌, ◌++◌, length, Option, Some, None, sym, ◌∙◌, subst, ap, append_assoc}
+use Rattle.std.proofs.Common.{◌≡◌, ℕ, nat_lt, eqb, Bool, List, [], ◌∷◌, ◌++◌, length, Option, Some, None, sym, ◌∙◌, subst, ap, append_assoc}
 use Rattle.std.specs.Prelude.{is_some}
 use Rattle.std.proofs.lemmas.Bool.{eqb-true}
 use Rattle.sc_base.specs.Definitions.{Drawer, Each, same_draw}
@@ -8,12 +8,16 @@ use Rattle.sc_actor.specs.declared.rows.Input.TheVariants.{Tick, Go, Told}
 use Rattle.sc_words.specs.declared.commands.orders.OrderRefusal.TheVariants.{NotLeader as OrderNotLeader}
 use Rattle.sc_words.proofs.PaxosProofs.Lemmas.{Each-weaker}
 use Rattle.sc_node_table.specs.Definitions.{sent, NodeState, replica_of, with_replica, is_before, with_new, group_of_mail, with_made, unknown, may_come, with_born, with_children, taken_by, routed, on_mail, group_of_order, ordered_of, node_table, ordered_row, ReplicaState, Place, Executed, name_of, last_slot, born_replica, made_by, mailed, slots_ahead, ticked, on_tick, tick_row, names_after_tick}
-use Rattle.sc_law_walks.proofs.Ways.{either_way}
+use Rattle.sc_law_walks.proofs.Ways.{either_way, unless_so}
 use Rattle.sc_law_walks.proofs.PlaceWalks.{PlaceWalk, PlaceBirths, PlaceTicks, Before, After, Hears}
 use Rattle.sc_law_walks.proofs.PlaceParts.{on_late}
 use Rattle.sc_law_walks.proofs.PlaceRows.{takes_mail, orders, creation, makes}
 use Rattle.sc_law_walks.proofs.PlaceTicks.{ticks}
 use Rattle.sc_law_walks.proofs.MailsGrow.{Begins, begins_itself, tick_grows}
+
+-- a node's step on any input that it may take keeps what holds of the node
+abbrev pub NodeSteps : (Input Mail OrderLine → Type 0) → (NodeState → Type 0) → (NodeState × List Mail → Type 0) → Type 0
+NodeSteps Given Starts Step = (node : NodeState) (input : Input Mail OrderLine) → Given input → Starts node → Step (node_table node input)
 
 module _ (w : PlaceWalk) (b : PlaceBirths w.facts) where
   -- ---- replicas in their order, with the mails of a row
@@ -72,16 +76,9 @@ module _ (w : PlaceWalk) (b : PlaceBirths w.facts) where
   sent_one node to body k rest = ((k.0, all_beside (sent node.me to body []) node.replicas rest k.1), rest)
 
   unknown_step : (from : ℕ) (body : MailBody) (node : NodeState) → Hears w.facts body → Stands [] node → Step (unknown from body node)
-  unknown_step from (Install group slot base sets) node h k = by (eqb (length sets) slots_ahead) refl
-    where
-      made : After w.facts (made_by w.facts.me from group slot base sets) → Step (with_made (made_by node.me from group slot base sets) node)
-      made q = made_step (made_by node.me from group slot base sets) node (subst (λ m. After w.facts (made_by m from group slot base sets)) (sym k.0) q) k
-
-      by : (c : Bool) → eqb (length sets) slots_ahead ≡ c → Step (cond {A = NodeState × List Mail} (not c || nat_lt last_slot slot) (node, []) (with_made (made_by node.me from group slot base sets) node))
-      by false e = idle node k
-      by true e =
-          either_way Step (nat_lt last_slot slot) (node, []) (with_made (made_by node.me from group slot base sets) node) (idle node k)
-          (made (makes w b from group slot base sets (eqb-true (length sets) slots_ahead e) h.1))
+  unknown_step from (Install group slot base sets) node h k =
+      unless_so Step (eqb (length sets) slots_ahead) (nat_lt last_slot slot) (node, []) (with_made (made_by node.me from group slot base sets) node) (idle node k)
+      (λ e. made_step (made_by node.me from group slot base sets) node (subst (λ m. After w.facts (made_by m from group slot base sets)) (sym k.0) (makes w b from group slot base sets (eqb-true (length sets) slots_ahead e) h.1)) k)
   unknown_step from (Request group client seq op) node h k = sent_one node _ _ k (b.answers node.me client group seq (NotLeader None) k.0)
   unknown_step from (Prepare group ballot from_slot) node h k = sent_one node from (Ask group 0) k (b.wants_all node.me from group k.0)
   unknown_step from (Accept group ballot slot command) node h k = sent_one node from (Ask group 0) k (b.wants_all node.me from group k.0)
@@ -134,7 +131,7 @@ module _ (w : PlaceWalk) (b : PlaceBirths w.facts) where
   Given Go = Unit {0}
   Given (Told line) = Unit {0}
 
-  pub input_step : (node : NodeState) (input : Input Mail OrderLine) → Given input → Starts node → Step (node_table node input)
+  pub input_step : NodeSteps Given Starts Step
   input_step node (Got mail) h k = mail_step mail.from mail.body node h k
   input_step node Tick h k = absurd h
   input_step node Go h k = idle node (rests node k)
@@ -165,7 +162,7 @@ module _ (w : PlaceWalk) (b : PlaceBirths w.facts) where
     GivenAny Go = Unit {0}
     GivenAny (Told line) = Unit {0}
 
-    pub any_step : (node : NodeState) (input : Input Mail OrderLine) → GivenAny input → Starts node → Step (node_table node input)
+    pub any_step : NodeSteps GivenAny Starts Step
     any_step node (Got mail) h k = mail_step mail.from mail.body node h k
     any_step node Tick h k = tick_step node k
     any_step node Go h k = input_step node Go tt k

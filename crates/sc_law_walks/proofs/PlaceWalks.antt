@@ -1,5 +1,5 @@
 -- What an invariant of a replica together with the mails of its row needs: what holds before a row and after it, that each part of a row keeps it, and that it holds with each mail put behind. Where a part changes the replica and sends what belongs to the change, the two are one part, and the invariant need not hold between. The theorems of the walk carry it through all rows of a replica's table.
-use Rattle.std.proofs.Common.{◌≡◌, ℕ, ◌+◌, ◌-◌, ◌<◌, ◌≤◌, nat_le, cond, Bool, true, false, List, [], ◌∷◌, ◌++◌, length, Option, Some, None}
+use Rattle.std.proofs.Common.{◌≡◌, ℕ, ◌+◌, ◌-◌, ◌<◌, ◌≤◌, nat_le, cond, Bool, true, false, List, [], ◌∷◌, ◌++◌, length, Option, Some, None, sym, subst}
 use Rattle.sc_node_table.specs.Values.{Ballot, Draw, Op, Offer, Watch, Command, Noop, Call, GiveUp, Base, Effect, OrderResult, Outcome, Past, Vote, AnswerBody, Mail, MailBody, Request, Answer, Prepare, Promise, Accept, Accepted, Nack, Learn, Ask, Install, TxPrepare, TxVote, TxOutcome, TxElsewhere, TxWatch, TxWatched, Told, Chosen, NotYet, Report}
 use Rattle.sc_base.specs.Definitions.{Each, client_actor}
 use Rattle.sc_words.specs.declared.paxos.answers.Must.TheVariants.{Value}
@@ -44,6 +44,39 @@ pub record PlaceFacts : Type 1 where
   pub Learnt : ℕ → Command → Type 0
   pub Behind : ℕ → Type 0
 
+-- ---- what a part of a row keeps, of a replica with the mails of the row: the same in each record of a walk
+
+-- what holds before the row ends holds at its end
+abbrev pub EndsRow : (Place → Type 0) → (Place → Type 0) → Type 0
+EndsRow Early Late = (place : Place) → Early place → Late place
+
+-- what is ready at the next slot is executed
+abbrev pub ExecutesNext : (Place → Type 0) → (Place → Type 0) → (ℕ → Command → Type 0) → Type 0
+ExecutesNext Early Late Entry = (command : Command) (r : ReplicaState) (mails : List Mail) → r.running ≡ true → at_slot r.ready (next r) ≡ Some command → Late (r, mails) → Early (r, mails) × Entry (next r) command
+
+-- another leader is followed
+abbrev pub Follows : (Place → Type 0) → Type 0
+Follows Early = (hint : Option ℕ) (r : ReplicaState) (mails : List Mail) → r.running ≡ false → Early (r, mails) → Early (record r { hint = hint }, mails)
+
+-- a greater ballot is seen, which stops no leader
+abbrev pub SeesBallot : (Place → Type 0) → (Ballot → Type 0) → Type 0
+SeesBallot Early Round = (ballot : Ballot) (r : ReplicaState) (mails : List Mail) → Round ballot → below r.top ballot ≡ true → GoesOn ballot r → Early (r, mails) → Early (record r { top = ballot }, mails)
+
+-- a vote leaves its slot undecided
+abbrev pub CountsVote : (Place → Type 0) → Type 0
+CountsVote Early = (from : ℕ) (ballot : Ballot) (slot : ℕ) (set : List ℕ) (count : ℕ) (r : ReplicaState) (mails : List Mail) → r.running ≡ true → (counted from ballot slot set r.leader).0 ≡ NotYet count → Early (r, mails) → Early (record r { leader = (counted from ballot slot set r.leader).1 }, mails)
+
+-- a client's first request is queued, and a later one in its place
+abbrev pub QueuesFirst : (Place → Type 0) → Type 0
+QueuesFirst Late = (client seq : ℕ) (op : Op) (r : ReplicaState) (mails : List Mail) → r.running ≡ true → queued_number r.backlog client ≡ None → Late (r, mails) → Late (record r { backlog = r.backlog ++ Call client seq op ∷ [] }, mails)
+
+abbrev pub QueuesLater : (Place → Type 0) → Type 0
+QueuesLater Late = (client seq other : ℕ) (op : Op) (r : ReplicaState) (mails : List Mail) → r.running ≡ true → queued_number r.backlog client ≡ Some other → nat_le seq other ≡ false → Late (r, mails) → Late (record r { backlog = without_request r.backlog client ++ Call client seq op ∷ [] }, mails)
+
+-- a coordinator waits
+abbrev pub WaitsOn : (Place → Type 0) → Type 0
+WaitsOn Late = (waits : ℕ) (r : ReplicaState) (mails : List Mail) → Late (r, mails) → Late (record r { waits = waits }, mails)
+
 -- That what holds of the mails of node `me` is kept by each mail to a client, to the desk, and to a party of a transaction.
 pub record Talk (me : ℕ) (Q : List Mail → Type 0) : Type 0 where
   pub tells : (number : ℕ) (result : OrderResult) (mails : List Mail) → Q mails → Q (sent me 0 (Told number result) mails)
@@ -57,21 +90,21 @@ pub record Talk (me : ℕ) (Q : List Mail → Type 0) : Type 0 where
 
 -- That each part of a row that changes the replica keeps what holds of it with its mails.
 pub record PlaceStates (f : PlaceFacts) : Type 0 where
-  pub late : (place : Place) → f.Early place → f.Late place
+  pub late : EndsRow f.Early f.Late
   -- entries
-  pub again : (command : Command) (r : ReplicaState) (mails : List Mail) → r.running ≡ true → at_slot r.ready (next r) ≡ Some command → f.Late (r, mails) → f.Early (r, mails) × f.Entry (next r) command
+  pub again : ExecutesNext f.Early f.Late f.Entry
   pub counted_entry : (command : Command) (r : ReplicaState) (mails : List Mail) → IsKept f.me r → r.running ≡ true → at_slot r.ready (next r) ≡ Some command → f.Entry (next r) command → f.Early (r, mails) → f.Early (entered_place true command (r, mails))
   pub learnt_entry : (command : Command) (r : ReplicaState) (mails : List Mail) → IsKept f.me r → f.Learnt (next r) command → f.Early (r, mails) → f.Early (entered_place false command (r, mails))
   pub jumped : (slot : ℕ) (base : Base) (sets : List (List ℕ)) (r : ReplicaState) (mails : List Mail) → length sets ≡ slots_ahead → f.State slot base → next r ≤ slot → r.running ≡ false → f.Early (r, mails) → f.Early (jumped slot base sets r, mails)
   -- leaders
-  pub hinted : (hint : Option ℕ) (r : ReplicaState) (mails : List Mail) → r.running ≡ false → f.Early (r, mails) → f.Early (record r { hint = hint }, mails)
+  pub hinted : Follows f.Early
   pub ended : (hint : Option ℕ) (answer : AnswerBody) (r : ReplicaState) (mails : List Mail) → IsKept f.me r → r.running ≡ true → f.Early (r, mails) → f.Early (ended hint answer (r, mails))
   pub overtaken : (ballot : Ballot) (r : ReplicaState) (mails : List Mail) → IsKept f.me r → f.Round ballot → r.running ≡ true → below r.leader.ballot ballot ≡ true → f.Early (r, mails) → f.Early (stopped (Some ballot.node) (cond (below r.top ballot) (record r { top = ballot }) r, mails))
   pub elected : (r : ReplicaState) (mails : List Mail) → IsKept f.me r → f.Early (r, mails) → f.Late (elected_place (r, mails))
-  pub seen : (ballot : Ballot) (r : ReplicaState) (mails : List Mail) → f.Round ballot → below r.top ballot ≡ true → GoesOn ballot r → f.Early (r, mails) → f.Early (record r { top = ballot }, mails)
+  pub seen : SeesBallot f.Early f.Round
   pub polled : (from : ℕ) (ballot : Ballot) (reports : List (Report Command)) (r : ReplicaState) (mails : List Mail) → r.running ≡ true → Each (IsReported f.Round f.Entry) reports → f.Early (r, mails) → f.Early (record r { leader = (promise_counted from ballot reports r.leader).1 }, mails)
   -- a vote that leaves its slot undecided, and one that decides it
-  pub counts : (from : ℕ) (ballot : Ballot) (slot : ℕ) (set : List ℕ) (count : ℕ) (r : ReplicaState) (mails : List Mail) → r.running ≡ true → (counted from ballot slot set r.leader).0 ≡ NotYet count → f.Early (r, mails) → f.Early (record r { leader = (counted from ballot slot set r.leader).1 }, mails)
+  pub counts : CountsVote f.Early
   pub chosen : (from : ℕ) (ballot : Ballot) (slot : ℕ) (set : List ℕ) (command : Command) (r : ReplicaState) (mails : List Mail) → r.running ≡ true → (counted from ballot slot set r.leader).0 ≡ Chosen command → f.Voted slot → f.Early (r, mails)
       → f.Entry slot command × f.Early (record r { leader = (counted from ballot slot set r.leader).1; ready = with_slot r.ready slot command }, mails)
   -- acceptors
@@ -82,8 +115,8 @@ pub record PlaceStates (f : PlaceFacts) : Type 0 where
   -- queues
   pub filed : (act : Command) (r : ReplicaState) (mails : List Mail) → r.running ≡ true → IsFiledOnMail act → has_act act r ≡ false → f.Late (r, mails) → f.Late (record r { acts = r.acts ++ act ∷ [] }, mails)
   pub ordered : (order : Command) (r : ReplicaState) (mails : List Mail) → r.running ≡ true → IsOrder order → f.Late (r, mails) → f.Late (record r { backlog = r.backlog ++ order ∷ [] }, mails)
-  pub requested : (client seq : ℕ) (op : Op) (r : ReplicaState) (mails : List Mail) → r.running ≡ true → queued_number r.backlog client ≡ None → f.Late (r, mails) → f.Late (record r { backlog = r.backlog ++ Call client seq op ∷ [] }, mails)
-  pub requested_again : (client seq other : ℕ) (op : Op) (r : ReplicaState) (mails : List Mail) → r.running ≡ true → queued_number r.backlog client ≡ Some other → nat_le seq other ≡ false → f.Late (r, mails) → f.Late (record r { backlog = without_request r.backlog client ++ Call client seq op ∷ [] }, mails)
+  pub requested : QueuesFirst f.Late
+  pub requested_again : QueuesLater f.Late
   -- a request that gets no slot is answered
   pub turned : (command : Command) (answer : AnswerBody) (backlog : List Command) (r : ReplicaState) (mails : List Mail) → r.me ≡ f.me → r.running ≡ true → r.backlog ≡ command ∷ backlog → turned_down r.group.core command ≡ Some answer → f.Late (r, mails)
       → f.Late (record r { backlog = backlog }, answered r.me r.group.core.id answer command mails)
@@ -91,10 +124,10 @@ pub record PlaceStates (f : PlaceFacts) : Type 0 where
   pub offers_value : (slot : ℕ) (set : List ℕ) (command : Command) (r : ReplicaState) (mails : List Mail) → r.me ≡ f.me → r.running ≡ true → slot < next r + slots_ahead → taken_at r slot ≡ None → must slot r.leader ≡ Value command → f.Late (r, mails)
       → f.Late (offered slot set command (r, mails))
   pub offers_noop : (slot : ℕ) (set : List ℕ) (r : ReplicaState) (mails : List Mail) → r.me ≡ f.me → r.running ≡ true → slot < next r + slots_ahead → taken_at r slot ≡ None → f.Late (r, mails) → f.Late (offered slot set Noop (r, mails))
-  pub offers_act : (slot : ℕ) (set : List ℕ) (act : Command) (acts : List Command) (r : ReplicaState) (mails : List Mail) → r.me ≡ f.me → r.running ≡ true → slot < next r + slots_ahead → taken_at r slot ≡ None → r.acts ≡ act ∷ acts → f.Late (r, mails)
-      → f.Late (offered slot set act (record r { acts = acts }, mails))
-  pub offers_call : (slot : ℕ) (set : List ℕ) (command : Command) (backlog : List Command) (r : ReplicaState) (mails : List Mail) → r.me ≡ f.me → r.running ≡ true → slot < next r + slots_ahead → taken_at r slot ≡ None → r.backlog ≡ command ∷ backlog → f.Late (r, mails)
-      → f.Late (offered slot set command (record r { backlog = backlog }, mails))
+  pub offers_act : (slot : ℕ) (set : List ℕ) (act : Command) (rest : List Command) (r : ReplicaState) (mails : List Mail) → r.me ≡ f.me → r.running ≡ true → slot < next r + slots_ahead → taken_at r slot ≡ None → r.acts ≡ act ∷ rest → f.Late (r, mails)
+      → f.Late (offered slot set act (record r { acts = rest }, mails))
+  pub offers_call : (slot : ℕ) (set : List ℕ) (command : Command) (rest : List Command) (r : ReplicaState) (mails : List Mail) → r.me ≡ f.me → r.running ≡ true → slot < next r + slots_ahead → taken_at r slot ≡ None → r.backlog ≡ command ∷ rest → f.Late (r, mails)
+      → f.Late (offered slot set command (record r { backlog = rest }, mails))
 
 -- That it is kept by each mail that goes with no change of the replica.
 pub record PlaceSays (f : PlaceFacts) : Type 0 where
@@ -118,7 +151,7 @@ pub record PlaceAgains (f : PlaceFacts) : Type 0 where
 
 -- That ticks keep the invariant, however long a coordinator has waited when it gives up.
 pub record PlaceTicks (f : PlaceFacts) : Type 0 where
-  pub waited : (waits : ℕ) (r : ReplicaState) (mails : List Mail) → f.Late (r, mails) → f.Late (record r { waits = waits }, mails)
+  pub waited : WaitsOn f.Late
   pub gives_up : (tx : Draw) (r : ReplicaState) (mails : List Mail) → r.running ≡ true → has_act (GiveUp tx) r ≡ false → f.Late (r, mails) → f.Late (record r { acts = r.acts ++ GiveUp tx ∷ [] }, mails)
   pub agains : PlaceAgains f
 
@@ -166,6 +199,32 @@ module _ (f : PlaceFacts) where
   Hears (TxWatch tx watch) = Unit {0}
   Hears (TxWatched tx coord part vote) = Unit {0}
   Hears (Told order result) = Unit {0}
+
+-- a mail that node `me` may send to a client, or to a party of a transaction
+abbrev pub IsToParty : ℕ → ℕ → MailBody → Type 0
+IsToParty me to (Answer group seq answer) = (client : ℕ) × (to ≡ client_actor client)
+IsToParty me to (TxPrepare tx offer) = offer.by ≡ me
+IsToParty me to (TxWatch tx watch) = watch.by ≡ me
+IsToParty me to (TxVote tx coord part vote) = Unit {0}
+IsToParty me to (TxWatched tx coord part vote) = Unit {0}
+IsToParty me to (TxOutcome tx part outcome) = Unit {0}
+IsToParty me to (TxElsewhere tx coord hint) = Unit {0}
+IsToParty me to _ = ⊥
+
+-- that what holds of the mails of node `me` is kept by each mail to a client and to a party of a transaction
+abbrev pub Parties : ℕ → (List Mail → Type 0) → Type 0
+Parties me Q = (to : ℕ) (body : MailBody) (mails : List Mail) → IsToParty me to body → Q mails → Q (sent me to body mails)
+
+-- who may talk to the desk too talks to them
+pub parties : (me : ℕ) (Q : List Mail → Type 0) → Talk me Q → Parties me Q
+parties me Q t to (Answer group seq answer) mails (client, same) m = subst (λ (n : ℕ). Q (sent me n (Answer group seq answer) mails)) (sym same) (t.answers client group seq answer mails m)
+parties me Q t to (TxPrepare tx offer) mails own m = t.offers to tx offer mails own m
+parties me Q t to (TxWatch tx watch) mails own m = t.watches to tx watch mails own m
+parties me Q t to (TxVote tx coord part vote) mails own m = t.casts to tx coord part vote mails m
+parties me Q t to (TxWatched tx coord part vote) mails own m = t.sees to tx coord part vote mails m
+parties me Q t to (TxOutcome tx part outcome) mails own m = t.ends to tx part outcome mails m
+parties me Q t to (TxElsewhere tx coord hint) mails own m = t.sends_on to tx coord hint mails m
+parties me Q t to _ mails own m = absurd own
 
 -- an invariant that is kept whatever mail is put behind
 pub grows : (me : ℕ) (Q : List Mail → Type 0) → ((mails : List Mail) (mail : Mail) → Q mails → Q (mails ++ mail ∷ [])) → Talk me Q

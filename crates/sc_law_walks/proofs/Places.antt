@@ -1,9 +1,13 @@
 -- What holds of a replica with its mails, and is kept by the parts of a row, is kept by the row.
-use Rattle.std.proofs.Common.{ℕ, ◌||◌, not, nat_le, nat_lt, Bool, true, List, [], ◌∷◌, filter, Option, Some, None}
-use Rattle.sc_node_table.specs.Values.{Ballot, Command}
+use Rattle.std.specs.Prelude.{is_some}
+use Rattle.std.specs.List.{list_any}
+use Rattle.std.proofs.Common.{ℕ, ◌+◌, ◌&&◌, ◌||◌, not, nat_le, nat_lt, Bool, true, List, [], ◌∷◌, filter, Option, Some, None}
+use Rattle.sc_node_table.specs.Values.{Ballot, Command, OrderResult, Mail, Learn, Must, Gap}
+use Rattle.sc_words.specs.declared.paxos.answers.Must.TheVariants.{Value, Free as Open}
 use Rattle.sc_base.specs.Definitions.{is_member}
-use Rattle.sc_words.specs.paxos.Definitions.{without_flight_at, entry_at, prepared}
-use Rattle.sc_node_table.specs.Definitions.{welcomed, slot_lost, landed, executed_one, next_child, next_ready, ending, executed_ready, all_ready, executed, install_to, welcomed_all, pumped, put_back, ReplicaState, Place, Executed, childless, members, next, flying, taught, most_taught, ask_answered, ask_row, same_command, without_slot, promise_to, promised}
+use Rattle.sc_words.specs.paxos.Definitions.{without_flight_at, entry_at, prepared, must}
+use Rattle.sc_node_table.specs.Definitions.{from_backlog, from_acts, from_queues, found_by, is_act, is_idle, under_way, effect_reported, learnt_to, sent_others, order_reported, order_number, name_of, Found, found_for, offered, pumped_from, settled, may_offer, taken_at, last_slot, welcomed, slot_lost, landed, executed_one, next_child, next_ready, ending, executed_ready, all_ready, executed, install_to, welcomed_all, pumped, put_back, ReplicaState, Place, Executed, childless, members, next, flying, taught, most_taught, ask_answered, ask_row, same_command, without_slot, promise_to, promised}
+use Rattle.sc_law_walks.specs.Definitions.{IfThere}
 use Rattle.sc_law_walks.proofs.Ways.{either_way}
 
 -- a place with nothing in flight or ready at a slot
@@ -36,6 +40,73 @@ module _ (F : Place → Type 0) where
   unfolding ask_row
   asked_place from slot (r, mails) f install teach =
       either_way F (nat_lt slot (next r)) (ask_answered (entry_at slot r.log) from slot (r, mails)) (r, mails) (answered_by (entry_at slot r.log) from slot (r, mails) install teach) f
+
+  -- what an entry does to an order is reported, and who was a member before it learns it
+  pub reported_place : ((number : ℕ) (result : OrderResult) (r : ReplicaState) (mails : List Mail) → F (r, mails) → F (r, order_reported r.me number result mails)) → (o : Option OrderResult) (command : Command) (place : Place) → F place → F (effect_reported o command place)
+  unfolding effect_reported
+  reported_place reports None command place f = f
+  reported_place reports (Some result) command (r, mails) f = reports (order_number command) result r mails f
+
+  pub learnt_place : (counted : Bool) (nodes : List ℕ) (slot : ℕ) (command : Command) (place : Place) → F place → F (place.0, sent_others place.0.me nodes (Learn (name_of place.0) slot command) place.1) → F (learnt_to counted nodes slot command place)
+  unfolding learnt_to
+  learnt_place counted nodes slot command (r, mails) f teach = either_way F counted (r, sent_others r.me nodes (Learn (name_of r) slot command) mails) (r, mails) teach f
+
+  -- ---- the pump
+
+  -- it holds with what was found, offered at its slot
+  abbrev pub Offers : ℕ → List ℕ → Found → Type 0
+  Offers slot set found = IfThere (λ command. F (offered slot set command found.1)) (F found.1) found.0
+
+  module _ (finds : (slot : ℕ) (set : List ℕ) (place : Place) → F place → Offers slot set (found_for slot place)) where
+    pumps_on : (slot : ℕ) (set : List ℕ) (sets : List (List ℕ)) (found : Found) → Offers slot set found → ((place : Place) → F place → F (pumped_from (slot + 1) sets place))
+        → F (elim (found.0) [ None ↦ found.1 | Some command ↦ pumped_from (slot + 1) sets (offered slot set command found.1) ])
+    pumps_on slot set sets (None, place) f more = f
+    pumps_on slot set sets (Some command, place) f more = more (offered slot set command place) f
+
+    pumps_from : (slot : ℕ) (sets : List (List ℕ)) (place : Place) → F place → F (pumped_from slot sets place)
+    unfolding pumped_from
+    pumps_from slot [] place f = f
+    pumps_from slot (set ∷ sets) place f =
+        either_way F (is_some (taken_at place.0 slot)) _ _ (pumps_from (slot + 1) sets place f)
+        (either_way F (may_offer place.0 set) _ _ (pumps_on slot set sets (found_for slot place) (finds slot set place f) (λ p g. pumps_from (slot + 1) sets p g)) f)
+
+    pub pumped_place : (place : Place) → F place → F (pumped place)
+    unfolding pumped
+    pumped_place place f = either_way F (settled place.0 && nat_le (next place.0) last_slot) (pumped_from (next place.0) place.0.sets place) place (pumps_from (next place.0) place.0.sets place f) f
+
+  -- .. where what is queued, what is sent and what is in flight are nothing to it
+  module _ (queues : (r : ReplicaState) (mails more : List Mail) (acts backlog : List Command) → F (r, mails) → F (record r { acts = acts; backlog = backlog }, more)) where
+    abbrev FFound : Found → Type 0
+    FFound found = F found.1
+
+    calls_found : (place : Place) → F place → FFound (from_backlog place)
+    unfolding from_backlog
+    calls_found (r, mails) f = queues r mails _ r.acts _ f
+
+    acts_found : (acts : List Command) (place : Place) → F place → FFound (from_acts acts place)
+    acts_found [] place f = calls_found place f
+    acts_found (act ∷ acts) (r, mails) f = either_way FFound (is_idle r) (Some act, (record r { acts = acts }, mails)) (None, (r, mails)) (queues r mails mails acts r.backlog f) f
+
+    queues_found : (place : Place) → F place → FFound (from_queues place)
+    unfolding from_queues
+    queues_found (r, mails) f = either_way FFound (list_any is_act (under_way r)) (None, (r, mails)) (from_acts r.acts (r, mails)) f (acts_found r.acts (r, mails) f)
+
+    must_found : (what : Must Command) (place : Place) → F place → FFound (found_by what place)
+    must_found (Value command) place f = f
+    must_found Gap place f = f
+    must_found Open place f = queues_found place f
+
+    slot_found : (slot : ℕ) (place : Place) → F place → FFound (found_for slot place)
+    unfolding found_for
+    slot_found slot (r, mails) f = must_found (must slot r.leader) (r, mails) f
+
+    module _ (offers : (slot : ℕ) (set : List ℕ) (command : Command) (place : Place) → F place → F (offered slot set command place)) where
+      found_offered : (slot : ℕ) (set : List ℕ) (found : Found) → FFound found → Offers slot set found
+      found_offered slot set (None, place) f = f
+      found_offered slot set (Some command, place) f = offers slot set command place f
+
+      pub pumped_freely : (place : Place) → F place → F (pumped place)
+      pumped_freely place f = pumped_place (λ slot set p g. found_offered slot set (found_for slot p) (slot_found slot p g)) place f
 
   -- ---- a slot that is decided: O holds of what was under way there, if anything was
 

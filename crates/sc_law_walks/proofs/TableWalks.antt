@@ -1,14 +1,14 @@
 -- What an invariant of any replica together with the mails of its row needs: what holds before a row and after it, that each part of a row keeps it, and that it holds with each mail put behind. Nothing else is asked of the replica. The theorems of the walk carry it through all rows of a replica's table.
 use Rattle.std.proofs.Common.{◌≡◌, ℕ, ◌+◌, ◌-◌, ◌<◌, ◌≤◌, nat_le, cond, Bool, true, false, List, [], ◌∷◌, ◌++◌, length, Option, Some, None}
 use Rattle.sc_base.specs.Definitions.{Drawer}
-use Rattle.sc_node_table.specs.Values.{Ballot, Draw, Op, Offer, Watch, Command, Noop, Call, Prepared, RecordVote, GiveUp, Finish, Watched, RecordWatch, Base, Body, Coordinating, Heard, Route, OrderLine, OrderRefusal, Refused, Outcome, Past, Vote, AnswerBody, Mail, MailBody, Request, Prepare, Promise, Accept, Accepted, Nack, Learn, Ask, Install, TxPrepare, TxVote, TxOutcome, TxElsewhere, TxWatch, TxWatched, Chosen, NotYet, Report}
+use Rattle.sc_node_table.specs.Values.{Ballot, Draw, Op, Offer, Watch, Command, Noop, Prepared, RecordVote, GiveUp, Finish, Watched, RecordWatch, Base, Body, Coordinating, Heard, Route, OrderLine, OrderRefusal, Refused, Outcome, Past, Vote, AnswerBody, Mail, MailBody, Request, Prepare, Promise, Accept, Accepted, Nack, Learn, Ask, Install, TxPrepare, TxVote, TxOutcome, TxElsewhere, TxWatch, TxWatched, Chosen, Report}
 use Rattle.sc_mail.specs.declared.bodies.AnswerBody.TheVariants as Says
 use Rattle.sc_words.specs.declared.paxos.answers.Must.TheVariants.{Value}
 use Rattle.sc_group_table.specs.machine.Definitions.{base_of, child_by}
 use Rattle.sc_words.specs.paxos.Definitions.{IsAtLeast, reports_from, after_promise, after_accept, may_promise, may_accept, promise_counted, entry_at, counted, must, below}
-use Rattle.sc_node_table.specs.Definitions.{jumped, ReplicaState, Place, name_of, next, at_slot, with_slot, taken_at, flying, queued_number, without_request, has_act, sent, stopped, ended, answered, answer_to, turned_down, refused_at, offered, result_sent, untaken, standing_vote, noted_outcome, voted_to, watched_to, outcome_sent, asked_next, reminders}
-use Rattle.sc_law_walks.specs.Definitions.{GoesOn, IsFiledOnMail, IsOrder}
-use Rattle.sc_law_walks.proofs.PlaceWalks.{Talk, elected_place, entered_place}
+use Rattle.sc_node_table.specs.Definitions.{jumped, ReplicaState, Place, name_of, next, at_slot, with_slot, taken_at, flying, has_act, sent, stopped, ended, answered, answer_to, turned_down, refused_at, offered, result_sent, untaken, standing_vote, noted_outcome, voted_to, watched_to, outcome_sent, asked_next, reminders}
+use Rattle.sc_law_walks.specs.Definitions.{IsFiledOnMail, IsOrder}
+use Rattle.sc_law_walks.proofs.PlaceWalks.{Talk, Parties, parties, elected_place, entered_place, EndsRow, ExecutesNext, Follows, SeesBallot, CountsVote, QueuesFirst, QueuesLater, WaitsOn}
 use Rattle.sc_law_walks.proofs.Talks.{client_reported, vote_reported, watch_reported, outcome_said, next_one_asked}
 
 -- What holds of the replica that a row finds; of a replica with the mails of its row, before it elects itself in a row and after; of the mail that it takes, by its sender; of a ballot that it sees there; of the command that was counted at a slot; of the commands of transactions and of orders that it queues; of an order that it is given; and of the children that it makes.
@@ -46,23 +46,23 @@ pub record TableHears (f : TableFacts) : Type 0 where
 
 -- That each part of a row that changes the replica keeps what holds of it with its mails.
 pub record TableStates (f : TableFacts) : Type 0 where
-  pub late : (place : Place) → f.Early place → f.Late place
+  pub late : EndsRow f.Early f.Late
   -- entries
-  pub again : (command : Command) (r : ReplicaState) (mails : List Mail) → r.running ≡ true → at_slot r.ready (next r) ≡ Some command → f.Late (r, mails) → f.Early (r, mails) × f.Entry (next r) command
+  pub again : ExecutesNext f.Early f.Late f.Entry
   pub counted_entry : (command : Command) (r : ReplicaState) (mails : List Mail) → r.running ≡ true → at_slot r.ready (next r) ≡ Some command → f.Entry (next r) command → f.Early (r, mails) → f.Early (entered_place true command (r, mails))
   pub learnt_entry : (from : ℕ) (group : Draw) (command : Command) (r : ReplicaState) (mails : List Mail) → f.Hears from (Learn group (next r) command) → f.First r → f.Early (r, mails) → f.Early (entered_place false command (r, mails))
   pub children : (counted : Bool) (command : Command) (r : ReplicaState) (mails : List Mail) (child : Base) → MayEnter f counted command r → child_by r.group command ≡ Some child → f.Early (r, mails) → f.Child child
   pub jumped : (from : ℕ) (group : Draw) (slot : ℕ) (base : Base) (sets : List (List ℕ)) (r : ReplicaState) (mails : List Mail) → f.Hears from (Install group slot base sets) → length sets ≡ length r.sets → next r ≤ slot → r.running ≡ false → f.Early (r, mails) → f.Early (jumped slot base sets r, mails)
   -- leaders
-  pub hinted : (hint : Option ℕ) (r : ReplicaState) (mails : List Mail) → r.running ≡ false → f.Early (r, mails) → f.Early (record r { hint = hint }, mails)
+  pub hinted : Follows f.Early
   pub stops : (hint : Option ℕ) (r : ReplicaState) (mails : List Mail) → r.running ≡ true → f.Early (r, mails) → f.Early (stopped hint (r, mails))
   pub goes : (into : Route) (r : ReplicaState) (mails : List Mail) → r.running ≡ true → r.group.core.gone ≡ Some into → f.Early (r, mails) → f.Early (ended None (Says.Gone into) (r, mails))
   pub overtaken : (ballot : Ballot) (r : ReplicaState) (mails : List Mail) → f.Round ballot → r.running ≡ true → below r.leader.ballot ballot ≡ true → f.Early (r, mails) → f.Early (stopped (Some ballot.node) (cond (below r.top ballot) (record r { top = ballot }) r, mails))
   pub elected : (r : ReplicaState) (mails : List Mail) → f.Early (r, mails) → f.Late (elected_place (r, mails))
-  pub seen : (ballot : Ballot) (r : ReplicaState) (mails : List Mail) → f.Round ballot → below r.top ballot ≡ true → GoesOn ballot r → f.Early (r, mails) → f.Early (record r { top = ballot }, mails)
+  pub seen : SeesBallot f.Early f.Round
   pub polled : (from : ℕ) (group : Draw) (ballot : Ballot) (reports : List (Report Command)) (r : ReplicaState) (mails : List Mail) → r.running ≡ true → f.Hears from (Promise group ballot reports) → f.Early (r, mails) → f.Early (record r { leader = (promise_counted from ballot reports r.leader).1 }, mails)
   -- a vote that leaves its slot undecided, and one that decides it
-  pub counts : (from : ℕ) (ballot : Ballot) (slot : ℕ) (set : List ℕ) (count : ℕ) (r : ReplicaState) (mails : List Mail) → r.running ≡ true → (counted from ballot slot set r.leader).0 ≡ NotYet count → f.Early (r, mails) → f.Early (record r { leader = (counted from ballot slot set r.leader).1 }, mails)
+  pub counts : CountsVote f.Early
   pub chosen : (from : ℕ) (group : Draw) (ballot : Ballot) (slot : ℕ) (set : List ℕ) (command : Command) (r : ReplicaState) (mails : List Mail) → r.running ≡ true → (counted from ballot slot set r.leader).0 ≡ Chosen command → f.Hears from (Accepted group ballot slot) → f.Early (r, mails)
       → f.Entry slot command × f.Early (record r { leader = (counted from ballot slot set r.leader).1; ready = with_slot r.ready slot command }, mails)
   -- acceptors
@@ -73,18 +73,18 @@ pub record TableStates (f : TableFacts) : Type 0 where
   -- queues
   pub filed : (act : Command) (r : ReplicaState) (mails : List Mail) → r.running ≡ true → IsFiledOnMail act → has_act act r ≡ false → f.Files act → f.Late (r, mails) → f.Late (record r { acts = r.acts ++ act ∷ [] }, mails)
   pub ordered : (order : Command) (r : ReplicaState) (mails : List Mail) → r.running ≡ true → IsOrder order → f.Orders order → f.Late (r, mails) → f.Late (record r { backlog = r.backlog ++ order ∷ [] }, mails)
-  pub requested : (client seq : ℕ) (op : Op) (r : ReplicaState) (mails : List Mail) → r.running ≡ true → queued_number r.backlog client ≡ None → f.Late (r, mails) → f.Late (record r { backlog = r.backlog ++ Call client seq op ∷ [] }, mails)
-  pub requested_again : (client seq other : ℕ) (op : Op) (r : ReplicaState) (mails : List Mail) → r.running ≡ true → queued_number r.backlog client ≡ Some other → nat_le seq other ≡ false → f.Late (r, mails) → f.Late (record r { backlog = without_request r.backlog client ++ Call client seq op ∷ [] }, mails)
+  pub requested : QueuesFirst f.Late
+  pub requested_again : QueuesLater f.Late
   -- a request that gets no slot is answered
   pub turned : (command : Command) (answer : AnswerBody) (backlog : List Command) (r : ReplicaState) (mails : List Mail) → r.running ≡ true → r.backlog ≡ command ∷ backlog → turned_down r.group.core command ≡ Some answer → f.Late (r, mails)
       → f.Late (record r { backlog = backlog }, answered r.me r.group.core.id answer command mails)
   -- what is offered at an open slot: what was reported there, nothing new below what was reported, and the head of either queue
   pub offers_value : (slot : ℕ) (set : List ℕ) (command : Command) (r : ReplicaState) (mails : List Mail) → r.running ≡ true → slot < next r + length r.sets → taken_at r slot ≡ None → must slot r.leader ≡ Value command → f.Late (r, mails) → f.Late (offered slot set command (r, mails))
   pub offers_noop : (slot : ℕ) (set : List ℕ) (r : ReplicaState) (mails : List Mail) → r.running ≡ true → slot < next r + length r.sets → taken_at r slot ≡ None → f.Late (r, mails) → f.Late (offered slot set Noop (r, mails))
-  pub offers_act : (slot : ℕ) (set : List ℕ) (act : Command) (acts : List Command) (r : ReplicaState) (mails : List Mail) → r.running ≡ true → slot < next r + length r.sets → taken_at r slot ≡ None → r.acts ≡ act ∷ acts → f.Late (r, mails)
-      → f.Late (offered slot set act (record r { acts = acts }, mails))
-  pub offers_call : (slot : ℕ) (set : List ℕ) (command : Command) (backlog : List Command) (r : ReplicaState) (mails : List Mail) → r.running ≡ true → slot < next r + length r.sets → taken_at r slot ≡ None → r.backlog ≡ command ∷ backlog → f.Late (r, mails)
-      → f.Late (offered slot set command (record r { backlog = backlog }, mails))
+  pub offers_act : (slot : ℕ) (set : List ℕ) (act : Command) (rest : List Command) (r : ReplicaState) (mails : List Mail) → r.running ≡ true → slot < next r + length r.sets → taken_at r slot ≡ None → r.acts ≡ act ∷ rest → f.Late (r, mails)
+      → f.Late (offered slot set act (record r { acts = rest }, mails))
+  pub offers_call : (slot : ℕ) (set : List ℕ) (command : Command) (rest : List Command) (r : ReplicaState) (mails : List Mail) → r.running ≡ true → slot < next r + length r.sets → taken_at r slot ≡ None → r.backlog ≡ command ∷ rest → f.Late (r, mails)
+      → f.Late (offered slot set command (record r { backlog = rest }, mails))
 
 -- That it is kept by each mail that goes with no change of the replica: refusals, votes and outcomes, questions of a transaction, states, entries and what asks for them.
 pub record TableSays (f : TableFacts) : Type 0 where
@@ -118,13 +118,17 @@ pub record TableWalk : Type 1 where
   pub states : TableStates facts
   pub says : TableSays facts
 
--- That ticks keep the invariant.
-pub record TableTicks (f : TableFacts) : Type 0 where
-  pub waited : (waits : ℕ) (r : ReplicaState) (mails : List Mail) → f.Late (r, mails) → f.Late (record r { waits = waits }, mails)
-  pub gives_up : (tx : Draw) (body : Body) (order : ℕ) (heard : Option Heard) (r : ReplicaState) (mails : List Mail) → r.group.core.lock ≡ Coordinating tx body order heard → r.running ≡ true → has_act (GiveUp tx) r ≡ false → f.Late (r, mails) → f.Late (record r { acts = r.acts ++ GiveUp tx ∷ [] }, mails)
+-- That what a tick says again keeps the invariant.
+pub record TableAgains (f : TableFacts) : Type 0 where
   pub reminds : (r : ReplicaState) (mails : List Mail) → r.running ≡ true → f.Late (r, mails) → f.Late (r, reminders r.group.core.lock r.me r.group mails)
   pub reasks : (to slot : ℕ) (command : Command) (r : ReplicaState) (mails : List Mail) → r.running ≡ true → flying r slot ≡ Some command → f.Late (r, mails) → f.Late (r, sent r.me to (Accept (name_of r) r.leader.ballot slot command) mails)
   pub relearns : (to : ℕ) (command : Command) (r : ReplicaState) (mails : List Mail) → entry_at (next r - 1) r.log ≡ Some command → f.Late (r, mails) → f.Late (r, sent r.me to (Learn (name_of r) (next r - 1) command) mails)
+
+-- That ticks keep the invariant.
+pub record TableTicks (f : TableFacts) : Type 0 where
+  pub waited : WaitsOn f.Late
+  pub gives_up : (tx : Draw) (body : Body) (order : ℕ) (heard : Option Heard) (r : ReplicaState) (mails : List Mail) → r.group.core.lock ≡ Coordinating tx body order heard → r.running ≡ true → has_act (GiveUp tx) r ≡ false → f.Late (r, mails) → f.Late (record r { acts = r.acts ++ GiveUp tx ∷ [] }, mails)
+  pub agains : TableAgains f
 
 -- where any ballot and any command of a transaction may be brought
 pub all_heard : (f : TableFacts) → ((ballot : Ballot) → f.Round ballot) → ((act : Command) → f.Files act) → TableHears f
@@ -146,15 +150,15 @@ pub talk_said : (f : TableFacts) → ((r : ReplicaState) → Talk r.me (λ mails
     → ((from : ℕ) (group : Draw) (slot : ℕ) (command : Command) (r : ReplicaState) (mails : List Mail) → f.Hears from (Learn group slot command) → next r < slot → f.Early (r, mails) → f.Early (r, sent r.me from (Ask (name_of r) (next r)) mails))
     → ((to : ℕ) (r : ReplicaState) (mails : List Mail) → f.Early (r, mails) → f.Early (r, sent r.me to (Nack (name_of r) r.acceptor.promised) mails)) → TableSays f
 talk_said f talk installs recalls wants nacks = record {
-  refuses = λ from group client seq op answer r mails h e m. client_reported r.me (λ ms. f.Early (r, ms)) (talk r) client (name_of r) seq answer mails m;
+  refuses = λ from group client seq op answer r mails h e m. client_reported r.me (λ ms. f.Early (r, ms)) (told r) client (name_of r) seq answer mails m;
   tells = λ drawer line why r mails given e m. (talk r).tells line.number (Refused why) mails m;
-  votes = λ from tx offer vote r mails h e m. vote_reported r.me (λ ms. f.Early (r, ms)) (talk r) r.group from tx offer vote mails m;
-  sees = λ from tx watch vote r mails h e m. watch_reported r.me (λ ms. f.Early (r, ms)) (talk r) from tx watch vote mails m;
-  vote_ends = λ from tx coord part vote outcome r mails h e m. outcome_said r.me (λ ms. f.Early (r, ms)) (talk r) from tx part outcome mails m;
-  watch_ends = λ from tx coord part vote outcome r mails h e m. outcome_said r.me (λ ms. f.Early (r, ms)) (talk r) from tx part outcome mails m;
+  votes = λ from tx offer vote r mails h e m. vote_reported r.me (λ ms. f.Early (r, ms)) (told r) r.group from tx offer vote mails m;
+  sees = λ from tx watch vote r mails h e m. watch_reported r.me (λ ms. f.Early (r, ms)) (told r) from tx watch vote mails m;
+  vote_ends = λ from tx coord part vote outcome r mails h e m. outcome_said r.me (λ ms. f.Early (r, ms)) (told r) from tx part outcome mails m;
+  watch_ends = λ from tx coord part vote outcome r mails h e m. outcome_said r.me (λ ms. f.Early (r, ms)) (told r) from tx part outcome mails m;
   offer_sent_on = λ from tx offer r mails h m. (talk r).sends_on from tx offer.coord r.hint mails m;
   watch_sent_on = λ from tx watch r mails h m. (talk r).sends_on from tx watch.coord r.hint mails m;
-  asks_next = λ from tx coord hint r mails h m. next_one_asked r.me (λ ms. f.Early (r, ms)) (talk r) r.group.core.lock r.group.core from tx hint mails m;
+  asks_next = λ from tx coord hint r mails h m. next_one_asked r.me (λ ms. f.Early (r, ms)) (told r) r.group.core.lock r.group.core from tx hint mails m;
   prepare_behind = λ from group ballot from_slot r mails h found low m. installs from r mails m;
   accept_behind = λ from group report r mails h found low m. installs from r mails m;
   ask_behind = λ from group slot r mails h m. installs from r mails m;
@@ -163,3 +167,6 @@ talk_said f talk installs recalls wants nacks = record {
   prepare_nacked = λ from group ballot from_slot r mails h found no m. nacks from r mails m;
   accept_nacked = λ from group report r mails h found no m. nacks from r mails m;
 }
+  where
+    told : (r : ReplicaState) → Parties r.me (λ ms. f.Early (r, ms))
+    told r = parties r.me (λ ms. f.Early (r, ms)) (talk r)

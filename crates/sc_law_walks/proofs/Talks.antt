@@ -1,7 +1,7 @@
 -- What holds of the mails of a row is kept by all that a replica tells others by the entries, the locks and the queues of its group.
 use Rattle.std.proofs.Common.{ℕ, refl, eqb, Bool, cond, List, [], ◌∷◌, Option, Some, None}
-use Rattle.sc_base.specs.Definitions.{Each, same_draw, least_of}
-use Rattle.sc_node_table.specs.Values.{Draw, Body, Offer, Watch, Command, Call, Split, Begin, Prepared, RecordVote, GiveUp, Watched, RecordWatch, Core, Lock, Free, Coordinating, Promised, Watching, Effect, Link, OrderResult, Heard, Outcome, Past, Vote, AnswerBody, Mail, MailBody, TxPrepare, TxVote, TxOutcome, TxWatched}
+use Rattle.sc_base.specs.Definitions.{client_actor, same_draw, least_of, Each}
+use Rattle.sc_node_table.specs.Values.{Draw, Body, Offer, Watch, Command, Call, Split, Begin, Prepared, RecordVote, GiveUp, Watched, RecordWatch, Core, Lock, Free, Coordinating, Promised, Watching, Effect, Link, OrderResult, Heard, Outcome, Past, Vote, AnswerBody, Mail, MailBody, Answer, TxPrepare, TxVote, TxOutcome, TxWatch, TxWatched}
 use Rattle.sc_words.specs.declared.commands.bodies.Body.TheVariants as At
 use Rattle.sc_words.specs.declared.commands.votes.Outcome.TheVariants as Is
 use Rattle.sc_words.specs.declared.commands.votes.Past.TheVariants as Cast
@@ -12,7 +12,7 @@ use Rattle.sc_group_table.specs.policy.Definitions.{is_reported}
 use Rattle.sc_node_table.specs.declared.Before.{Before}
 use Rattle.sc_node_table.specs.Definitions.{sent, sent_all, answer_to, sent_others, answered, answered_all, result_sent, order_reported, dismissed, dismissed_all, offer_of, union_watch, split_watch, heard_question, question, asked_first, asked_link, voted_to, watched_to, outcome_sent, next_asked, asked_next, begun_result, spoken_number, result_reported, begun_reported, asked_on, begun_asks, vote_sent, watch_sent, aborted_to, aborted_watcher, given_up_by, vote_answered, released_to, watch_answered_by, went_on, spoken_mails, reminders}
 use Rattle.sc_law_walks.proofs.Ways.{either_way}
-use Rattle.sc_law_walks.proofs.PlaceWalks.{Talk}
+use Rattle.sc_law_walks.proofs.PlaceWalks.{Talk, Parties, parties}
 
 -- the same mail to nodes of which M holds
 module _ (me : ℕ) (M : ℕ → Type 0) (Q : List Mail → Type 0) (body : MailBody) (puts : (to : ℕ) (mails : List Mail) → M to → Q mails → Q (sent me to body mails)) where
@@ -38,47 +38,38 @@ module _ (me : ℕ) (Q : List Mail → Type 0) (body : MailBody) (puts : (to : �
   others_sent [] mails m = m
   others_sent (node ∷ nodes) mails m = others_sent nodes (cond (eqb node me) mails (sent me node body mails)) (either_way Q (eqb node me) mails (sent me node body mails) m (puts node mails m))
 
-module _ (me : ℕ) (Q : List Mail → Type 0) (t : Talk me Q) where
-  -- ---- clients and the desk
+-- a client's request that ends is answered, and each of several
+abbrev pub AnswersOne : ℕ → (List Mail → Type 0) → Type 0
+AnswersOne me Q = (group : Draw) (answer : AnswerBody) (command : Command) (mails : List Mail) → Q mails → Q (answered me group answer command mails)
 
-  pub desk_reported : (number : ℕ) (result : OrderResult) (mails : List Mail) → Q mails → Q (order_reported me number result mails)
-  unfolding order_reported
-  desk_reported number result mails m = either_way Q (is_reported number) (result_sent me number result mails) mails (t.tells number result mails m) m
+abbrev pub AnswersAll : ℕ → (List Mail → Type 0) → Type 0
+AnswersAll me Q = (group : Draw) (answer : AnswerBody) (commands : List Command) (mails : List Mail) → Q mails → Q (answered_all me group answer commands mails)
 
+-- ---- clients, and the parties of a transaction
+
+module _ (me : ℕ) (Q : List Mail → Type 0) (puts : Parties me Q) where
   pub client_reported : (client : ℕ) (group : Draw) (seq : ℕ) (answer : AnswerBody) (mails : List Mail) → Q mails → Q (answer_to me group client seq answer mails)
-  client_reported client group seq answer mails m = t.answers client group seq answer mails m
+  client_reported client group seq answer mails m = puts (client_actor client) (Answer group seq answer) mails (client, refl) m
 
-  pub one_answered : (group : Draw) (answer : AnswerBody) (command : Command) (mails : List Mail) → Q mails → Q (answered me group answer command mails)
+  pub one_replied : AnswersOne me Q
   unfolding answered
-  one_answered group answer (Call client seq op) mails m = client_reported client group seq answer mails m
-  one_answered group answer _ mails m = m
+  one_replied group answer (Call client seq op) mails m = client_reported client group seq answer mails m
+  one_replied group answer _ mails m = m
 
-  pub all_answered : (group : Draw) (answer : AnswerBody) (commands : List Command) (mails : List Mail) → Q mails → Q (answered_all me group answer commands mails)
+  pub all_replied : AnswersAll me Q
   unfolding answered_all
-  all_answered group answer [] mails m = m
-  all_answered group answer (command ∷ commands) mails m = all_answered group answer commands (answered me group answer command mails) (one_answered group answer command mails m)
-
-  one_dismissed : (group : Draw) (hint : Option ℕ) (answer : AnswerBody) (command : Command) (mails : List Mail) → Q mails → Q (dismissed me group hint answer command mails)
-  unfolding dismissed
-  one_dismissed group hint answer (Call client seq op) mails m = client_reported client group seq answer mails m
-  one_dismissed group hint answer _ mails m = desk_reported _ _ mails m
-
-  pub all_dismissed : (group : Draw) (hint : Option ℕ) (answer : AnswerBody) (commands : List Command) (mails : List Mail) → Q mails → Q (dismissed_all me group hint answer commands mails)
-  unfolding dismissed_all
-  all_dismissed group hint answer [] mails m = m
-  all_dismissed group hint answer (command ∷ commands) mails m = all_dismissed group hint answer commands (dismissed me group hint answer command mails) (one_dismissed group hint answer command mails m)
-
-  -- ---- the parties of a transaction
+  all_replied group answer [] mails m = m
+  all_replied group answer (command ∷ commands) mails m = all_replied group answer commands (answered me group answer command mails) (one_replied group answer command mails m)
 
   heard_said : (to : ℕ) (core : Core) (tx : Draw) (body : Body) (heard : Option Heard) (mails : List Mail) → Q mails → Q (sent me to (heard_question me core tx body heard) mails)
-  heard_said to core tx body None mails m = t.offers to tx (offer_of me core body) mails refl m
-  heard_said to core tx body (Some heard) mails m = t.watches to tx (union_watch me core heard) mails refl m
+  heard_said to core tx body None mails m = puts to (TxPrepare tx (offer_of me core body)) mails refl m
+  heard_said to core tx body (Some heard) mails m = puts to (TxWatch tx (union_watch me core heard)) mails refl m
 
   question_said : (to : ℕ) (core : Core) (tx : Draw) (body : Body) (heard : Option Heard) (mails : List Mail) → Q mails → Q (sent me to (question me core tx body heard) mails)
   question_said to core tx At.Merge heard mails m = heard_said to core tx At.Merge heard mails m
   question_said to core tx (At.Repart at) heard mails m = heard_said to core tx (At.Repart at) heard mails m
   question_said to core tx (At.Migrate node) heard mails m = heard_said to core tx (At.Migrate node) heard mails m
-  question_said to core tx (At.Split at child) heard mails m = t.watches to tx (split_watch me core at child) mails refl m
+  question_said to core tx (At.Split at child) heard mails m = puts to (TxWatch tx (split_watch me core at child)) mails refl m
 
   first_asked : (lock : Lock) (core : Core) (mails : List Mail) → Q mails → Q (asked_first lock me core mails)
   first_asked Free core mails m = m
@@ -100,16 +91,16 @@ module _ (me : ℕ) (Q : List Mail → Type 0) (t : Talk me Q) where
   begun_asked : (effect : Effect) (core : Core) (tx : Draw) (body : Body) (mails : List Mail) → Q mails → Q (begun_asks effect me core tx body mails)
   begun_asked effect core tx body mails m =
       let to : ℕ = least_of core.succ.members in
-      either_way Q (is_changed effect) (sent me to (TxPrepare tx (offer_of me core body)) mails) mails (t.offers to tx (offer_of me core body) mails refl m) m
+      either_way Q (is_changed effect) (sent me to (TxPrepare tx (offer_of me core body)) mails) mails (puts to (TxPrepare tx (offer_of me core body)) mails refl m) m
 
   pub vote_reported : (group : Group) (node : ℕ) (tx : Draw) (offer : Offer) (vote : Past) (mails : List Mail) → Q mails → Q (voted_to me group node tx offer vote mails)
-  vote_reported group node tx offer Cast.Yes mails m = t.casts node tx offer.coord offer.part (Says.Yes (frozen_of group)) mails m
-  vote_reported group node tx offer (Cast.No why) mails m = t.casts node tx offer.coord offer.part (Says.No why) mails m
+  vote_reported group node tx offer Cast.Yes mails m = puts node (TxVote tx offer.coord offer.part (Says.Yes (frozen_of group))) mails tt m
+  vote_reported group node tx offer (Cast.No why) mails m = puts node (TxVote tx offer.coord offer.part (Says.No why)) mails tt m
   vote_reported group node tx offer Cast.Ended mails m = m
 
   pub watch_reported : (node : ℕ) (tx : Draw) (watch : Watch) (vote : Past) (mails : List Mail) → Q mails → Q (watched_to me node tx watch vote mails)
-  watch_reported node tx watch Cast.Yes mails m = t.sees node tx watch.coord watch.part Cast.Yes mails m
-  watch_reported node tx watch (Cast.No why) mails m = t.sees node tx watch.coord watch.part (Cast.No why) mails m
+  watch_reported node tx watch Cast.Yes mails m = puts node (TxWatched tx watch.coord watch.part Cast.Yes) mails tt m
+  watch_reported node tx watch (Cast.No why) mails m = puts node (TxWatched tx watch.coord watch.part (Cast.No why)) mails tt m
   watch_reported node tx watch Cast.Ended mails m = m
 
   vote_said : (o : Option Past) (group : Group) (tx : Draw) (offer : Offer) (mails : List Mail) → Q mails → Q (vote_sent o me group tx offer mails)
@@ -121,7 +112,7 @@ module _ (me : ℕ) (Q : List Mail → Type 0) (t : Talk me Q) where
   watch_said (Some vote) tx watch mails m = watch_reported watch.by tx watch vote mails m
 
   aborted_said : (tx : Draw) (link : Link) (mails : List Mail) → Q mails → Q (aborted_to me tx link mails)
-  aborted_said tx link mails m = all_sent me Q (TxOutcome tx link.group Is.Abort) (λ to ms q. t.ends to tx link.group Is.Abort ms q) link.members mails m
+  aborted_said tx link mails m = all_sent me Q (TxOutcome tx link.group Is.Abort) (λ to ms q. puts to (TxOutcome tx link.group Is.Abort) ms tt q) link.members mails m
 
   watcher_said : (tx : Draw) (o : Option (ℕ × Link)) (mails : List Mail) → Q mails → Q (aborted_watcher me tx o mails)
   watcher_said tx None mails m = m
@@ -132,7 +123,7 @@ module _ (me : ℕ) (Q : List Mail → Type 0) (t : Talk me Q) where
   given_up_said (Some outcome) before tx mails m = watcher_said tx before.heard (aborted_to me tx before.succ mails) (aborted_said tx before.succ mails m)
 
   pub outcome_said : (node : ℕ) (tx part : Draw) (outcome : Outcome) (mails : List Mail) → Q mails → Q (outcome_sent me node tx part outcome mails)
-  outcome_said node tx part outcome mails m = t.ends node tx part outcome mails m
+  outcome_said node tx part outcome mails m = puts node (TxOutcome tx part outcome) mails tt m
 
   vote_replied : (o : Option Outcome) (vote : Vote) (before : Before) (tx : Draw) (by : ℕ) (mails : List Mail) → Q mails → Q (vote_answered o vote me before tx by mails)
   vote_replied None vote before tx by mails m = m
@@ -149,7 +140,7 @@ module _ (me : ℕ) (Q : List Mail → Type 0) (t : Talk me Q) where
   watch_replied (Some outcome) (Cast.No why) before tx by mails m = either_way Q before.merges (aborted_to me tx before.succ mails) mails (aborted_said tx before.succ mails m) m
   watch_replied (Some outcome) Cast.Ended before tx by mails m = m
 
-  went_said : (group : Group) (before : Before) (effect : Effect) (command : Command) (mails : List Mail) → Q mails → Q (went_on me group before effect command mails)
+  pub went_said : (group : Group) (before : Before) (effect : Effect) (command : Command) (mails : List Mail) → Q mails → Q (went_on me group before effect command mails)
   unfolding went_on
   went_said group before effect (Split at child order) mails m = on_asked effect group.core mails m
   went_said group before effect (Begin tx body order) mails m = begun_asked effect group.core tx body mails m
@@ -160,6 +151,36 @@ module _ (me : ℕ) (Q : List Mail → Type 0) (t : Talk me Q) where
   went_said group before effect (RecordWatch tx vote by) mails m = watch_replied (decided_in effect) vote before tx by mails m
   went_said group before effect _ mails m = m
 
+  -- who is bound in a transaction asks again, or says its vote again
+  pub all_reminded : (lock : Lock) (group : Group) (mails : List Mail) → Q mails → Q (reminders lock me group mails)
+  all_reminded Free group mails m = m
+  all_reminded (Coordinating tx body order heard) group mails m = all_sent me Q (question me group.core tx body heard) (λ to ms q. question_said to group.core tx body heard ms q) (asked_link group.core body heard).members mails m
+  all_reminded (Promised tx offer) group mails m = all_sent me Q (TxVote tx offer.coord offer.part (Says.Yes (frozen_of group))) (λ to ms q. puts to (TxVote tx offer.coord offer.part (Says.Yes (frozen_of group))) ms tt q) offer.members mails m
+  all_reminded (Watching tx watch) group mails m = all_sent me Q (TxWatched tx watch.coord watch.part Cast.Yes) (λ to ms q. puts to (TxWatched tx watch.coord watch.part Cast.Yes) ms tt q) watch.members mails m
+
+-- ---- .. and the desk
+
+module _ (me : ℕ) (Q : List Mail → Type 0) (t : Talk me Q) where
+  pub one_answered : AnswersOne me Q
+  one_answered = one_replied me Q (parties me Q t)
+
+  pub all_answered : AnswersAll me Q
+  all_answered = all_replied me Q (parties me Q t)
+
+  pub desk_reported : (number : ℕ) (result : OrderResult) (mails : List Mail) → Q mails → Q (order_reported me number result mails)
+  unfolding order_reported
+  desk_reported number result mails m = either_way Q (is_reported number) (result_sent me number result mails) mails (t.tells number result mails m) m
+
+  one_dismissed : (group : Draw) (hint : Option ℕ) (answer : AnswerBody) (command : Command) (mails : List Mail) → Q mails → Q (dismissed me group hint answer command mails)
+  unfolding dismissed
+  one_dismissed group hint answer (Call client seq op) mails m = client_reported me Q (parties me Q t) client group seq answer mails m
+  one_dismissed group hint answer _ mails m = desk_reported _ _ mails m
+
+  pub all_dismissed : (group : Draw) (hint : Option ℕ) (answer : AnswerBody) (commands : List Command) (mails : List Mail) → Q mails → Q (dismissed_all me group hint answer commands mails)
+  unfolding dismissed_all
+  all_dismissed group hint answer [] mails m = m
+  all_dismissed group hint answer (command ∷ commands) mails m = all_dismissed group hint answer commands (dismissed me group hint answer command mails) (one_dismissed group hint answer command mails m)
+
   begun_said : (before : Before) (effect : Effect) (command : Command) (mails : List Mail) → Q mails → Q (begun_reported me before effect command mails)
   unfolding begun_reported
   begun_said before effect command mails m = by (begun_result before.alone effect command)
@@ -168,16 +189,9 @@ module _ (me : ℕ) (Q : List Mail → Type 0) (t : Talk me Q) where
       by None = m
       by (Some result) = desk_reported (spoken_number before.order command) result mails m
 
-  -- who is bound in a transaction asks again, or says its vote again
-  pub all_reminded : (lock : Lock) (group : Group) (mails : List Mail) → Q mails → Q (reminders lock me group mails)
-  all_reminded Free group mails m = m
-  all_reminded (Coordinating tx body order heard) group mails m = all_sent me Q (question me group.core tx body heard) (λ to ms q. question_said to group.core tx body heard ms q) (asked_link group.core body heard).members mails m
-  all_reminded (Promised tx offer) group mails m = all_sent me Q (TxVote tx offer.coord offer.part (Says.Yes (frozen_of group))) (λ to ms q. t.casts to tx offer.coord offer.part (Says.Yes (frozen_of group)) ms q) offer.members mails m
-  all_reminded (Watching tx watch) group mails m = all_sent me Q (TxWatched tx watch.coord watch.part Cast.Yes) (λ to ms q. t.sees to tx watch.coord watch.part Cast.Yes ms q) watch.members mails m
-
   -- all that is said of an executed entry
   pub spoken_said : (counted : Bool) (group : Group) (before : Before) (effect : Effect) (command : Command) (mails : List Mail) → Q mails → Q (spoken_mails counted me group before effect command mails)
   unfolding spoken_mails
   spoken_said counted group before effect command mails m =
       either_way Q counted (went_on me group before effect command (begun_reported me before effect command mails)) (begun_reported me before effect command mails)
-      (went_said group before effect command (begun_reported me before effect command mails) (begun_said before effect command mails m)) (begun_said before effect command mails m)
+      (went_said me Q (parties me Q t) group before effect command (begun_reported me before effect command mails) (begun_said before effect command mails m)) (begun_said before effect command mails m)

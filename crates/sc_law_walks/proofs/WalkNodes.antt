@@ -6,6 +6,7 @@ use Rattle.sc_words.proofs.PaxosProofs.Lemmas.{Each-weaker}
 use Rattle.sc_node_table.specs.Definitions.{NodeState, node_table, ReplicaState}
 use Rattle.sc_law_walks.proofs.PlaceWalks.{Before as BeforeAt, After as AfterAt}
 use Rattle.sc_law_walks.proofs.PlaceNodes as places
+use Rattle.sc_law_walks.proofs.PlaceNodes.{NodeSteps}
 use Rattle.sc_law_walks.proofs.WalkPlaces.{place_walk, place_births, place_ticks}
 use Rattle.sc_law_walks.proofs.Walks.{Walk, Births, Ticks, AreSaid, EarlyAt, LateAt}
 
@@ -36,12 +37,12 @@ module _ (w : Walk) (b : Births w.facts) where
   abbrev pub Given : Input Mail OrderLine → Type 0
   Given input = places.Given (place_walk w) (place_births w b) input
 
-  pub input_step : (node : NodeState) (input : Input Mail OrderLine) → Given input → Starts node → Step (node_table node input)
+  pub input_step : NodeSteps Given Starts Step
   input_step node input h k = from_places (node_table node input) (places.input_step (place_walk w) (place_births w b) node input h (to_places node k))
 
   module _ (t : Ticks w.facts) where
     abbrev pub GivenAny : Input Mail OrderLine → Type 0
     GivenAny input = places.GivenAny (place_walk w) (place_births w b) (place_ticks w t) input
 
-    pub any_step : (node : NodeState) (input : Input Mail OrderLine) → GivenAny input → Starts node → Step (node_table node input)
+    pub any_step : NodeSteps GivenAny Starts Step
     any_step node input h k = from_places (node_table node input) (places.any_step (place_walk w) (place_births w b) (place_ticks w t) node input h (to_places node k))

@@ -1,8 +1,8 @@
 -- What a walk says is kept by each row of a replica's table.
-use Rattle.std.proofs.Common.{◌≡◌, ℕ, false, List, length}
+use Rattle.std.proofs.Common.{◌≡◌, ℕ, List, length}
 use Rattle.sc_base.specs.Definitions.{Drawer}
 use Rattle.sc_node_table.specs.Values.{Draw, Base, OrderLine, MailBody}
-use Rattle.sc_node_table.specs.Definitions.{named, ordered_row, Place, born_replica, looked_up, mailed, made_by, slots_ahead}
+use Rattle.sc_node_table.specs.Definitions.{named, ordered_row, Place, born_replica, mailed, made_by, slots_ahead}
 use Rattle.sc_law_walks.proofs.PlaceRows as places
 use Rattle.sc_law_walks.proofs.WalkPlaces.{place_walk, place_births, to_place, from_place}
 use Rattle.sc_law_walks.proofs.Walks.{Walk, Births, LateAt, Before, After, AfterAll, Hears}
@@ -13,9 +13,6 @@ module _ (w : Walk) where
 
   pub orders : (drawer : Drawer) (line : OrderLine) (place : Place) → Before w place → After w (ordered_row drawer line place)
   orders drawer line place k = from_place w (ordered_row drawer line place) (places.orders (place_walk w) drawer line place (to_place w place k))
-
-  pub looks_up : (from : ℕ) (place : Place) → place.0.running ≡ false → Before w place → After w (looked_up from place)
-  looks_up from place off k = from_place w (looked_up from place) (places.looks_up (place_walk w) from place off (to_place w place k))
 
   pub creation : Births w.facts → (base : Base) → LateAt w (born_replica slots_ahead w.facts.me base)
   creation b base = (let born = places.creation (place_walk w) (place_births w b) base in (born.0, born.1.0))

@@ -51,13 +51,13 @@ pub record States (f : Facts) : Type 0 where
   pub ordered : (order : Command) (r : ReplicaState) → r.running ≡ true → IsOrder order → f.Late r → f.Late (record r { backlog = r.backlog ++ order ∷ [] })
   pub requested : (client seq : ℕ) (op : Op) (r : ReplicaState) → r.running ≡ true → queued_number r.backlog client ≡ None → f.Late r → f.Late (record r { backlog = r.backlog ++ Call client seq op ∷ [] })
   pub requested_again : (client seq other : ℕ) (op : Op) (r : ReplicaState) → r.running ≡ true → queued_number r.backlog client ≡ Some other → nat_le seq other ≡ false → f.Late r → f.Late (record r { backlog = without_request r.backlog client ++ Call client seq op ∷ [] })
-  pub unfiled : (act : Command) (acts : List Command) (r : ReplicaState) → r.running ≡ true → r.acts ≡ act ∷ acts → f.Late r → f.Late (record r { acts = acts })
-  pub uncalled : (command : Command) (backlog : List Command) (r : ReplicaState) → r.running ≡ true → r.backlog ≡ command ∷ backlog → f.Late r → f.Late (record r { backlog = backlog })
+  pub unfiled : (act : Command) (rest : List Command) (r : ReplicaState) → r.running ≡ true → r.acts ≡ act ∷ rest → f.Late r → f.Late (record r { acts = rest })
+  pub uncalled : (command : Command) (rest : List Command) (r : ReplicaState) → r.running ≡ true → r.backlog ≡ command ∷ rest → f.Late r → f.Late (record r { backlog = rest })
   -- what is offered
   pub must_found : (slot : ℕ) (command : Command) (r : ReplicaState) → must slot r.leader ≡ Value command → f.Late r → f.Found command
   pub noop_found : f.Found Noop
-  pub act_found : (act : Command) (acts : List Command) (r : ReplicaState) → r.acts ≡ act ∷ acts → f.Late r → f.Found act
-  pub call_found : (command : Command) (backlog : List Command) (r : ReplicaState) → r.backlog ≡ command ∷ backlog → f.Late r → f.Found command
+  pub act_found : (act : Command) (rest : List Command) (r : ReplicaState) → r.acts ≡ act ∷ rest → f.Late r → f.Found act
+  pub call_found : (command : Command) (rest : List Command) (r : ReplicaState) → r.backlog ≡ command ∷ rest → f.Late r → f.Found command
   pub flown : (slot : ℕ) (command : Command) (r : ReplicaState) → r.running ≡ true → slot < next r + slots_ahead → f.Found command → f.Late r → f.Late (record r { leader = with_flight_at slot command r.leader })
 
 -- That each mail may be said.

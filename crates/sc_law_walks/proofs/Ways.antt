@@ -1,5 +1,5 @@
 -- One of two values, the first of two that is there, and one that is there or not.
-use Rattle.std.proofs.Common.{◌≡◌, Bool, true, false, cond, Option, Some, None, refl}
+use Rattle.std.proofs.Common.{◌≡◌, ◌||◌, not, Bool, true, false, cond, Option, Some, None, refl}
 use Rattle.std.specs.Prelude.{is_some}
 use Rattle.std.proofs.lemmas.Bool.{cond_both}
 use Rattle.sc_node_table.specs.Definitions.{either}
@@ -7,6 +7,12 @@ use Rattle.sc_node_table.specs.Definitions.{either}
 -- whichever it is
 pub either_way : {A : Type 0} (P : A → Type 0) (b : Bool) (x y : A) → P x → P y → P (cond b x y)
 either_way P b x y p q = cond_both b x y P (λ _. p) (λ _. q)
+
+-- one of two, where the first is also taken unless a test holds
+pub unless_so : {A : Type 0} (P : A → Type 0) (b c : Bool) (x y : A) → P x → (b ≡ true → P y) → P (cond (not b || c) x y)
+unless_so P false c x y p q = p
+unless_so P true true x y p q = p
+unless_so P true false x y p q = q refl
 
 -- which of three is there first, whichever two are asked first
 pub either_assoc : {X : Type 0} (a b c : Option X) → either (either a b) c ≡ either a (either b c)

@@ -4,7 +4,7 @@ pub mod RestingCharts
 pub mod ChartedScenarios
 pub mod BudgetAtBirth
 pub mod ChartSequence
-pub mod GivenOrders
+pub mod AllowedOrders
 pub mod ChartQuestions
 pub mod ChartHints
 pub mod LineEnds

@@ -4,9 +4,9 @@ pub mod AnswersProofs
 pub mod QuietProofs
 pub mod RestProofs
 pub mod BallotsProofs
-pub mod MailProofs
+pub mod LedMailProofs
 pub mod ReplicasProofs
-pub mod GroupsProofs
+pub mod LedGroupsProofs
 pub mod LinksProofs
 pub mod ChildrenProofs
 pub mod OrdersProofs

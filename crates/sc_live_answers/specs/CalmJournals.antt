@@ -25,7 +25,7 @@ pub record IsCalmJournal (words : ℕ → ℕ → ℕ × ℕ) (scenario : Scenar
 -- the rows are a prefix of the journal
 pub record IsPrefixOf (journal rows : Rows) : Type 0 where
   pub more : Rows
-  pub is : journal ≡ rows ++ more
+  pub fact : journal ≡ rows ++ more
 
 -- after these rows each group of the journal is well led, has one log, and its mail is as `IsSentSo` says
 abbrev pub AreSent : (ℕ → ℕ → ℕ × ℕ) → Scenario → Rows → Rows → Type 0

@@ -101,7 +101,7 @@ pub record HasDone (births : List (Seat Player)) (quiet rows : Rows) (it : Doer)
   pub was : view_at births quiet it.group it.host ≡ Some first
   pub led : first.running ≡ true
   pub now : ReplicaState
-  pub is : view_at births rows it.group it.host ≡ Some now
+  pub fact : view_at births rows it.group it.host ≡ Some now
   pub entries : List Command
   pub did : AreDeeds it.deeds entries
   pub group_is : now.group ≡ state_after first.group entries

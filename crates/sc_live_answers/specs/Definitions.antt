@@ -1,5 +1,5 @@
 -- The definitions of this crate that other crates cite, under one name.
-pub use Rattle.sc_live_answers.specs.PrepareSlots.{IsAbove, top_by, AreAbove, HasBelow, IsAskedOn}
+pub use Rattle.sc_live_answers.specs.PrepareStarts.{IsAbove, top_by, AreAbove, HasBelow, IsAskedOn}
 pub use Rattle.sc_live_answers.specs.GuidedRows.{RowsAreGuided}
 pub use Rattle.sc_live_answers.specs.AnsweredRequests.{CalmLinesSettle, CalmJournalsRest, SettledJournalsRest, TimelyJournalsRest, SettledRequestsAreAnswered, charts_of, CalmJournalsAreCharted, CalmJournalsGoOn, CalmRequestsAreAnswered}
 pub use Rattle.sc_live_answers.specs.Arcs.{FreeGroupsHaveArcs}
@@ -15,13 +15,13 @@ pub use Rattle.sc_live_answers.specs.Deeds.{AreDeeds, BeginsSo, Deed, Doer, Flig
 pub use Rattle.sc_live_answers.specs.FormerMembers.{IsPassed, IsFated, EndsGone, AreFated}
 pub use Rattle.sc_live_answers.specs.MailPremises.{FindsBy, JournalMailFinds, StrayMailFinds, MailIsForItsNode, GroupMailFinds, StatesStand}
 pub use Rattle.sc_live_answers.specs.OutcomesInFlight.{EntriesAreTrue, FinishesAreTrue}
-pub use Rattle.sc_live_answers.specs.ChartSequence.{OrderChartsFollow}
+pub use Rattle.sc_live_answers.specs.ChartsUnderOrders.{OrderChartsFollow}
 pub use Rattle.sc_live_answers.specs.OrderRowPremises.{IsOrdersRow, IsGivenCalmly, MakesYoung, OrdersRowsFind, OrdersRowsMeet, MeetsOrder}
 pub use Rattle.sc_live_answers.specs.RestAtBirth.{JournalsBeginResting}
 pub use Rattle.sc_live_answers.specs.EndingGroups.{EndingGroupsBegin, EndingGroupsGoOn, OneGroupEnds, GroupsEndInTurn, HasMerged, IsGoingSince, WasGone, HasBegun, NoneGone, OwnerStood}
 pub use Rattle.sc_live_answers.specs.GuidedGroups.{IsGuided, WellLedLeadAlone, IsNamedGuide, IsReachedSo, LeadsOrNone, QuietLeadersHaveNothing, AreBoundBy, IsReached, NewestStay}
 pub use Rattle.sc_live_answers.specs.ClientAnswers.{AreReached, AllAskLeaders, IsAnswerTo, AnswersAreHeardCalmly, ClientsGoCalmly, AnswersAreExpected, LinesAskLeaders, IsLedAt, AsksLeaders, ClientsAskLeaders, KnowOne}
-pub use Rattle.sc_live_answers.specs.RisingHints.{NextRowsRise, GroupsBeginRising, QuietHintsRise}
+pub use Rattle.sc_live_answers.specs.HintsInQuiet.{NextRowsRise, GroupsBeginRising, QuietHintsRise}
 pub use Rattle.sc_live_answers.specs.ErrandReceivers.{IsNodeOf, GoesToNode, RefusesToNode, RefusalsGoToNodes, NodeErrandsReachPlayers, RequestsSendNoErrands, OrderErrandsGoToNodes}
 pub use Rattle.sc_live_answers.specs.CalmJournals.{IsCalmJournal, IsPrefixOf, AreSent, ContinuesBy, IsNamedGroup, PrefixesOfPrefixes}
 pub use Rattle.sc_live_answers.specs.OrderUnderWay.{IsUnder, IsYoungAt}
@@ -33,7 +33,7 @@ pub use Rattle.sc_live_answers.specs.QuietPrefixGroups.{RoutesInPrefixesAgree, S
 pub use Rattle.sc_live_answers.specs.QuietPrefixes.{IsFoundPrefix, PrefixesAreFound, IsQuietPrefix, QuietLogsAreExecuted, IsOfGroup, IsKnownGroup, QuietPrefixesHaveGroups}
 pub use Rattle.sc_live_answers.specs.MemberNodes.{MembersAreHome}
 pub use Rattle.sc_live_answers.specs.GroupEndOrder.{NoGroupEnds, PrefixesStayInTurn, PrefixesGoInTurn, OnlyOneEnds, EndsOnce, TurnsGoOn}
-pub use Rattle.sc_live_answers.specs.LeaderMail.{StagesLeaveOneWork, LeadersAreFound}
+pub use Rattle.sc_live_answers.specs.MailAtLeaders.{StagesLeaveOneWork, LeadersAreFound}
 pub use Rattle.sc_live_answers.specs.LedGroups.{LedLogsAreOne, over_at, ChildrenAreBegun, GroupsBeginStanding, EndsAreLogged, MembersMoveOneWay, HasLeaders}
 pub use Rattle.sc_live_answers.specs.LineEnds.{CalmLinesEndQuiet, calm_deliveries_of, AreCharted}
 pub use Rattle.sc_live_answers.specs.Links.{AreAllFree, LinksWereMembers, WasMember, WereMembers}

@@ -6,14 +6,14 @@ use Rattle.sc_live_orderly.specs.Definitions.{AreInTime}
 use Rattle.sc_node_table.specs.Definitions.{NodeState, ReplicaState}
 use Rattle.sc_meaning.specs.sound.Definitions.{Player, player_table}
 use Rattle.sc_live_steps.specs.calm.Definitions.{players, MayCount, MayAskThere, Points, Ways, Rows}
-use Rattle.sc_live_steps.specs.following.Definitions.{Course, Sets, Tellers}
+use Rattle.sc_live_steps.specs.following.Definitions.{Course, Sets, SlotLeaders}
 use Rattle.sc_live_journals.specs.rows.Definitions.{IsSeat, with_event}
 use Rattle.sc_live_journals.specs.groups.Definitions.{IsLedStep, Ends, IsWellLed, Delivers, HasOneLog, IsSentSo}
 
 -- in a prefix of a journal a mail is delivered in time to a node; before the row its group is well led in a course from which the row goes on, it has one log, its mail is as `IsSentSo` says, and a state that the mail brings is of a group that stands
-pub record MeetsMail (at : Sets) (over : Ends) (by : Tellers) (words : ℕ → ℕ → ℕ × ℕ) (births : List (Seat Player)) (prefix rows : Rows) (seat : Seat Player) (number : ℕ) (mail : Mail) (node : NodeState) (base : Base) (course : Course) : Type 0 where
+pub record MeetsMail (at : Sets) (over : Ends) (by : SlotLeaders) (words : ℕ → ℕ → ℕ × ℕ) (births : List (Seat Player)) (prefix rows : Rows) (seat : Seat Player) (number : ℕ) (mail : Mail) (node : NodeState) (base : Base) (course : Course) : Type 0 where
   pub seated : IsSeat births seat
-  pub is : value player_table seat rows ≡ Node node
+  pub fact : value player_table seat rows ≡ Node node
   pub delivers : Delivers prefix rows seat number mail
   pub timely : AreInTime (players words births) (with_event rows seat (Deliver number))
   pub led : IsWellLed at over by words births rows base course

@@ -7,7 +7,7 @@ use Rattle.sc_scenario.specs.declared.scenario.scenarios.Scenario.{Scenario}
 use Rattle.sc_node_table.specs.Definitions.{ReplicaState}
 use Rattle.sc_live_steps.specs.calm.Definitions.{Rows}
 use Rattle.sc_live_steps.specs.orders.Definitions.{Stage}
-use Rattle.sc_live_steps.specs.entries.LoneEntries.{IsEntry}
+use Rattle.sc_live_steps.specs.entries.StageEntries.{IsEntry}
 use Rattle.sc_live_answers.specs.TrueEntries.{LeadsSince}
 
 -- each command in flight at a leader is an entry of an order, and leaves at most nine members

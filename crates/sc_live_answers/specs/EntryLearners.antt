@@ -6,7 +6,7 @@ use Rattle.sc_scenario.specs.declared.scenario.scenarios.Scenario.{Scenario}
 use Rattle.sc_meaning.specs.sound.Definitions.{births, as_nodes}
 use Rattle.sc_live_steps.specs.calm.Definitions.{players}
 use Rattle.sc_law_entries.specs.logs.Definitions.{Rows}
-use Rattle.sc_live_steps.specs.following.Definitions.{Tellers}
+use Rattle.sc_live_steps.specs.following.Definitions.{SlotLeaders}
 use Rattle.sc_live_journals.specs.logs.Definitions.{logged_sets, IsGroupOf}
 use Rattle.sc_live_journals.specs.groups.Definitions.{IsTaughtOn, IsSentSo, HasOneLog}
 use Rattle.sc_live_answers.specs.LedGroups.{over_at}
@@ -14,7 +14,7 @@ use Rattle.sc_live_answers.specs.SlotLeaders.{slot_leaders_at, AreFew}
 
 -- at the births the members of each group of a lawful journal of a valid scenario learn all entries, whoever leads later
 abbrev pub GroupsBeginTaught : Type 0
-GroupsBeginTaught = (words : ℕ → ℕ → ℕ × ℕ) (by : Tellers) (scenario : Scenario) (journal : Rows) (base : Base) → IsGroupOf as_nodes words scenario journal base
+GroupsBeginTaught = (words : ℕ → ℕ → ℕ × ℕ) (by : SlotLeaders) (scenario : Scenario) (journal : Rows) (base : Base) → IsGroupOf as_nodes words scenario journal base
     → IsTaughtOn (logged_sets as_nodes base journal) (over_at as_nodes base journal) by words (births as_nodes scenario) [] base
 
 -- the members of each group of a lawful journal of a valid scenario learn all entries after a prefix of the journal, where its rows come in time and the group's mail is as `IsSentSo` says; and the group has one log there

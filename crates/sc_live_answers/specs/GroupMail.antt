@@ -10,13 +10,13 @@ use Rattle.sc_words.specs.paxos.Definitions.{IsAtLeast}
 use Rattle.sc_node_table.specs.Definitions.{ReplicaState, born_replica, slots_ahead}
 use Rattle.sc_meaning.specs.sound.Definitions.{Player, births, as_nodes}
 use Rattle.sc_live_steps.specs.calm.Definitions.{players, Rows}
-use Rattle.sc_live_steps.specs.following.Definitions.{Course, Sets, Tellers}
+use Rattle.sc_live_steps.specs.following.Definitions.{Course, Sets, SlotLeaders}
 use Rattle.sc_live_journals.specs.rows.Definitions.{view_at, marks_at, progress_at, IsSeat, with_event}
 use Rattle.sc_live_journals.specs.groups.Definitions.{IsLedStep, Ends, IsWellLed, IsLogOf, HasOneLog, IsSentSo}
 use Rattle.sc_live_journals.specs.logs.Definitions.{logged_sets, IsGroupOf}
 use Rattle.sc_live_answers.specs.LedGroups.{over_at}
 use Rattle.sc_live_answers.specs.SlotLeaders.{slot_leaders_at, AreFew}
-use Rattle.sc_live_answers.specs.PrepareSlots.{IsAskedOn}
+use Rattle.sc_live_answers.specs.PrepareStarts.{IsAskedOn}
 use Rattle.sc_live_answers.specs.MailReceivers.{IsAtHome}
 use Rattle.sc_live_answers.specs.MailContents.{AreSaidWell}
 
@@ -32,7 +32,7 @@ IsQuietWhileYoung words births rows base = (who : ℕ) → is_member base.core.m
 -- the group's mail is as `IsSentSo` says after one row more, where the group is well led, and no mail of it is pending for a first member that has no replica yet
 abbrev pub NextMailIsSentSo : Type 0
 NextMailIsSentSo =
-    (words : ℕ → ℕ → ℕ × ℕ) (at : Sets) (over : Ends) (by : Tellers) (scenario : Scenario) (rows : Rows) (seat : Seat Player) (event : Event OrderLine) (base : Base) (course : Course) → IsBounded scenario → IsLogOf at by
+    (words : ℕ → ℕ → ℕ × ℕ) (at : Sets) (over : Ends) (by : SlotLeaders) (scenario : Scenario) (rows : Rows) (seat : Seat Player) (event : Event OrderLine) (base : Base) (course : Course) → IsBounded scenario → IsLogOf at by
     → AreInTime (players words (births as_nodes scenario)) (with_event rows seat event) → IsWellLed at over by words (births as_nodes scenario) rows base course → IsSentOn at words (births as_nodes scenario) rows base course
     → IsQuietWhileYoung words (births as_nodes scenario) rows base → IsSentSo (births as_nodes scenario) rows base → IsSentSo (births as_nodes scenario) (with_event rows seat event) base
 
@@ -41,7 +41,7 @@ abbrev pub AreBornAsBegun : List (Seat Player) → Base → Type 0
 AreBornAsBegun births base = (who : ℕ) → (view_at births [] base.core.id who ≡ None) ⊎ ((view_at births [] base.core.id who ≡ Some (born_replica slots_ahead who base)) × (is_member base.core.members who ≡ true))
 
 -- after some rows a group is well led in a course, its mail is as that course needs it, and it has one log
-pub record IsSentThrough (at : Sets) (over : Ends) (by : Tellers) (words : ℕ → ℕ → ℕ × ℕ) (births : List (Seat Player)) (rows : Rows) (base : Base) : Type 0 where
+pub record IsSentThrough (at : Sets) (over : Ends) (by : SlotLeaders) (words : ℕ → ℕ → ℕ × ℕ) (births : List (Seat Player)) (rows : Rows) (base : Base) : Type 0 where
   pub course : Course
   pub led : IsWellLed at over by words births rows base course
   pub sent : IsSentOn at words births rows base course
@@ -50,7 +50,7 @@ pub record IsSentThrough (at : Sets) (over : Ends) (by : Tellers) (words : ℕ �
   pub one : HasOneLog at over by births rows base
 
 -- `IsSentThrough` holds after one event more, in the course that comes of its row
-pub record IsSentStep (at : Sets) (over : Ends) (by : Tellers) (words : ℕ → ℕ → ℕ × ℕ) (births : List (Seat Player)) (rows : Rows) (seat : Seat Player) (event : Event OrderLine) (base : Base) (course : Course) : Type 0 where
+pub record IsSentStep (at : Sets) (over : Ends) (by : SlotLeaders) (words : ℕ → ℕ → ℕ × ℕ) (births : List (Seat Player)) (rows : Rows) (seat : Seat Player) (event : Event OrderLine) (base : Base) (course : Course) : Type 0 where
   pub step : IsLedStep at over by words births rows seat event base course
   pub through : IsSentThrough at over by words births (with_event rows seat event) base
   pub same : through.course ≡ step.later
@@ -78,9 +78,9 @@ LedJournalsAreSentSo =
 
 -- no replica of a group as `IsSentThrough` says saw a later ballot than the course's, has accepted anything at a slot at which nothing was offered, or keeps a report
 pub record SentReplicas : Type 0 where
-  pub saw : (at : Sets) (over : Ends) (by : Tellers) (words : ℕ → ℕ → ℕ × ℕ) (births : List (Seat Player)) (rows : Rows) (base : Base) (t : IsSentThrough at over by words births rows base) (node : ℕ) (r : ReplicaState) → view_at births rows base.core.id node ≡ Some r
+  pub saw : (at : Sets) (over : Ends) (by : SlotLeaders) (words : ℕ → ℕ → ℕ × ℕ) (births : List (Seat Player)) (rows : Rows) (base : Base) (t : IsSentThrough at over by words births rows base) (node : ℕ) (r : ReplicaState) → view_at births rows base.core.id node ≡ Some r
       → IsAtLeast t.course.ballot r.top × Each (λ report. report.slot < t.course.bound) r.acceptor.accepted
-  pub plain : (at : Sets) (over : Ends) (by : Tellers) (words : ℕ → ℕ → ℕ × ℕ) (births : List (Seat Player)) (rows : Rows) (base : Base) → IsSentThrough at over by words births rows base → (node : ℕ) (r : ReplicaState) → view_at births rows base.core.id node ≡ Some r
+  pub plain : (at : Sets) (over : Ends) (by : SlotLeaders) (words : ℕ → ℕ → ℕ × ℕ) (births : List (Seat Player)) (rows : Rows) (base : Base) → IsSentThrough at over by words births rows base → (node : ℕ) (r : ReplicaState) → view_at births rows base.core.id node ≡ Some r
       → r.leader.reports ≡ []
 
 -- each group of a lawful journal of a valid scenario is at the births as it begins: one of the scenario, or one of which no node has a replica then

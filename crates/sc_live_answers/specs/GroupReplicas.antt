@@ -6,7 +6,7 @@ use Rattle.sc_live_orderly.specs.Definitions.{AreInTime}
 use Rattle.sc_scenario.specs.declared.scenario.scenarios.Scenario.{Scenario}
 use Rattle.sc_meaning.specs.sound.Definitions.{groups_at, decided_log, births, as_nodes}
 use Rattle.sc_live_steps.specs.calm.Definitions.{players, HasReplica, Rows}
-use Rattle.sc_live_steps.specs.following.Definitions.{Tells, Course, Tellers}
+use Rattle.sc_live_steps.specs.following.Definitions.{Teaches, Course, SlotLeaders}
 use Rattle.sc_live_journals.specs.rows.Definitions.{view_at, marks_at}
 use Rattle.sc_live_journals.specs.groups.Definitions.{IsWellLed, HasOneLog, IsSentSo}
 use Rattle.sc_live_journals.specs.logs.Definitions.{logged_sets, IsGroupOf}
@@ -20,10 +20,10 @@ use Rattle.sc_live_answers.specs.QuietPrefixGroups.{AreAllThere}
 abbrev pub AreBorn : (ℕ → ℕ → ℕ × ℕ) → Scenario → Rows → Rows → Base → Course → Type 0
 AreBorn words scenario journal rows base course =
     (slot : ℕ) (child : Base) (who : ℕ) → IsBirth (decided_log as_nodes base journal) base slot child → slot < course.newest → is_member child.core.members who ≡ true
-    → HasReplica (view_at (births as_nodes scenario) rows) child.core.id who ⊎ Among (Tells slot) (marks_at (players words (births as_nodes scenario)) rows base.core.id who)
+    → HasReplica (view_at (births as_nodes scenario) rows) child.core.id who ⊎ Among (Teaches slot) (marks_at (players words (births as_nodes scenario)) rows base.core.id who)
 
 -- after some rows `AreBorn` holds, in a course in which the group is well led
-pub record IsBornOn (by : Tellers) (words : ℕ → ℕ → ℕ × ℕ) (scenario : Scenario) (journal rows : Rows) (base : Base) : Type 0 where
+pub record IsBornOn (by : SlotLeaders) (words : ℕ → ℕ → ℕ × ℕ) (scenario : Scenario) (journal rows : Rows) (base : Base) : Type 0 where
   pub course : Course
   pub led : IsWellLed (logged_sets as_nodes base journal) (over_at as_nodes base journal) by words (births as_nodes scenario) rows base course
   pub born : AreBorn words scenario journal rows base course
@@ -31,7 +31,7 @@ pub record IsBornOn (by : Tellers) (words : ℕ → ℕ → ℕ × ℕ) (scenari
 -- `IsBornOn` holds after a prefix of a journal that comes in time, where the group has one log and its mail is as `IsSentSo` says
 abbrev pub ChildrenAreMade : Type 0
 ChildrenAreMade =
-    (words : ℕ → ℕ → ℕ × ℕ) (by : Tellers) (scenario : Scenario) (journal prefix more : Rows) (base : Base) → IsGroupOf as_nodes words scenario journal base → journal ≡ prefix ++ more → AreInTime (players words (births as_nodes scenario)) prefix
+    (words : ℕ → ℕ → ℕ × ℕ) (by : SlotLeaders) (scenario : Scenario) (journal prefix more : Rows) (base : Base) → IsGroupOf as_nodes words scenario journal base → journal ≡ prefix ++ more → AreInTime (players words (births as_nodes scenario)) prefix
     → HasOneLog (logged_sets as_nodes base journal) (over_at as_nodes base journal) by (births as_nodes scenario) prefix base → IsSentSo (births as_nodes scenario) prefix base → IsBornOn by words scenario journal prefix base
 
 -- each group of a quiet prefix has a replica

@@ -9,7 +9,7 @@ use Rattle.sc_live_plain.specs.Definitions.{IsRingOf, Setting, Frame, AreNamedAp
 pub record IsOfCut (world : StoreWorld) (frame : Frame) (cut : Cut) : Type 0 where
   pub among : Among cut world.ring
   pub named : cut.group ≡ frame.core.id
-  pub placed : (is : IsPlaced world cut) → is.group.core ≡ frame.core
+  pub placed : (fact : IsPlaced world cut) → fact.group.core ≡ frame.core
 
 -- the frames are those of the ranges of the ring, each once
 pub record AreOfCuts (world : StoreWorld) (frames : List Frame) : Type 0 where

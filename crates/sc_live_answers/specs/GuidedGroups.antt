@@ -7,7 +7,7 @@ use Rattle.sc_live_steps.specs.calm.Definitions.{players, Rows}
 use Rattle.sc_live_steps.specs.orders.Definitions.{bond_of, works_in, Bond, IsUnbound}
 use Rattle.sc_live_journals.specs.rows.Definitions.{marks_at, view_at, with_event}
 use Rattle.sc_live_journals.specs.scenes.Definitions.{IsThere, HasNothing, LeadsAlone, NewestAreBound, NoneRuns}
-use Rattle.sc_live_steps.specs.following.Definitions.{Course, Sets, Tellers}
+use Rattle.sc_live_steps.specs.following.Definitions.{Course, Sets, SlotLeaders}
 use Rattle.sc_base.specs.Definitions.{IsRoster}
 use Rattle.sc_node_table.specs.Definitions.{ReplicaState, last_slot, next}
 use Rattle.sc_live_orderly.specs.Definitions.{is_born, AreInTime}
@@ -29,7 +29,7 @@ IsReachedSo births rows base course = IsThere births rows base.core.id → IsRea
 pub record IsGuided (words : ℕ → ℕ → ℕ × ℕ) (births : List (Seat Player)) (rows : Rows) (seat : Seat Player) (event : Event OrderLine) (base : Base) : Type 0 where
   pub at : Sets
   pub over : Ends
-  pub by : Tellers
+  pub by : SlotLeaders
   pub course : Course
   pub led : IsWellLed at over by words births rows base course
   pub step : IsLedStep at over by words births rows seat event base course
@@ -54,9 +54,9 @@ LeadsOrNone births rows name = ((node : ℕ) × (lead : ReplicaState) × LeadsAl
 
 -- a well led group has a replica that leads alone and is bound by no report, or none runs; and each replica that runs is that one
 pub record WellLedLeadAlone : Type 0 where
-  pub alone : (at : Sets) (over : Ends) (by : Tellers) (words : ℕ → ℕ → ℕ × ℕ) (births : List (Seat Player)) (rows : Rows) (base : Base) (course : Course) (node : ℕ) (r : ReplicaState) → IsWellLed at over by words births rows base course
+  pub alone : (at : Sets) (over : Ends) (by : SlotLeaders) (words : ℕ → ℕ → ℕ × ℕ) (births : List (Seat Player)) (rows : Rows) (base : Base) (course : Course) (node : ℕ) (r : ReplicaState) → IsWellLed at over by words births rows base course
       → view_at births rows base.core.id node ≡ Some r → r.running ≡ true → LeadsAlone births rows base.core.id node r × IsUnbound r
-  pub one : (at : Sets) (over : Ends) (by : Tellers) (words : ℕ → ℕ → ℕ × ℕ) (births : List (Seat Player)) (rows : Rows) (base : Base) (course : Course) → IsWellLed at over by words births rows base course
+  pub one : (at : Sets) (over : Ends) (by : SlotLeaders) (words : ℕ → ℕ → ℕ × ℕ) (births : List (Seat Player)) (rows : Rows) (base : Base) (course : Course) → IsWellLed at over by words births rows base course
       → LeadsOrNone births rows base.core.id
 
 -- a replica has an act or an order waiting only while it has a command in flight
@@ -66,7 +66,7 @@ WaitsForFlights r = r.leader.flights ≡ [] → (works_in r.acts ≡ []) × (wor
 -- in a quiet journal each replica of a well led group that runs has nothing waiting, in flight or ready, where slots are left, no mail of the group is for a number that is no player, and acts wait only for flights
 abbrev pub QuietLeadersHaveNothing : Type 0
 QuietLeadersHaveNothing =
-    (at : Sets) (over : Ends) (by : Tellers) (words : ℕ → ℕ → ℕ × ℕ) (births : List (Seat Player)) (rows : Rows) (base : Base) (course : Course) (node : ℕ) (r : ReplicaState) → AreKeptBorn births → ((slot : ℕ) → IsRoster (at slot)) → AreInTime (players words births) rows
+    (at : Sets) (over : Ends) (by : SlotLeaders) (words : ℕ → ℕ → ℕ × ℕ) (births : List (Seat Player)) (rows : Rows) (base : Base) (course : Course) (node : ℕ) (r : ReplicaState) → AreKeptBorn births → ((slot : ℕ) → IsRoster (at slot)) → AreInTime (players words births) rows
     → is_quiet (players words births) rows ≡ true → ((who : ℕ) → is_born (players words births) who ≡ false → marks_at (players words births) rows base.core.id who ≡ []) → IsWellLed at over by words births rows base course
     → view_at births rows base.core.id node ≡ Some r → r.running ≡ true → next r ≤ last_slot → WaitsForFlights r → HasNothing r
 

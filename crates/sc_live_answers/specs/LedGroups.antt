@@ -8,7 +8,7 @@ use Rattle.sc_scenario.specs.declared.scenario.scenarios.Scenario.{Scenario}
 use Rattle.sc_node_table.specs.Definitions.{entered, NodeState, replica_of, group_of_mail, ReplicaState, next, last_slot, mailed}
 use Rattle.sc_meaning.specs.sound.Definitions.{decided_log, Ahead, Player, births, player_table}
 use Rattle.sc_law_entries.specs.logs.Definitions.{Rows}
-use Rattle.sc_live_steps.specs.following.Definitions.{members_at, Tellers}
+use Rattle.sc_live_steps.specs.following.Definitions.{members_at, SlotLeaders}
 use Rattle.sc_live_journals.specs.rows.Definitions.{view_at, IsSeat, with_event, made_children, AreAsBegun}
 use Rattle.sc_live_journals.specs.logs.Definitions.{logged_sets, IsGroupOf, HasReplica}
 use Rattle.sc_live_journals.specs.groups.Definitions.{Ends, HasRounds, RestsBy, CountsAsMember, IsRowOf, Delivers, HasOneLog}
@@ -54,7 +54,7 @@ ChildrenAreBegun = (ahead : Ahead) (words : ℕ → ℕ → ℕ × ℕ) (scenari
     → AreAsBegun base seat.who (made_children (replica_of group node.replicas) mail.from mail.body)
 
 -- what has to be shown of a prefix of a journal, so that a group has one log: the node that leads at each slot is a member there; no replica has used up its rounds; slots that mail brings are at most the last one; and a member that executes an entry as leader leads at the entry's slot, and it alone sends the state
-pub record HasLeaders (ahead : Ahead) (by : Tellers) (scenario : Scenario) (journal prefix : Rows) (base : Base) : Type 0 where
+pub record HasLeaders (ahead : Ahead) (by : SlotLeaders) (scenario : Scenario) (journal prefix : Rows) (base : Base) : Type 0 where
   pub leads : (slot : ℕ) → is_member (members_at (logged_sets ahead base journal) slot) (by slot) ≡ true
   -- after each prefix of these rows each replica has a later round left
   pub rounds : (rows more : Rows) (node : ℕ) (r : ReplicaState) → prefix ≡ rows ++ more → view_at (births ahead scenario) rows base.core.id node ≡ Some r → HasRounds r
@@ -70,5 +70,5 @@ pub record HasLeaders (ahead : Ahead) (by : Tellers) (scenario : Scenario) (jour
 
 -- a group has one log in a prefix of a journal in which it has leaders: the members of its slots, and the slot from which on it is gone, are those of the whole journal
 abbrev pub LedLogsAreOne : Type 0
-LedLogsAreOne = (ahead : Ahead) (words : ℕ → ℕ → ℕ × ℕ) (by : Tellers) (scenario : Scenario) (journal prefix more : Rows) (base : Base) → IsGroupOf ahead words scenario journal base → journal ≡ prefix ++ more → HasLeaders ahead by scenario journal prefix base
+LedLogsAreOne = (ahead : Ahead) (words : ℕ → ℕ → ℕ × ℕ) (by : SlotLeaders) (scenario : Scenario) (journal prefix more : Rows) (base : Base) → IsGroupOf ahead words scenario journal base → journal ≡ prefix ++ more → HasLeaders ahead by scenario journal prefix base
     → HasOneLog (logged_sets ahead base journal) (over_at ahead base journal) by (births ahead scenario) prefix base

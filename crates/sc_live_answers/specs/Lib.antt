@@ -1,4 +1,4 @@
-pub mod PrepareSlots
+pub mod PrepareStarts
 pub mod GuidedRows
 pub mod AnsweredRequests
 pub mod Arcs
@@ -14,14 +14,14 @@ pub mod Deeds
 pub mod FormerMembers
 pub mod MailPremises
 pub mod OutcomesInFlight
-pub mod ChartSequence
+pub mod ChartsUnderOrders
 pub mod OrderRowPremises
 pub mod RestAtBirth
 pub mod GivenOrders
 pub mod EndingGroups
 pub mod GuidedGroups
 pub mod ClientAnswers
-pub mod RisingHints
+pub mod HintsInQuiet
 pub mod ErrandReceivers
 pub mod CalmJournals
 pub mod OrderUnderWay
@@ -33,7 +33,7 @@ pub mod QuietPrefixGroups
 pub mod QuietPrefixes
 pub mod MemberNodes
 pub mod GroupEndOrder
-pub mod LeaderMail
+pub mod MailAtLeaders
 pub mod LedGroups
 pub mod LineEnds
 pub mod Links

@@ -7,7 +7,7 @@ use Rattle.sc_scenario.specs.declared.scenario.scenarios.Scenario.{Scenario}
 use Rattle.sc_node_table.specs.Definitions.{NodeState, replica_of, group_of_mail}
 use Rattle.sc_meaning.specs.sound.Definitions.{Player, births, as_nodes, player_table}
 use Rattle.sc_live_steps.specs.calm.Definitions.{players, Chart, IsCalmMailAt, Ways, Elsewhere, StandsOnce, Rows, led_elsewhere}
-use Rattle.sc_live_steps.specs.following.Definitions.{Course, Tellers}
+use Rattle.sc_live_steps.specs.following.Definitions.{Course, SlotLeaders}
 use Rattle.sc_live_journals.specs.rows.Definitions.{IsSeat, with_event}
 use Rattle.sc_live_journals.specs.logs.Definitions.{logged_sets, IsGroupOf}
 use Rattle.sc_live_journals.specs.groups.Definitions.{Delivers, IsSentSo}
@@ -20,7 +20,7 @@ abbrev pub FindsBy : Chart → List (Seat Player) → Rows → ℕ → Mail → 
 FindsBy chart births rows who mail node = IsCalmMailAt chart.ways chart.groups (led_elsewhere births rows who) mail.from mail.body node
 
 -- a mail of a group of a lawful journal of a valid scenario comes to a node (`MeetsMail`), and the group stands once in the chart
-pub record MeetsIn (chart : Chart) (words : ℕ → ℕ → ℕ × ℕ) (by : Tellers) (scenario : Scenario) (journal prefix rows : Rows) (seat : Seat Player) (number : ℕ) (mail : Mail) (node : NodeState) (base : Base) (course : Course) : Type 0 where
+pub record MeetsIn (chart : Chart) (words : ℕ → ℕ → ℕ × ℕ) (by : SlotLeaders) (scenario : Scenario) (journal prefix rows : Rows) (seat : Seat Player) (number : ℕ) (mail : Mail) (node : NodeState) (base : Base) (course : Course) : Type 0 where
   pub group : IsGroupOf as_nodes words scenario journal base
   pub meets : MeetsMail (logged_sets as_nodes base journal) (over_at as_nodes base journal) by words (births as_nodes scenario) prefix rows seat number mail node base course
   pub named : group_of_mail mail.body ≡ Some base.core.id
@@ -29,7 +29,7 @@ pub record MeetsIn (chart : Chart) (words : ℕ → ℕ → ℕ × ℕ) (by : Te
 -- a mail as `MeetsIn` says finds what the potential needs, where it has what its kind needs besides (`NeedsAt`)
 abbrev pub GroupMailFinds : Type 0
 GroupMailFinds =
-    (chart : Chart) (words : ℕ → ℕ → ℕ × ℕ) (by : Tellers) (scenario : Scenario) (journal prefix rows : Rows) (seat : Seat Player) (number : ℕ) (mail : Mail) (node : NodeState) (base : Base) (course : Course)
+    (chart : Chart) (words : ℕ → ℕ → ℕ × ℕ) (by : SlotLeaders) (scenario : Scenario) (journal prefix rows : Rows) (seat : Seat Player) (number : ℕ) (mail : Mail) (node : NodeState) (base : Base) (course : Course)
     → MeetsIn chart words by scenario journal prefix rows seat number mail node base course → NeedsAt chart.ways (replica_of base.core.id node.replicas) mail.body → FindsBy chart (births as_nodes scenario) rows seat.who mail node
 
 -- in a prefix of a journal whose rows come in time, where the group's mail is as `IsSentSo` says, each state that is delivered is one in which the group stands

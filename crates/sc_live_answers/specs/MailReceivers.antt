@@ -2,7 +2,7 @@
 use Rattle.std.specs.Prelude.{◌≡◌, ℕ, ◌≤◌, false, List, [], Option}
 use Rattle.sc_base.specs.Definitions.{Each, is_member}
 use Rattle.sc_node_table.specs.Values.{Ballot}
-use Rattle.sc_live_steps.specs.following.Definitions.{Mark, Asks, Votes, Tells, Installs, Prepares, Promises, Progress, Sets, IsFollowing, IsRow, IsIdle, Takes, Leads, Elects}
+use Rattle.sc_live_steps.specs.following.Definitions.{Mark, Asks, Votes, Teaches, Installs, Prepares, Promises, Progress, Sets, IsFollowing, IsRow, IsIdle, Takes, Leads, Elects}
 
 -- the node of the ballot has a replica
 abbrev pub IsHeld : Progress → Ballot → Type 0
@@ -14,7 +14,7 @@ FindsOne now who (Votes node ballot slot) = 1 ≤ now.next who
 FindsOne now who (Promises node ballot) = 1 ≤ now.next who
 FindsOne now who (Prepares ballot) = IsHeld now ballot
 FindsOne now who (Asks ballot slot) = Unit {0}
-FindsOne now who (Tells slot) = Unit {0}
+FindsOne now who (Teaches slot) = Unit {0}
 FindsOne now who (Installs slot) = Unit {0}
 
 -- the number is of no member at any slot

@@ -8,7 +8,7 @@ use Rattle.sc_live_journals.specs.mail.Definitions.{IsPosted}
 use Rattle.sc_live_steps.specs.orders.Definitions.{bond_of, Unbound}
 use Rattle.sc_live_journals.specs.rows.Definitions.{view_at}
 use Rattle.sc_live_journals.specs.scenes.Definitions.{NodeFinds, IsThere, IsTaking, MayCreate}
-use Rattle.sc_live_steps.specs.following.Definitions.{Course, Sets, Tellers}
+use Rattle.sc_live_steps.specs.following.Definitions.{Course, Sets, SlotLeaders}
 use Rattle.sc_node_table.specs.Definitions.{NodeState, ReplicaState}
 use Rattle.sc_meaning.specs.sound.Definitions.{Player}
 
@@ -23,7 +23,7 @@ MissedAreFound =
 pub record IsYoung (words : ℕ → ℕ → ℕ × ℕ) (births : List (Seat Player)) (rows : Rows) (seat : Seat Player) (child : Base) : Type 0 where
   pub at : Sets
   pub over : Ends
-  pub by : Tellers
+  pub by : SlotLeaders
   pub course : Course
   pub led : IsWellLed at over by words births rows child course
   pub free : child.core.lock ≡ Free

@@ -6,7 +6,7 @@ use Rattle.sc_actor.specs.Definitions.{mails}
 use Rattle.sc_live_orderly.specs.Definitions.{AreInTime}
 use Rattle.sc_meaning.specs.sound.Definitions.{Player}
 use Rattle.sc_live_steps.specs.calm.Definitions.{players, Rows}
-use Rattle.sc_live_steps.specs.following.Definitions.{Course, Sets, Tellers}
+use Rattle.sc_live_steps.specs.following.Definitions.{Course, Sets, SlotLeaders}
 use Rattle.sc_live_journals.specs.groups.Definitions.{Ends, IsWellLed, AreTaughtAt, IsTaughtOn, AreWellBorn, HasOneLog, IsSentSo}
 
 -- the mail asks to accept only below this slot in the group with this name; all other mail is allowed
@@ -34,7 +34,7 @@ abbrev pub AreAskedBelow : Draw → ℕ → List Mail → Type 0
 AreAskedBelow name bound sent = Each (λ mail. AsksBelow name bound mail.body) sent
 
 -- after some rows a group is well led and its members learn all entries, in a course beyond whose bound no mail ever asked for anything
-pub record IsAskedOn (at : Sets) (over : Ends) (by : Tellers) (words : ℕ → ℕ → ℕ × ℕ) (births : List (Seat Player)) (rows : Rows) (base : Base) : Type 0 where
+pub record IsAskedOn (at : Sets) (over : Ends) (by : SlotLeaders) (words : ℕ → ℕ → ℕ × ℕ) (births : List (Seat Player)) (rows : Rows) (base : Base) : Type 0 where
   pub course : Course
   pub led : IsWellLed at over by words births rows base course
   pub taught : AreTaughtAt at words births rows base course
@@ -43,5 +43,5 @@ pub record IsAskedOn (at : Sets) (over : Ends) (by : Tellers) (words : ℕ → �
 -- `IsAskedOn` holds after a journal whose rows come in time, where the group has one log, its mail is as `IsSentSo` says, and its members are taught at the births
 abbrev pub GroupsAreAskedThrough : Type 0
 GroupsAreAskedThrough =
-    (at : Sets) (over : Ends) (by : Tellers) (words : ℕ → ℕ → ℕ × ℕ) (births : List (Seat Player)) (journal : Rows) (base : Base) → AreWellBorn births → HasOneLog at over by births journal base → IsSentSo births journal base
+    (at : Sets) (over : Ends) (by : SlotLeaders) (words : ℕ → ℕ → ℕ × ℕ) (births : List (Seat Player)) (journal : Rows) (base : Base) → AreWellBorn births → HasOneLog at over by births journal base → IsSentSo births journal base
     → AreInTime (players words births) journal → IsTaughtOn at over by words births [] base → IsAskedOn at over by words births journal base

@@ -13,7 +13,7 @@ use Rattle.sc_live_journals.specs.rows.Definitions.{with_event}
 use Rattle.sc_live_journals.specs.charts.Definitions.{chart_at, quiet_prefix}
 use Rattle.sc_live_plain.specs.Definitions.{replicas_after, DoHintsRise}
 use Rattle.sc_live_answers.specs.Settings.{AreAtNodes}
-use Rattle.sc_live_steps.specs.entries.LoneEntries.{IsEntry}
+use Rattle.sc_live_steps.specs.entries.StageEntries.{IsEntry}
 use Rattle.sc_live_answers.specs.DeliveredMail.{IsPlainAt, IsNoRequest}
 use Rattle.sc_live_answers.specs.FollowerMail.{IsUnsettled}
 use Rattle.sc_live_answers.specs.LeaderVotes.{IsOrdersAlone}

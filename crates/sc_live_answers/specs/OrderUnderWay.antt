@@ -24,7 +24,7 @@ pub record IsUnder (words : ℕ → ℕ → ℕ × ℕ) (scenario : Scenario) (f
   pub rests : RestsAt words scenario first journal quiet
   pub prefix : IsPrefixOf journal rows
   pub sent : AreSent words scenario journal rows
-  pub reached : (base : Base) (is : Among base (groups_at as_nodes scenario.groups journal)) → IsReachedSo (births as_nodes scenario) rows base (sent base is).course
+  pub reached : (base : Base) (fact : Among base (groups_at as_nodes scenario.groups journal)) → IsReachedSo (births as_nodes scenario) rows base (sent base fact).course
   pub stage : Stage
   pub untouched : AreUntouched words (births as_nodes scenario) quiet rows stage
   pub young : (base : Base) → Among base (groups_at as_nodes scenario.groups journal) → IsNowhere (births as_nodes scenario) quiet base.core.id → IsYoungAt words (births as_nodes scenario) rows base

@@ -6,7 +6,7 @@ use Rattle.sc_scenario.specs.declared.scenario.scenarios.Scenario.{Scenario}
 use Rattle.sc_node_table.specs.Definitions.{ReplicaState}
 use Rattle.sc_meaning.specs.sound.Definitions.{groups_at, decided_log, births, as_nodes}
 use Rattle.sc_live_steps.specs.calm.Definitions.{IsLinked, Rows}
-use Rattle.sc_live_steps.specs.following.Definitions.{Course, Tellers}
+use Rattle.sc_live_steps.specs.following.Definitions.{Course, SlotLeaders}
 use Rattle.sc_live_steps.specs.orders.Definitions.{Still, IsAt}
 use Rattle.sc_live_answers.specs.LogStates.{state_at}
 use Rattle.sc_live_journals.specs.scenes.Definitions.{IsThere, scene_at}
@@ -29,7 +29,7 @@ RoutesInPrefixesAgree = (words : ℕ → ℕ → ℕ × ℕ) (scenario : Scenari
 -- in each course of a group of a quiet prefix, the newest state is the one after the group's whole decided log
 abbrev pub QuietCoursesEnd : Type 0
 QuietCoursesEnd =
-    (words : ℕ → ℕ → ℕ × ℕ) (scenario : Scenario) (journal prefix : Rows) (by : Tellers) (base : Base) (course : Course) → IsQuietPrefix words scenario journal prefix → Among base (groups_at as_nodes scenario.groups prefix)
+    (words : ℕ → ℕ → ℕ × ℕ) (scenario : Scenario) (journal prefix : Rows) (by : SlotLeaders) (base : Base) (course : Course) → IsQuietPrefix words scenario journal prefix → Among base (groups_at as_nodes scenario.groups prefix)
     → IsQuietGroup by words scenario journal prefix base course → length (decided_log as_nodes base prefix) + 1 ≡ course.newest
 
 -- where no part of an order is left in a quiet prefix, no group is locked by its log
@@ -48,11 +48,11 @@ PrefixesAreReachable = (words : ℕ → ℕ → ℕ × ℕ) (scenario : Scenario
 -- where no group of a quiet prefix is locked by its log, the route by which a group went names a group of which each node of the route has a replica
 abbrev pub PrefixesAreTakenIn : Type 0
 PrefixesAreTakenIn =
-    (words : ℕ → ℕ → ℕ × ℕ) (scenario : Scenario) (journal prefix : Rows) (by : Tellers) (base : Base) (course : Course) (into : Route) → IsQuietPrefix words scenario journal prefix → AreAllFree scenario prefix
+    (words : ℕ → ℕ → ℕ × ℕ) (scenario : Scenario) (journal prefix : Rows) (by : SlotLeaders) (base : Base) (course : Course) (into : Route) → IsQuietPrefix words scenario journal prefix → AreAllFree scenario prefix
     → Among base (groups_at as_nodes scenario.groups prefix) → IsQuietGroup by words scenario journal prefix base course → (state_at as_nodes base journal course.newest).core.gone ≡ Some into → IsTakenIn (replicas_at scenario prefix) into
 
 -- where no group of a quiet prefix is locked by its log, the link of a leader whose group stands is as a quiet journal needs it (`IsLinked`)
 abbrev pub PrefixesAreLinked : Type 0
 PrefixesAreLinked =
-    (words : ℕ → ℕ → ℕ × ℕ) (scenario : Scenario) (journal prefix : Rows) (by : Tellers) (base : Base) (course : Course) (lead : ReplicaState) → IsQuietPrefix words scenario journal prefix → AreAllFree scenario prefix
+    (words : ℕ → ℕ → ℕ × ℕ) (scenario : Scenario) (journal prefix : Rows) (by : SlotLeaders) (base : Base) (course : Course) (lead : ReplicaState) → IsQuietPrefix words scenario journal prefix → AreAllFree scenario prefix
     → Among base (groups_at as_nodes scenario.groups prefix) → IsQuietGroup by words scenario journal prefix base course → course.gone ≡ false → replicas_at scenario prefix base.core.id course.ballot.node ≡ Some lead → IsLinked (replicas_at scenario prefix) lead

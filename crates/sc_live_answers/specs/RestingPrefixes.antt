@@ -25,7 +25,7 @@ use Rattle.sc_live_answers.specs.CalmJournals.{IsPrefixOf, AreSent}
 pub record RestsAt (words : ℕ → ℕ → ℕ × ℕ) (scenario : Scenario) (first : Base) (journal quiet : Rows) : Type 0 where
   pub prefix : IsPrefixOf journal quiet
   pub calm : is_quiet (players words (births as_nodes scenario)) quiet ≡ true
-  pub is : IsQuietJournal words scenario first quiet
+  pub fact : IsQuietJournal words scenario first quiet
   pub sent : AreSent words scenario journal quiet
   pub members : (base : Base) → Among base (groups_at as_nodes scenario.groups journal) → IsThere (births as_nodes scenario) quiet base.core.id
       → (node : ℕ) → is_member base.core.members node ≡ true → HasReplica (view_at (births as_nodes scenario) quiet) base.core.id node

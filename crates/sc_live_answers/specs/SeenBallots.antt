@@ -7,7 +7,7 @@ use Rattle.sc_words.specs.paxos.Definitions.{IsAtLeast}
 use Rattle.sc_node_table.specs.Definitions.{ReplicaState, first_ballot}
 use Rattle.sc_meaning.specs.sound.Definitions.{Player}
 use Rattle.sc_live_steps.specs.calm.Definitions.{players, Rows}
-use Rattle.sc_live_steps.specs.following.Definitions.{Mark, Asks, Votes, Tells, Installs, Prepares, Promises}
+use Rattle.sc_live_steps.specs.following.Definitions.{Mark, Asks, Votes, Teaches, Installs, Prepares, Promises}
 use Rattle.sc_live_journals.specs.rows.Definitions.{view_at, marks_at, promise_in}
 
 -- the greatest ballot that a replica saw, or the group's first where there is no replica
@@ -24,7 +24,7 @@ abbrev pub AsksSeen : List (Seat Player) → Rows → Base → Mark → Type 0
 AsksSeen births rows base (Prepares ballot) = IsSeen births rows base ballot
 AsksSeen births rows base (Asks ballot slot) = Unit {0}
 AsksSeen births rows base (Votes node ballot slot) = Unit {0}
-AsksSeen births rows base (Tells slot) = Unit {0}
+AsksSeen births rows base (Teaches slot) = Unit {0}
 AsksSeen births rows base (Installs slot) = Unit {0}
 AsksSeen births rows base (Promises node ballot) = Unit {0}
 

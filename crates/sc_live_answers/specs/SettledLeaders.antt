@@ -7,7 +7,7 @@ use Rattle.sc_node_table.specs.Definitions.{NodeState, ReplicaState, settled}
 use Rattle.sc_live_orderly.specs.Definitions.{is_born}
 use Rattle.sc_scenario.specs.declared.scenario.scenarios.Scenario.{Scenario}
 use Rattle.sc_meaning.specs.sound.Definitions.{Player, as_nodes, births}
-use Rattle.sc_live_steps.specs.following.Definitions.{Asks as AsksFor, Installs, Mark, Prepares, Promises, Tells, Votes}
+use Rattle.sc_live_steps.specs.following.Definitions.{Asks as AsksFor, Installs, Mark, Prepares, Promises, Teaches, Votes}
 use Rattle.sc_live_steps.specs.calm.Definitions.{players, Rows}
 use Rattle.sc_live_steps.specs.orders.Definitions.{Asks, Closes, ClosesBoth, IsAt, Ordered, Recorded, Replied, SentOn, Stage, Still, Weighs}
 use Rattle.sc_live_journals.specs.rows.Definitions.{marks_at, view_at, with_event}
@@ -23,7 +23,7 @@ use Rattle.sc_live_answers.specs.UnsettledMail.{TakesSince}
 abbrev pub IsNoRound : Mark → Type 0
 IsNoRound (AsksFor ballot slot) = Unit {0}
 IsNoRound (Votes node ballot slot) = Unit {0}
-IsNoRound (Tells slot) = Unit {0}
+IsNoRound (Teaches slot) = Unit {0}
 IsNoRound (Installs slot) = Unit {0}
 IsNoRound (Prepares ballot) = ⊥
 IsNoRound (Promises node ballot) = ⊥

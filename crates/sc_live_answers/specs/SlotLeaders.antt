@@ -8,7 +8,7 @@ use Rattle.sc_node_table.specs.Definitions.{ReplicaState, next, last_slot}
 use Rattle.sc_meaning.specs.sound.Definitions.{Ahead, Player, births, as_nodes}
 use Rattle.sc_live_steps.specs.calm.Definitions.{players}
 use Rattle.sc_law_entries.specs.logs.Definitions.{Rows}
-use Rattle.sc_live_steps.specs.following.Definitions.{members_at, Course, Tellers}
+use Rattle.sc_live_steps.specs.following.Definitions.{members_at, Course, SlotLeaders}
 use Rattle.sc_live_journals.specs.rows.Definitions.{view_at, IsSeat}
 use Rattle.sc_live_journals.specs.logs.Definitions.{logged_sets, IsGroupOf}
 use Rattle.sc_live_journals.specs.groups.Definitions.{IsLedOn, IsWellLed, IsSentSo, IsRowOf, IsLedStep}
@@ -31,7 +31,7 @@ slot_leader_of members None = least_of members
 slot_leader_of members (Some who) = if is_member members who then who else least_of members
 
 -- who leads a group at each slot, by a journal: the first to execute the slot, if that is a member there, and else the least member
-abbrev pub slot_leaders_at : Ahead → Scenario → Base → Rows → Tellers
+abbrev pub slot_leaders_at : Ahead → Scenario → Base → Rows → SlotLeaders
 slot_leaders_at ahead scenario base journal slot = slot_leader_of (members_at (logged_sets ahead base journal) slot) (first_to (births ahead scenario) base.core.id slot [] journal)
 
 -- after each prefix of a journal each replica of the group has slots and rounds left
@@ -46,7 +46,7 @@ GroupsAreBornOrNot = (words : ℕ → ℕ → ℕ × ℕ) (scenario : Scenario) 
 
 -- each group of a lawful journal of a valid scenario is well led at the births, whoever leads later
 abbrev pub GroupsBeginLed : Type 0
-GroupsBeginLed = (words : ℕ → ℕ → ℕ × ℕ) (by : Tellers) (scenario : Scenario) (journal : Rows) (base : Base) → IsGroupOf as_nodes words scenario journal base
+GroupsBeginLed = (words : ℕ → ℕ → ℕ × ℕ) (by : SlotLeaders) (scenario : Scenario) (journal : Rows) (base : Base) → IsGroupOf as_nodes words scenario journal base
     → IsLedOn (logged_sets as_nodes base journal) (over_at as_nodes base journal) by words (births as_nodes scenario) [] base
 
 -- each group of a lawful journal of a valid scenario is well led, and has leaders, after a prefix of the journal, where its rows come in time and the group's mail is as `IsSentSo` says

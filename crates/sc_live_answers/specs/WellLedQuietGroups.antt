@@ -11,7 +11,7 @@ use Rattle.sc_meaning.specs.sound.Definitions.{births, as_nodes}
 use Rattle.sc_live_steps.specs.calm.Definitions.{players, MayPump, View, HasReplica, IsAtRest, IsLinked, StandsQuiet, IsGoneQuiet}
 use Rattle.sc_live_plain.specs.Definitions.{IsKept}
 use Rattle.sc_law_entries.specs.logs.Definitions.{Rows}
-use Rattle.sc_live_steps.specs.following.Definitions.{members_at, Course, Tellers}
+use Rattle.sc_live_steps.specs.following.Definitions.{members_at, Course, SlotLeaders}
 use Rattle.sc_live_journals.specs.rows.Definitions.{view_at, marks_at}
 use Rattle.sc_live_journals.specs.logs.Definitions.{logged_sets, IsGroupOf}
 use Rattle.sc_live_journals.specs.groups.Definitions.{IsWellLed, AreTaughtAt, HasOneLog}
@@ -23,7 +23,7 @@ abbrev pub replicas_at : Scenario → Rows → View
 replicas_at scenario rows = view_at (births as_nodes scenario) rows
 
 -- a group of a lawful journal after a quiet prefix of at most 2^28 rows that come in time: it is well led, has one log, and its members learn all entries; no mail of it is for a number that is no player; and each of its first members has a replica
-pub record IsQuietGroup (by : Tellers) (words : ℕ → ℕ → ℕ × ℕ) (scenario : Scenario) (journal prefix : Rows) (base : Base) (course : Course) : Type 0 where
+pub record IsQuietGroup (by : SlotLeaders) (words : ℕ → ℕ → ℕ × ℕ) (scenario : Scenario) (journal prefix : Rows) (base : Base) (course : Course) : Type 0 where
   pub group : IsGroupOf as_nodes words scenario journal base
   pub more : Rows
   pub split : journal ≡ prefix ++ more
@@ -39,7 +39,7 @@ pub record IsQuietGroup (by : Tellers) (words : ℕ → ℕ → ℕ × ℕ) (sce
 -- in a quiet prefix each node that was ever a member of a quiet group (`IsQuietGroup`) has a replica of it
 abbrev pub MembersHaveReplicas : Type 0
 MembersHaveReplicas =
-    (by : Tellers) (words : ℕ → ℕ → ℕ × ℕ) (scenario : Scenario) (journal prefix : Rows) (base : Base) (course : Course) → IsQuietGroup by words scenario journal prefix base course
+    (by : SlotLeaders) (words : ℕ → ℕ → ℕ × ℕ) (scenario : Scenario) (journal prefix : Rows) (base : Base) (course : Course) → IsQuietGroup by words scenario journal prefix base course
     → (node slot : ℕ) → slot ≤ course.newest → is_member (members_at (logged_sets as_nodes base journal) slot) node ≡ true → HasReplica (replicas_at scenario prefix) base.core.id node
 
 -- no replica of the group saw a later ballot than the course's, or accepted anything at a slot at which nothing was offered
@@ -49,7 +49,7 @@ SawNoMore at base course = (node : ℕ) (r : ReplicaState) → at base.core.id n
 -- a quiet group (`IsQuietGroup`) that is not gone stands as `StandsQuiet` says, with the course's node as its leader, where `SawNoMore` holds and the leader's link is as `IsLinked` says
 abbrev pub QuietGroupsStand : Type 0
 QuietGroupsStand =
-    (by : Tellers) (words : ℕ → ℕ → ℕ × ℕ) (scenario : Scenario) (journal prefix : Rows) (base : Base) (course : Course) → IsQuietGroup by words scenario journal prefix base course → course.gone ≡ false
+    (by : SlotLeaders) (words : ℕ → ℕ → ℕ × ℕ) (scenario : Scenario) (journal prefix : Rows) (base : Base) (course : Course) → IsQuietGroup by words scenario journal prefix base course → course.gone ≡ false
     → SawNoMore (replicas_at scenario prefix) base course → ((lead : ReplicaState) → replicas_at scenario prefix base.core.id course.ballot.node ≡ Some lead → IsLinked (replicas_at scenario prefix) lead)
     → (stands : StandsQuiet (replicas_at scenario prefix) base.core.id) × (replicas_at scenario prefix base.core.id course.ballot.node ≡ Some stands.lead)
 
@@ -60,7 +60,7 @@ IsTakenIn at into = (node : ℕ) → is_member into.members node ≡ true → Ha
 -- a quiet group (`IsQuietGroup`) that is gone is as `IsGoneQuiet` says, where the nodes of the group that it went into have a replica of that group
 abbrev pub QuietGroupsAreGone : Type 0
 QuietGroupsAreGone =
-    (by : Tellers) (words : ℕ → ℕ → ℕ × ℕ) (scenario : Scenario) (journal prefix : Rows) (base : Base) (course : Course) → IsQuietGroup by words scenario journal prefix base course → course.gone ≡ true
+    (by : SlotLeaders) (words : ℕ → ℕ → ℕ × ℕ) (scenario : Scenario) (journal prefix : Rows) (base : Base) (course : Course) → IsQuietGroup by words scenario journal prefix base course → course.gone ≡ true
     → ((into : Route) → (state_at as_nodes base journal course.newest).core.gone ≡ Some into → IsTakenIn (replicas_at scenario prefix) into) → IsGoneQuiet (replicas_at scenario prefix) base.core.id
 
 -- each replica of the group that runs has no act and no request or order queued
@@ -70,13 +70,13 @@ IsDone at base = (node : ℕ) (r : ReplicaState) → at base.core.id node ≡ So
 -- each replica of a quiet group (`IsQuietGroup`) is at rest (`IsAtRest`), where the newest state is not locked and no replica that runs has anything queued
 abbrev pub QuietReplicasRest : Type 0
 QuietReplicasRest =
-    (by : Tellers) (words : ℕ → ℕ → ℕ × ℕ) (scenario : Scenario) (journal prefix : Rows) (base : Base) (course : Course) → IsQuietGroup by words scenario journal prefix base course
+    (by : SlotLeaders) (words : ℕ → ℕ → ℕ × ℕ) (scenario : Scenario) (journal prefix : Rows) (base : Base) (course : Course) → IsQuietGroup by words scenario journal prefix base course
     → (state_at as_nodes base journal course.newest).core.lock ≡ Free → IsDone (replicas_at scenario prefix) base
     → (node : ℕ) (r : ReplicaState) → replicas_at scenario prefix base.core.id node ≡ Some r → IsAtRest r
 
 -- each replica of a quiet group (`IsQuietGroup`) is as any journal keeps it (`IsKept`), and may pump where it keeps no report while it does not run
 pub record QuietReplicasAreKept : Type 0 where
-  pub kept : (by : Tellers) (words : ℕ → ℕ → ℕ × ℕ) (scenario : Scenario) (journal prefix : Rows) (base : Base) (course : Course) → IsQuietGroup by words scenario journal prefix base course
+  pub kept : (by : SlotLeaders) (words : ℕ → ℕ → ℕ × ℕ) (scenario : Scenario) (journal prefix : Rows) (base : Base) (course : Course) → IsQuietGroup by words scenario journal prefix base course
       → (node : ℕ) (r : ReplicaState) → replicas_at scenario prefix base.core.id node ≡ Some r → IsKept base.core.id node r
-  pub pumps : (by : Tellers) (words : ℕ → ℕ → ℕ × ℕ) (scenario : Scenario) (journal prefix : Rows) (base : Base) (course : Course) → IsQuietGroup by words scenario journal prefix base course
+  pub pumps : (by : SlotLeaders) (words : ℕ → ℕ → ℕ × ℕ) (scenario : Scenario) (journal prefix : Rows) (base : Base) (course : Course) → IsQuietGroup by words scenario journal prefix base course
       → (node : ℕ) (r : ReplicaState) → replicas_at scenario prefix base.core.id node ≡ Some r → (r.running ≡ false → r.leader.reports ≡ []) → MayPump r

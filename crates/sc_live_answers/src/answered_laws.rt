@@ -2,7 +2,7 @@
 ghost use Rattle.sc_live_answers.specs.AnsweredRequests.{CalmJournalsGoOn, CalmLinesSettle, CalmRequestsAreAnswered, SettledRequestsAreAnswered};
 ghost use Rattle.sc_live_plain.specs.LastLine.{LastLinesAnswer};
 ghost use Rattle.sc_live_answers.specs.ReportedOrders.{SettledOrdersAreReported};
-ghost use Rattle.sc_live_plain.specs.Laws.{PlainRequestsAreAnswered};
+ghost use Rattle.sc_live_plain.specs.PlainLaws.{PlainRequestsAreAnswered};
 
 use sc_law_groups::valid_journals_are_sound;
 use sc_live_plain::{last_lines_end_quiet, plain_journals_are_light, plain_lines_end_quiet};

@@ -21,12 +21,12 @@ use Rattle.sc_meaning.specs.sound.Definitions.{Lawful, Whole, Player, as_nodes, 
 use Rattle.sc_live_orderly.specs.Definitions.{Ticks, Starts, HasTurns, IsTurn}
 use Rattle.sc_live_orderly.proofs.PassedTasks.{flat_append}
 use Rattle.sc_live_orderly.proofs.TakenTurns.{turns_taken}
-use Rattle.sc_live_healed.proofs.FixedJournals.{Rows, IsOf, AreUntold}
+use Rattle.sc_live_healed.proofs.FixedJournals.{Rows, IsOf, AreWithoutOrders}
 use Rattle.sc_live_healed.proofs.HealedIdle.{sweep_ticks, ends_quiet, replicas_rest, healed_stores_stay_idle}
 use Rattle.sc_live_healed.proofs.HealedLines.{client_turn, clients_are, lines_spare, turns_of, lines_to, lines_are_turns, lines_go_on, healed_untold}
 use Rattle.sc_live_healed.proofs.LivingSeats.{node_found, node_numbered}
 use Rattle.sc_live_healed.proofs.ShorterSchedules.{WholePrefix, whole_prefix}
-use Rattle.sc_live_healed.proofs.UntoldRows.{Spares, rows_untold, rows_spare}
+use Rattle.sc_live_healed.proofs.RowsWithoutOrders.{Spares, rows_untold, rows_spare}
 use Rattle.sc_live_orderly.proofs.TakenTurns.{turns_from}
 use Rattle.sc_live_healed.proofs.CrashedNodes.{has_crash, line_crashes, asks_spare}
 use Rattle.sc_live_healed.proofs.AnsweredTurns.{turn_answers}
@@ -87,7 +87,7 @@ module _ (words : ℕ → ℕ → ℕ × ℕ) (scenario : Scenario) (journal : R
     lawful_rows : Lawful as_nodes words scenario rows
     lawful_rows = lawful-prefix system (schedule scenario) rows more (subst (Lawful as_nodes words scenario) journal_is lawful)
 
-    untold_rows : AreUntold words scenario bounded healed.no_policy rows
+    untold_rows : AreWithoutOrders words scenario bounded healed.no_policy rows
     untold_rows = rows_untold system (schedule scenario) rows (healed_untold scenario healed) lawful_rows
 
     few_rows : length rows ≤ 2 ^ 28

@@ -21,7 +21,7 @@ use Rattle.sc_live_orderly.specs.Turns.{as_list}
 use Rattle.sc_live_orderly.proofs.PendingMail.{none_pending}
 use Rattle.sc_live_orderly.proofs.SeatSums.{seat_found}
 use Rattle.sc_live_healed.specs.Definitions.{IsIdle, HasReplies, AskedACrashedNode}
-use Rattle.sc_live_healed.proofs.FixedJournals.{Rows, IsOf, IsFixedJournal, AreUntold}
+use Rattle.sc_live_healed.proofs.FixedJournals.{Rows, IsOf, IsFixedJournal, AreWithoutOrders}
 use Rattle.sc_live_healed.proofs.AskingJournals.{IsAskingPlayer, IsAskingAt}
 use Rattle.sc_live_healed.proofs.TakenRequests.{IsHeld, Queued, Flying, Ready}
 use Rattle.sc_live_healed.proofs.LoneDeliveries.{S, pending}
@@ -119,11 +119,11 @@ module _ (words : ℕ → ℕ → ℕ × ℕ) (scenario : Scenario) (bounded : I
 
     -- ---- the whole turn
 
-    module _ (rows : Rows) (turn : Turn) (after : Rows) (t : IsTurn (S words scenario bounded) rows turn after) (who : turn.who ≡ client_actor asks.client) (untold : AreUntold words scenario bounded off after) (lawful : Lawful as_nodes words scenario after)
+    module _ (rows : Rows) (turn : Turn) (after : Rows) (t : IsTurn (S words scenario bounded) rows turn after) (who : turn.who ≡ client_actor asks.client) (without_orders : AreWithoutOrders words scenario bounded off after) (lawful : Lawful as_nodes words scenario after)
         (lives : has_crashed rows (client_actor asks.client) ≡ false) (idle : AreIdle words scenario bounded off asks.client seat is_of refl rows) (idle_then : AreIdle words scenario bounded off asks.client seat is_of refl after) where
       -- what is known of each prefix
       frames : (some later : Rows) → after ≡ some ++ later → Frames words scenario bounded off asks.client some
-      frames some later e = frames_of words scenario bounded off asks.client some later (subst (AreUntold words scenario bounded off) e untold) (subst (Lawful as_nodes words scenario) e lawful)
+      frames some later e = frames_of words scenario bounded off asks.client some later (subst (AreWithoutOrders words scenario bounded off) e without_orders) (subst (Lawful as_nodes words scenario) e lawful)
 
       whole : after ≡ rows ++ (as_list t.first ++ t.deliveries)
       whole = t.after_is ∙ append_assoc rows (as_list t.first) t.deliveries
@@ -137,11 +137,11 @@ module _ (words : ℕ → ℕ → ℕ × ℕ) (scenario : Scenario) (bounded : I
       -- behind the first row
       goes_on : (row : Row Mail OrderLine) → t.first ≡ Some row → (first : ℕ) × State first (rows ++ row ∷ []) → HasReplies scenario asks after ⊎ AskedACrashedNode scenario asks after
       goes_on row e begun =
-          let is : after ≡ (rows ++ row ∷ []) ++ t.deliveries = t.after_is ∙ ap (λ (o : Option (Row Mail OrderLine)). (rows ++ as_list o) ++ t.deliveries) e in
+          let fact : after ≡ (rows ++ row ∷ []) ++ t.deliveries = t.after_is ∙ ap (λ (o : Option (Row Mail OrderLine)). (rows ++ as_list o) ++ t.deliveries) e in
           let delivered = subst (λ (o : Option (Row Mail OrderLine)). AreDelivered (S words scenario bounded) (rows ++ as_list o) t.deliveries) e t.delivered in
           let last = all_delivered words scenario bounded off asks.client seat is_of refl begun.0 (rows ++ row ∷ []) t.deliveries
-          (λ some later s. frames ((rows ++ row ∷ []) ++ some) later (is ∙ ap (λ (rs : Rows). (rows ++ row ∷ []) ++ rs) s ∙ sym (append_assoc (rows ++ row ∷ []) some later))) delivered begun.1 in
-          ends begun.0 after (subst (λ (rs : Rows). is_quiet (S words scenario bounded) rs ≡ true) (sym is) (delivered_quiet (rows ++ row ∷ []) t.deliveries delivered)) idle_then (subst (State begun.0) (sym is) last)
+          (λ some later s. frames ((rows ++ row ∷ []) ++ some) later (fact ∙ ap (λ (rs : Rows). (rows ++ row ∷ []) ++ rs) s ∙ sym (append_assoc (rows ++ row ∷ []) some later))) delivered begun.1 in
+          ends begun.0 after (subst (λ (rs : Rows). is_quiet (S words scenario bounded) rs ≡ true) (sym fact) (delivered_quiet (rows ++ row ∷ []) t.deliveries delivered)) idle_then (subst (State begun.0) (sym fact) last)
 
       fixed_of : (row : Row Mail OrderLine) → t.first ≡ Some row → IsFixedJournal scenario (rows ++ row ∷ [])
       fixed_of row e = (frames (rows ++ row ∷ []) t.deliveries (t.after_is ∙ ap (λ (o : Option (Row Mail OrderLine)). (rows ++ as_list o) ++ t.deliveries) e)).taken.fixed

@@ -8,10 +8,10 @@ use Rattle.sc_words.specs.paxos.Definitions.{LeaderState, flight_at, without_fli
 use Rattle.sc_words.proofs.PaxosProofs.Lemmas.{find_found}
 use Rattle.sc_node_table.specs.Definitions.{ReplicaState, next, taken_at, at_slot, with_slot, without_slot, either}
 use Rattle.sc_live_plain.specs.Definitions.{takers}
-use Rattle.sc_live_plain.proofs.RowsProofs.SlotCounts.{count-push, one_if, one_yes, one_no, one_if_most, entries_at, at_nothing, out_here, out_other, out_none, out_among, with_count, with_it, with_among, find_some}
+use Rattle.sc_live_plain.proofs.PlainRowsProofs.SlotCounts.{count-push, one_if, one_yes, one_no, one_if_most, entries_at, at_nothing, out_here, out_other, out_none, out_among, with_count, with_it, with_among, find_some}
 use Rattle.sc_live_plain.proofs.LeadersProofs.LeadingReplicas.{flights_at}
 use Rattle.sc_live_plain.proofs.LeadersProofs.Flights.{only_flight, voted_count, voted_value}
-use Rattle.sc_live_plain.proofs.RowsProofs.RepeatedMail.{among_push, last_among}
+use Rattle.sc_live_plain.proofs.PlainRowsProofs.RepeatedMail.{among_push, last_among}
 use Rattle.sc_live_healed.proofs.TakenRequests.{AreApart, IsHeld, Queued, Flying, Ready, IsOurs, flight_counts}
 
 abbrev Flights : Type 0
@@ -151,11 +151,11 @@ decides from ballot slot set command l e =
     chosen_is other e = cc
 
     by : (o : Option (Flight Command)) → flight_at slot l.flights ≡ o → (vote_at from slot set o l).0 ≡ Chosen command → IsDecided slot command l (vote_at from slot set o l).1
-    by None is h = absurd (not_yet 0 h)
-    by (Some flight) is h =
+    by None fact h = absurd (not_yet 0 h)
+    by (Some flight) fact h =
         let voters = voters_after set from flight.voters in
         cond_both (is_majority set (kept_voters voters)) (Chosen flight.value, without_flight_at slot l) (NotYet (length (kept_voters voters)), record l { flights = with_voters slot voters l.flights }) (λ (x : Counted Command × LeaderState Command). x.0 ≡ Chosen command → IsDecided slot command l x.1)
-        (λ _ k. record { flight = flight; found = is; value = chosen_is flight.value k; after_is = refl }) (λ _ k. absurd (not_yet (length (kept_voters voters)) k)) h
+        (λ _ k. record { flight = flight; found = fact; value = chosen_is flight.value k; after_is = refl }) (λ _ k. absurd (not_yet (length (kept_voters voters)) k)) h
 
 pub apart_voted : (slot : ℕ) (voters : Option (List ℕ)) (r : ReplicaState) → AreApart r → AreApart (record r { leader = record r.leader { flights = with_voters slot voters r.leader.flights } })
 apart_voted slot voters r p = record {

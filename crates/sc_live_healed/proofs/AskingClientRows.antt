@@ -16,7 +16,7 @@ no_notice : (client : Client) (mail : Mail) → ((group : Draw) (seq : ℕ) (ans
 no_notice client mail other = record { after_is = refl; no_reply = λ seq group reply waits e. other group seq (Value reply) waits e; not_sent = λ seq group answer waits asked e on. other group seq answer waits e }
 
 waited_not : (waiting : Option ℕ) (seq : ℕ) → waits_for waiting seq ≡ false → waiting ≡ Some seq → ⊥
-waited_not waiting seq e is = true≢false (sym (eq-eqb seq seq refl) ∙ (sym (ap (λ o. waits_for o seq) is) ∙ e))
+waited_not waiting seq e fact = true≢false (sym (eq-eqb seq seq refl) ∙ (sym (ap (λ o. waits_for o seq) fact) ∙ e))
 
 same_seq : (group other : Draw) (seq number : ℕ) (answer more : AnswerBody) → Answer group seq answer ≡ Answer other number more → seq ≡ number
 same_seq group other seq number answer more e = cc
@@ -29,13 +29,13 @@ pub does : (client : Client) (a : IsAskingOn client) (mail : Mail) → 1 ≤ len
 does client a mail some = by mail.body refl
   where
     by : (body : MailBody) → mail.body ≡ body → Does client a.seq mail (got mail.from body client)
-    by (Answer group seq answer) is =
+    by (Answer group seq answer) fact =
         cond_both (waits_for client.waiting seq) (answer_taken mail.from group seq answer client) (client, []) (λ (x : ClientStep). Does client a.seq mail x)
         (λ t. (
         let own : a.seq ≡ seq = one_number a.seq seq (sym a.waits ∙ waited_for client.waiting seq t) in
-        subst (λ n. Does client a.seq mail (answer_taken mail.from group n answer client)) own (answered_on client a mail group answer some (is ∙ ap (λ n. Answer group n answer) (sym own)))))
-        (λ f. TakesNoNotice (no_notice client mail (λ g number more waits e. waited_not client.waiting seq f (waits ∙ ap Some (sym (same_seq group g seq number answer more (sym is ∙ e)))))))
-    by _ is = TakesNoNotice (no_notice client mail (λ group seq answer waits e. (let no : ⊥ = cc in no)))
+        subst (λ n. Does client a.seq mail (answer_taken mail.from group n answer client)) own (answered_on client a mail group answer some (fact ∙ ap (λ n. Answer group n answer) (sym own)))))
+        (λ f. TakesNoNotice (no_notice client mail (λ g number more waits e. waited_not client.waiting seq f (waits ∙ ap Some (sym (same_seq group g seq number answer more (sym fact ∙ e)))))))
+    by _ fact = TakesNoNotice (no_notice client mail (λ group seq answer waits e. (let no : ⊥ = cc in no)))
 
 -- ---- any client, and any input
 

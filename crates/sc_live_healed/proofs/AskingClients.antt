@@ -21,9 +21,9 @@ use Rattle.sc_live_healed.specs.AskingClients.{IsAskingOn, IsAskingClient}
 
 in_known : (group : Draw) (known : KnownGroups) (entry : Draw × Way) → Among entry known → entry.0 ≡ group → is_some (way_to group known) ≡ true
 in_known group [] entry a e = absurd a
-in_known group (f ∷ known) entry (inl is) e =
+in_known group (f ∷ known) entry (inl fact) e =
     cond_both (same_draw group f.0) (Some f.1) (lookup (same_draw group) known) (λ o. is_some o ≡ true) (λ _. refl)
-    (λ no. absurd (both_ways (same_draw group f.0) no (same_name group f.0 (sym (ap (λ (x : Draw × Way). x.0) is ∙ e)))))
+    (λ no. absurd (both_ways (same_draw group f.0) no (same_name group f.0 (sym (ap (λ (x : Draw × Way). x.0) fact ∙ e)))))
 in_known group (f ∷ known) entry (inr a) e =
     cond_both (same_draw group f.0) (Some f.1) (lookup (same_draw group) known) (λ o. is_some o ≡ true) (λ _. refl) (λ _. in_known group known entry a e)
 
@@ -226,8 +226,8 @@ was_so node group other same = and_from (eqb node node) (same_draw group other) 
 
 -- a client that waits takes notice of replies to its request, and of answers of the node that it asked that send it on
 pub answered_on : (client : Client) (a : IsAskingOn client) (mail : Mail) (group : Draw) (answer : AnswerBody) → 1 ≤ length client.known → mail.body ≡ Answer group a.seq answer → Does client a.seq mail (answer_taken mail.from group a.seq answer client)
-answered_on client a mail group (Value reply) some is = elim (replied reply client a some) [ inl asks ↦ AsksNext asks | inr ends ↦ EndsNow ends ]
-answered_on client a mail group answer some is = by answer is
+answered_on client a mail group (Value reply) some fact = elim (replied reply client a some) [ inl asks ↦ AsksNext asks | inr ends ↦ EndsNow ends ]
+answered_on client a mail group answer some fact = by answer fact
   where
     -- the node and group that were asked
     asked_so : was_asked client.asked mail.from group ≡ true → (a.target ≡ mail.from) × (a.group ≡ group)
@@ -237,23 +237,23 @@ answered_on client a mail group answer some is = by answer is
 
     -- one that sends it on
     sends : (answer : AnswerBody) → mail.body ≡ Answer group a.seq answer → redirects answer ≡ true → Does client a.seq mail (cond (was_asked client.asked mail.from group) (redirected group answer client) (client, []))
-    sends answer is t =
+    sends answer fact t =
         cond_both (was_asked client.asked mail.from group) (redirected group answer client) (client, []) (λ (x : ClientStep). Does client a.seq mail x)
         (λ asked. AsksOn (subst (λ (g : Draw). Asks client a.seq (redirected g answer client)) (asked_so asked).1 (redirected_on answer client a some t)))
         (λ other. TakesNoNotice (record {
           after_is = refl;
-          no_reply = λ seq g reply waits e. value_not group g a.seq seq answer reply t (sym is ∙ e);
+          no_reply = λ seq g reply waits e. value_not group g a.seq seq answer reply t (sym fact ∙ e);
           not_sent = λ seq g other_answer waits asked e on.
-              let own : group ≡ g = one_group group g a.seq seq answer other_answer (sym is ∙ e) in
+              let own : group ≡ g = one_group group g a.seq seq answer other_answer (sym fact ∙ e) in
               both_ways (was_asked client.asked mail.from group) other (ap (λ (o : Option (Draw × ℕ)). was_asked o mail.from group) asked ∙ was_so mail.from g group (sym own));
         }))
 
     by : (answer : AnswerBody) → mail.body ≡ Answer group a.seq answer → Does client a.seq mail (answer_taken mail.from group a.seq answer client)
-    by (NotLeader hint) is = sends (NotLeader hint) is refl
-    by (NotMine arc succ) is = sends (NotMine arc succ) is refl
-    by (Gone into) is = sends (Gone into) is refl
-    by (Stale last) is = cond_both (was_asked client.asked mail.from group) (redirected group (Stale last) client) (client, []) (λ (x : ClientStep). Does client a.seq mail x) (λ _. stale) (λ _. stale)
+    by (NotLeader hint) fact = sends (NotLeader hint) fact refl
+    by (NotMine arc succ) fact = sends (NotMine arc succ) fact refl
+    by (Gone into) fact = sends (Gone into) fact refl
+    by (Stale last) fact = cond_both (was_asked client.asked mail.from group) (redirected group (Stale last) client) (client, []) (λ (x : ClientStep). Does client a.seq mail x) (λ _. stale) (λ _. stale)
       where
         stale : Does client a.seq mail (client, [])
-        stale = TakesNoNotice (record { after_is = refl; no_reply = λ seq g reply waits e. stale_value group g a.seq seq last reply (sym is ∙ e); not_sent = λ seq g answer waits asked e on. stale_on group g a.seq seq last answer (sym is ∙ e) on })
-    by (Value reply) is = elim (replied reply client a some) [ inl asks ↦ AsksNext asks | inr ends ↦ EndsNow ends ]
+        stale = TakesNoNotice (record { after_is = refl; no_reply = λ seq g reply waits e. stale_value group g a.seq seq last reply (sym fact ∙ e); not_sent = λ seq g answer waits asked e on. stale_on group g a.seq seq last answer (sym fact ∙ e) on })
+    by (Value reply) fact = elim (replied reply client a some) [ inl asks ↦ AsksNext asks | inr ends ↦ EndsNow ends ]

@@ -53,12 +53,12 @@ begun_grows before after input sent started_ t once k = by t.moves
 -- a request that is sent is begun
 sent_begun : (after : ClientState) (sent : List Mail) (started_ : Bool) → SendsWaiting after sent → IsAskingClient started_ after → (seq : ℕ) → list_any (λ (mail : Mail). asks_for after.me seq mail.body) sent ≡ true → seq ≤ begun_ones after
 sent_begun after sent started_ (inl none) k seq e = absurd (true≢false (sym e ∙ ap (λ ms. list_any (λ (mail : Mail). asks_for after.me seq mail.body) ms) none))
-sent_begun after sent started_ (inr (group, target, request, waits, is)) k seq e =
+sent_begun after sent started_ (inr (group, target, request, waits, fact)) k seq e =
     elim (k.state) [
       | inl r ↦ absurd (none_waits (sym (ap (request_at after.requests) r.waits) ∙ waits))
       | inr a ↦ (
           let number : a.1.seq ≡ request.0 = number_of (slice_get after.requests (a.1.seq - 1)) a.1.seq (sym (ap (request_at after.requests) a.1.waits) ∙ waits) in
-          let asked : asks_for after.me seq (Request group after.me request.0 request.1) || false ≡ true = sym (ap (λ ms. list_any (λ (mail : Mail). asks_for after.me seq mail.body) ms) is) ∙ e in
+          let asked : asks_for after.me seq (Request group after.me request.0 request.1) || false ≡ true = sym (ap (λ ms. list_any (λ (mail : Mail). asks_for after.me seq mail.body) ms) fact) ∙ e in
           let same : request.0 ≡ seq = eqb-true request.0 seq (and_parts (eqb after.me after.me) (eqb request.0 seq) (alone (asks_for after.me seq (Request group after.me request.0 request.1)) asked)).1 in
           let replies = a.1.number in
           let one = ap waiting_ones a.1.waits in
@@ -145,31 +145,31 @@ module _ (words : ℕ → ℕ → ℕ × ℕ) (scenario : Scenario) where
   -- one row of a client's own, by its event
   own_event : (rows : Rows) (row : Row Mail OrderLine) (who : ℕ) (p : Player) (event : Event OrderLine) → row.who ≡ who → row.event ≡ event → row.sent ≡ (acted player_table p (input_of (mails rows) event)).1 → Starts rows who event
       → IsAskingPlayer rows who p → IsAskingPlayer (rows ++ row ∷ []) who (acted player_table p (input_of (mails rows) event)).0
-  own_event rows row who (Node node) event mine is sent_is once k = node_so (input_of (mails rows) event)
+  own_event rows row who (Node node) event mine fact sent_is once k = node_so (input_of (mails rows) event)
     where
       node_so : (input : Option (Input Mail OrderLine)) → IsAskingPlayer (rows ++ row ∷ []) who (acted player_table (Node node) input).0
       node_so None = tt
       node_so (Some input) = tt
-  own_event rows row who (Client client) event mine is sent_is once k = by event is sent_is once
+  own_event rows row who (Client client) event mine fact sent_is once k = by event fact sent_is once
     where
       silent : (event : Event OrderLine) → is_go event ≡ false → row.event ≡ event → row.sent ≡ [] → IsAskingAt (rows ++ row ∷ []) who client
-      silent event stays_off is none = own_row rows row who client (Told no_order) mine none (ap is_go is ∙ stays_off) (λ t. absurd (true≢false (sym t ∙ ap is_go is ∙ stays_off))) k
+      silent event stays_off fact none = own_row rows row who client (Told no_order) mine none (ap is_go fact ∙ stays_off) (λ t. absurd (true≢false (sym t ∙ ap is_go fact ∙ stays_off))) k
 
       with_input : (input : Input Mail OrderLine) (event : Event OrderLine) → is_go event ≡ is_start input → row.event ≡ event → row.sent ≡ (table client input).1 → Starts rows who event → IsAskingAt (rows ++ row ∷ []) who (table client input).0
-      with_input input event go is sent_is once = own_row rows row who client input mine sent_is (ap is_go is ∙ go) (λ t. once (sym (ap is_go is) ∙ t)) k
+      with_input input event go fact sent_is once = own_row rows row who client input mine sent_is (ap is_go fact ∙ go) (λ t. once (sym (ap is_go fact) ∙ t)) k
 
       delivered : (o : Option Mail) (number : ℕ) → row.event ≡ Deliver number → row.sent ≡ (acted player_table (Client client) (option_map Got o)).1 → IsAskingPlayer (rows ++ row ∷ []) who (acted player_table (Client client) (option_map Got o)).0
-      delivered None number is sent_is = silent (Deliver number) refl is sent_is
-      delivered (Some mail) number is sent_is = with_input (Got mail) (Deliver number) refl is sent_is (λ t. absurd (true≢false (sym t)))
+      delivered None number fact sent_is = silent (Deliver number) refl fact sent_is
+      delivered (Some mail) number fact sent_is = with_input (Got mail) (Deliver number) refl fact sent_is (λ t. absurd (true≢false (sym t)))
 
       by : (event : Event OrderLine) → row.event ≡ event → row.sent ≡ (acted player_table (Client client) (input_of (mails rows) event)).1 → Starts rows who event → IsAskingPlayer (rows ++ row ∷ []) who (acted player_table (Client client) (input_of (mails rows) event)).0
-      by (Deliver number) is sent_is once = delivered (numbered (mails rows) number) number is sent_is
-      by TickEvent is sent_is once = with_input Tick TickEvent refl is sent_is once
-      by GoEvent is sent_is once = with_input Go GoEvent refl is sent_is once
-      by (ToldEvent line) is sent_is once = with_input (Told line) (ToldEvent line) refl is sent_is once
-      by Crash is sent_is once = silent Crash refl is sent_is
-      by (Drop number) is sent_is once = silent (Drop number) refl is sent_is
-      by (Again number) is sent_is once = silent (Again number) refl is sent_is
+      by (Deliver number) fact sent_is once = delivered (numbered (mails rows) number) number fact sent_is
+      by TickEvent fact sent_is once = with_input Tick TickEvent refl fact sent_is once
+      by GoEvent fact sent_is once = with_input Go GoEvent refl fact sent_is once
+      by (ToldEvent line) fact sent_is once = with_input (Told line) (ToldEvent line) refl fact sent_is once
+      by Crash fact sent_is once = silent Crash refl fact sent_is
+      by (Drop number) fact sent_is once = silent (Drop number) refl fact sent_is
+      by (Again number) fact sent_is once = silent (Again number) refl fact sent_is
 
   pub next_asking : (rows : Rows) (row : Row Mail OrderLine) → IsStep (system_of as_nodes words scenario) rows row → IsAskingJournal rows → IsAskingJournal (rows ++ row ∷ [])
   next_asking rows row step k = record { players = λ seat is_of. subst (IsAskingPlayer (rows ++ row ∷ []) seat.who) (sym (value-snoc player_table seat rows row)) (by seat is_of step) }
@@ -208,13 +208,13 @@ module _ (words : ℕ → ℕ → ℕ × ℕ) (scenario : Scenario) where
           network_row {event} e loose none mine = subst (λ x. IsAskingPlayer (rows ++ row ∷ []) seat.who (acted player_table (value player_table seat rows) (input_of (mails rows) x)).0) (sym e) (by_event event e loose)
             where
               by_event : (event : Event OrderLine) → row.event ≡ event → IsLoose (system_of as_nodes words scenario) rows event → IsAskingPlayer (rows ++ row ∷ []) seat.who (acted player_table (value player_table seat rows) (input_of (mails rows) event)).0
-              by_event (Drop number) is l = own_event rows row seat.who (value player_table seat rows) (Drop number) mine is none (λ t. absurd (true≢false (sym t))) (k.players seat is_of)
-              by_event (Again number) is l = own_event rows row seat.who (value player_table seat rows) (Again number) mine is none (λ t. absurd (true≢false (sym t))) (k.players seat is_of)
-              by_event (Deliver number) is l = absurd l
-              by_event GoEvent is l = absurd l
-              by_event TickEvent is l = absurd l
-              by_event (ToldEvent line) is l = absurd l
-              by_event Crash is l = absurd l
+              by_event (Drop number) fact l = own_event rows row seat.who (value player_table seat rows) (Drop number) mine fact none (λ t. absurd (true≢false (sym t))) (k.players seat is_of)
+              by_event (Again number) fact l = own_event rows row seat.who (value player_table seat rows) (Again number) mine fact none (λ t. absurd (true≢false (sym t))) (k.players seat is_of)
+              by_event (Deliver number) fact l = absurd l
+              by_event GoEvent fact l = absurd l
+              by_event TickEvent fact l = absurd l
+              by_event (ToldEvent line) fact l = absurd l
+              by_event Crash fact l = absurd l
 
   -- ---- before any row, and after all
 

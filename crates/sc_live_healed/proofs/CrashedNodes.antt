@@ -42,8 +42,8 @@ module _ {A M O : Type 0} (s : System A M O) (pre post : List (Line O)) (node : 
   row_crashes : (rows : List (Row M O)) (row : Row M O) → line_row s rows (CrashLine node) ≡ Some row → (eqb row.who node && is_crash row.event) ≡ true
   row_crashes rows row e =
       cond_both (has_crashed rows node) None (acts s rows node CrashEvent) (λ (o : Option (Row M O)). o ≡ Some row → (eqb row.who node && is_crash row.event) ≡ true) (λ _ none. absurd (none_row none))
-      (λ _ some. (let is : row_of s.table seat rows CrashEvent ≡ row = one_row (sym (acts_so rows) ∙ some) in
-      and_from (eqb row.who node) (is_crash row.event) (eq-eqb row.who node (ap (λ (r : Row M O). r.who) (sym is) ∙ who_is)) (ap (λ (r : Row M O). is_crash r.event) (sym is)))) e
+      (λ _ some. (let fact : row_of s.table seat rows CrashEvent ≡ row = one_row (sym (acts_so rows) ∙ some) in
+      and_from (eqb row.who node) (is_crash row.event) (eq-eqb row.who node (ap (λ (r : Row M O). r.who) (sym fact) ∙ who_is)) (ap (λ (r : Row M O). is_crash r.event) (sym fact)))) e
     where
       none_row : {x : Row M O} → None ≡ Some x → ⊥
       none_row e = cc

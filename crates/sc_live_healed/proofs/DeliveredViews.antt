@@ -130,12 +130,12 @@ module _ (words : ℕ → ℕ → ℕ × ℕ) (scenario : Scenario) (bounded : I
 
     -- what the receiver does
     step_is : (p : Player) → value player_table seat rows ≡ p → (row.sent ≡ (player_table p (Got t.mail)).1) × (value player_table seat (rows ++ row ∷ []) ≡ (player_table p (Got t.mail)).0)
-    step_is p is =
+    step_is p fact =
         let sent_by : row.sent ≡ (acted player_table (value player_table seat rows) (input_of {O = OrderLine} (mails rows) (Deliver t.number))).1 = ap (λ (r : Row Mail OrderLine). r.sent) t.row_is in
         let event_is : row.event ≡ Deliver t.number = ap (λ (r : Row Mail OrderLine). r.event) t.row_is in
         let who : row.who ≡ seat.who = ap (λ (r : Row Mail OrderLine). r.who) t.row_is in
         let acts : acted player_table (value player_table seat rows) (input_of {O = OrderLine} (mails rows) (Deliver t.number)) ≡ player_table p (Got t.mail) =
-        ap (λ (o : Option (Input Mail OrderLine)). acted player_table (value player_table seat rows) o) input_is ∙ ap (λ (q : Player). player_table q (Got t.mail)) is in (
+        ap (λ (o : Option (Input Mail OrderLine)). acted player_table (value player_table seat rows) o) input_is ∙ ap (λ (q : Player). player_table q (Got t.mail)) fact in (
           sent_by ∙ ap (λ (x : Player × List Mail). x.1) acts,
           value-snoc player_table seat rows row ∙ (cond-true (eqb row.who seat.who) _ _ (eq-eqb row.who seat.who who)
               ∙ (ap (λ (event : Event OrderLine). (acted player_table (value player_table seat rows) (input_of (mails rows) event)).0) event_is ∙ ap (λ (x : Player × List Mail). x.0) acts)),
@@ -161,19 +161,19 @@ module _ (words : ℕ → ℕ → ℕ × ℕ) (scenario : Scenario) (bounded : I
     -- a node takes it
     node_takes : (node : NodeState) → value player_table seat rows ≡ Node node → ((group : Draw) (slot : ℕ) (state : Base) (sets : List (List ℕ)) → t.mail.body ≡ Install group slot state sets → slot ≤ last_slot)
         → IsDelivered base (alive rows) (view rows) t.mail (view (rows ++ row ∷ [])) new
-    node_takes node is room = by (mail_view scenario.groups fresh base among node k.2 t.mail fixed to)
+    node_takes node fact room = by (mail_view scenario.groups fresh base among node k.2 t.mail fixed to)
       where
         k : (node.me ≡ seat.who) × (node.policy ≡ false) × IsFixedNode scenario.groups node
-        k = subst (IsFixedPlayer scenario.groups seat.who) is (now.players seat is_of)
+        k = subst (IsFixedPlayer scenario.groups seat.who) fact (now.players seat is_of)
 
         to : t.mail.to ≡ node.me
         to = sym who_is ∙ sym k.0
 
         step : (row.sent ≡ (node_table node (Got t.mail)).1) × (value player_table seat (rows ++ row ∷ []) ≡ Node (node_table node (Got t.mail)).0)
-        step = step_is (Node node) is
+        step = step_is (Node node) fact
 
         before_is : view rows t.mail.to ≡ replica_of base.core.id node.replicas
-        before_is = view_here rows ∙ ap player_view is
+        before_is = view_here rows ∙ ap player_view fact
 
         after_is : view (rows ++ row ∷ []) t.mail.to ≡ replica_of base.core.id (node_table node (Got t.mail)).0.replicas
         after_is = view_here (rows ++ row ∷ []) ∙ ap player_view step.1
@@ -188,7 +188,7 @@ module _ (words : ℕ → ℕ → ℕ × ℕ) (scenario : Scenario) (bounded : I
           fixed = subst (λ (n : ℕ). IsFixedPlace base n (x.1.replica, [])) (sym to) x.1.fixed;
           heard = subst (λ (n : ℕ). IsFixedBody base t.mail.from n t.mail.body) (sym to) x.1.heard;
           room = room;
-          is = after_is ∙ x.1.is;
+          fact = after_is ∙ x.1.fact;
           others = others_stay;
           sent = ap (filter (λ (m : Mail). alive rows m.to)) (step.0 ∙ x.1.sent);
         }
@@ -204,19 +204,19 @@ module _ (words : ℕ → ℕ → ℕ × ℕ) (scenario : Scenario) (bounded : I
 
     -- a client takes it, and sends requests alone
     client_takes : (client : ClientState) → value player_table seat rows ≡ Client client → IsDelivered base (alive rows) (view rows) t.mail (view (rows ++ row ∷ [])) new
-    client_takes client is = inr record {
+    client_takes client fact = inr record {
       other = λ of. (let mine : fixed.base ≡ base = fresh.apart fixed.base base fixed.among among (group_is scenario.groups fresh t.mail.to fixed.base t.mail.from t.mail.to base.core.id t.mail.body of fixed.says) in
           let member : IsMember fixed.base t.mail.to = to_member scenario.groups fresh t.mail.to fixed.base t.mail.from t.mail.to base.core.id t.mail.body of fixed.says in
-          true≢false (sym (fresh.within fixed.base fixed.among t.mail.to member) ∙ (ap is_node (sym who_is) ∙ client_far seat is_of client rows is)));
+          true≢false (sym (fresh.within fixed.base fixed.among t.mail.to member) ∙ (ap is_node (sym who_is) ∙ client_far seat is_of client rows fact)));
       same = λ who. elim (cases_Bool (eqb who t.mail.to)) [
-        | inl y ↦ subst (λ (n : ℕ). view (rows ++ row ∷ []) n ≡ view rows n) (sym (eqb-true who t.mail.to y)) ((view_here (rows ++ row ∷ []) ∙ ap player_view step.1) ∙ sym (view_here rows ∙ ap player_view is))
+        | inl y ↦ subst (λ (n : ℕ). view (rows ++ row ∷ []) n ≡ view rows n) (sym (eqb-true who t.mail.to y)) ((view_here (rows ++ row ∷ []) ∙ ap player_view step.1) ∙ sym (view_here rows ∙ ap player_view fact))
         | inr f ↦ others_stay who (λ e. true≢false (sym (eq-eqb who t.mail.to e) ∙ f))
       ];
       sent = Each-filter Quiet (λ (m : Mail). alive rows m.to) row.sent (subst (Each Quiet) (sym step.0) requests);
     }
       where
         step : (row.sent ≡ (table client (Got t.mail)).1) × (value player_table seat (rows ++ row ∷ []) ≡ Client (table client (Got t.mail)).0)
-        step = step_is (Client client) is
+        step = step_is (Client client) fact
 
         Quiet : Mail → Type 0
         Quiet m = IsOfGroup base (alive rows) m → IsAnswerKind m.body
@@ -232,5 +232,5 @@ module _ (words : ℕ → ℕ → ℕ × ℕ) (scenario : Scenario) (bounded : I
     delivered_view room = by (value player_table seat rows) refl
       where
         by : (p : Player) → value player_table seat rows ≡ p → IsDelivered base (alive rows) (view rows) t.mail (view (rows ++ row ∷ [])) new
-        by (Node node) is = node_takes node is room
-        by (Client client) is = client_takes client is
+        by (Node node) fact = node_takes node fact room
+        by (Client client) fact = client_takes client fact

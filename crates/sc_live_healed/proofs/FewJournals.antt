@@ -31,9 +31,9 @@ use Rattle.sc_live_healed.proofs.FixedParts.{opt_some}
 use Rattle.sc_live_healed.proofs.FixedRows.{takes_mail}
 use Rattle.sc_live_healed.proofs.FixedTicks.{ticks}
 use Rattle.sc_live_healed.proofs.FixedBesides.{FixedTickStates, both_walk, both_ticks}
-use Rattle.sc_live_healed.proofs.FixedJournals.{Rows, IsFixedPlayer, IsOf, IsFixedJournal, Brings, fresh, given, first_fixed, brings, next_fixed, AreUntold, untold_parts}
+use Rattle.sc_live_healed.proofs.FixedJournals.{Rows, IsFixedPlayer, IsOf, IsFixedJournal, Brings, fresh, given, first_fixed, brings, next_fixed, AreWithoutOrders, untold_parts}
 use Rattle.sc_live_healed.proofs.FixedNodes.{AreFresh, MayTake, One, into, one_ticks}
-use Rattle.sc_live_healed.proofs.NodeMail.{TakesMail, PassesMail, mail_taken}
+use Rattle.sc_live_healed.proofs.FixedGroupMail.{TakesMail, PassesMail, mail_taken}
 use Rattle.sc_live_healed.proofs.AskingJournals.{IsAskingJournal, IsAskingPlayer, next_asking, first_asking, issued_push}
 use Rattle.sc_live_healed.proofs.NumberedRequests.{C, HasNoted, IsFewBody, IsFewPlace, Said, said_few, entry_few, few_facts, few_states}
 
@@ -100,10 +100,10 @@ module _ (client bound : ℕ) where
         let one = here.0 in
         let place : Place = tick_row false drawer (r, []) in
         let now : Few place = ticked_few one.0 node.me (apart.each one.0 one.1 node.me one.2) drawer r (into bases apart node.me r one) n.0 in
-        let is = sym (one_ticks bases apart node k drawer r mails one).1 in
+        let fact = sym (one_ticks bases apart node k drawer r mails one).1 in
         let said : Says (mails ++ place.1) = Each-append (λ (mail : Mail). FewBody mail.body) mails place.1 s now.said in
-        let rest = tick_few (names_after_tick false drawer r) replicas (tick_row false drawer (r, mails)).1 here.1 n.1 (subst (λ (p : Place). Says p.1) is said) in
-        ((subst (λ (p : Place). Few (p.0, [])) is (alone place now), rest.0), rest.1)
+        let rest = tick_few (names_after_tick false drawer r) replicas (tick_row false drawer (r, mails)).1 here.1 n.1 (subst (λ (p : Place). Says p.1) fact said) in
+        ((subst (λ (p : Place). Few (p.0, [])) fact (alone place now), rest.0), rest.1)
 
     pub steps_few : (input : Input Mail OrderLine) → node.policy ≡ false → MayTake bases node.me input → ((mail : Mail) → input ≡ Got mail → FewBody mail.body) → AllFew node.replicas → NodeFew (node_table node input)
     steps_few (Got mail) off m few n = by_mail mail (few mail refl) n (mail_taken bases apart node k mail m.0 m.1)
@@ -207,10 +207,10 @@ module _ (client bound : ℕ) where
     acts rows sent who p (Drop number) s few b asking k n = stays who p n
     acts rows sent who p (Again number) s few b asking k n = stays who p n
 
-    module _ (rows : Rows) (row : Row Mail OrderLine) (untold : is_told row.event ≡ false) (asking : IsAskingJournal words scenario rows) (now : IsFewJournal scenario rows) where
+    module _ (rows : Rows) (row : Row Mail OrderLine) (without_orders : is_told row.event ≡ false) (asking : IsAskingJournal words scenario rows) (now : IsFewJournal scenario rows) where
       row_acts : (who : ℕ) → row.who ≡ who → IsStep (system_of as_nodes words scenario) rows row → (seat : Seat Player) → seat.who ≡ who → IsOf scenario seat → Acted seat.who (acted player_table (value player_table seat rows) (input_of (mails rows) row.event))
-      row_acts who same step seat is is_of =
-          acts rows (mails rows) seat.who (value player_table seat rows) row.event now.fixed.sent now.sent (brings words scenario bounded off rows row untold now.fixed seat.who (same ∙ sym is) step) (asking.players seat is_of) (now.fixed.players seat is_of) (now.players seat is_of)
+      row_acts who same step seat fact is_of =
+          acts rows (mails rows) seat.who (value player_table seat rows) row.event now.fixed.sent now.sent (brings words scenario bounded off rows row without_orders now.fixed seat.who (same ∙ sym fact) step) (asking.players seat is_of) (now.fixed.players seat is_of) (now.players seat is_of)
 
       row_sent : IsStep (system_of as_nodes words scenario) rows row → MayIssue row.who row.sent → Each (λ (mail : Mail). FewBody mail.body) row.sent
       row_sent (inl step) issue =
@@ -223,7 +223,7 @@ module _ (client bound : ℕ) where
 
       next_few : IsStep (system_of as_nodes words scenario) rows row → MayIssue row.who row.sent → IsFewJournal scenario (rows ++ row ∷ [])
       next_few step issue = record {
-        fixed = next_fixed words scenario bounded off rows row untold now.fixed step;
+        fixed = next_fixed words scenario bounded off rows row without_orders now.fixed step;
         sent = subst (λ (ms : List Mail). Each (λ (mail : Mail). FewBody mail.body) ms) (sym (mails-snoc rows row)) (Each-append (λ (mail : Mail). FewBody mail.body) (mails rows) row.sent now.sent (row_sent step issue));
         players = λ seat is_of. subst PlayerFew (sym (value-snoc player_table seat rows row))
             (cond_both (eqb row.who seat.who) (acted player_table (value player_table seat rows) (input_of (mails rows) row.event)).0 (value player_table seat rows) PlayerFew
@@ -232,13 +232,13 @@ module _ (client bound : ℕ) where
 
     -- ---- all rows
 
-    pub journal_few : (rows : Rows) → AreUntold words scenario bounded off rows → HasSentFew rows → Lawful as_nodes words scenario rows → IsFewJournal scenario rows
-    journal_few rows untold few lawful =
-        (lawful-induction (system_of as_nodes words scenario) (λ (xs : Rows). IsAskingJournal words scenario xs × (AreUntold words scenario bounded off xs → HasSentFew xs → IsFewJournal scenario xs))
+    pub journal_few : (rows : Rows) → AreWithoutOrders words scenario bounded off rows → HasSentFew rows → Lawful as_nodes words scenario rows → IsFewJournal scenario rows
+    journal_few rows without_orders few lawful =
+        (lawful-induction (system_of as_nodes words scenario) (λ (xs : Rows). IsAskingJournal words scenario xs × (AreWithoutOrders words scenario bounded off xs → HasSentFew xs → IsFewJournal scenario xs))
         (λ xs row keeps step. (
           next_asking words scenario xs row step keeps.0,
           λ more few. (
               let parts = untold_parts words scenario bounded off xs row more in
               next_few xs row parts.1 keeps.0 (keeps.1 parts.0 (λ seq e. few seq (issued_push words scenario xs row client seq ∙ or_left (list_any (issues client seq) xs) (issues client seq row || false) e))) step
               (λ seq e. few seq (issued_push words scenario xs row client seq ∙ or_right (list_any (issues client seq) xs) (issues client seq row || false) (or_left (issues client seq row) false e)))),
-        )) (schedule scenario) rows (first_asking words scenario, λ _ _. first_few) lawful).1 untold few
+        )) (schedule scenario) rows (first_asking words scenario, λ _ _. first_few) lawful).1 without_orders few

@@ -19,7 +19,7 @@ module _ (scenario : Scenario) (bounded : IsBounded scenario) where
 
   pub groups_fresh : AreFresh scenario.groups
   groups_fresh = record {
-    each = λ base a me m. (let p = group_place scenario bounded base a in subst (λ (b : Base). IsMember b me → IsFresh b me) p.2 (λ is. record { free = refl; stands = refl; first = least_in (base_at bounded.starts p.0).core.members (some_members p.0 p.1); member = is }) m);
+    each = λ base a me m. (let p = group_place scenario bounded base a in subst (λ (b : Base). IsMember b me → IsFresh b me) p.2 (λ fact. record { free = refl; stands = refl; first = least_in (base_at bounded.starts p.0).core.members (some_members p.0 p.1); member = fact }) m);
     apart = λ one other a b same.
         (let x = group_place scenario bounded one a in
         let y = group_place scenario bounded other b in

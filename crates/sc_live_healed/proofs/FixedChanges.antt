@@ -39,7 +39,7 @@ module _ (base : Base) (me : ℕ) (fresh : IsFresh base me) where
   -- ---- mails
 
   pub one_said : (r : ReplicaState) (to : ℕ) (body : MailBody) (mails : List Mail) → r.me ≡ me → IsFixedBody base me to body → Said mails → Said (sent r.me to body mails)
-  one_said r to body mails is b m = Each-append (IsSaid base me) mails (record { from = r.me; to = to; body = body } ∷ []) m ((is, b), tt)
+  one_said r to body mails fact b m = Each-append (IsSaid base me) mails (record { from = r.me; to = to; body = body } ∷ []) m ((fact, b), tt)
 
   pub sends : (r : ReplicaState) (to : ℕ) (body : MailBody) (mails : List Mail) → IsFixedBody base me to body → F (r, mails) → F (r, sent r.me to body mails)
   sends r to body mails b k = record { me_is = k.me_is; fixed = k.fixed; ballots = k.ballots; said = one_said r to body mails k.me_is b k.said }
@@ -48,9 +48,9 @@ module _ (base : Base) (me : ℕ) (fresh : IsFresh base me) where
   answers_client r client seq answer mails fine k = sends r (client_actor client) (Answer (name_of r) seq answer) mails (name_is r k.fixed, fresh.member, fine) k
 
   -- what one that stops answers
-  module _ (r : ReplicaState) (is : r.me ≡ me) (same : name_of r ≡ base.core.id) (node : ℕ) (m : IsMember base node) where
+  module _ (r : ReplicaState) (fact : r.me ≡ me) (same : name_of r ≡ base.core.id) (node : ℕ) (m : IsMember base node) where
     leader_said : (client seq : ℕ) (mails : List Mail) → Said mails → Said (sent r.me (client_actor client) (Answer (name_of r) seq (Says.NotLeader (Some node))) mails)
-    leader_said client seq mails s = one_said r (client_actor client) (Answer (name_of r) seq (Says.NotLeader (Some node))) mails is (same, fresh.member, m) s
+    leader_said client seq mails s = one_said r (client_actor client) (Answer (name_of r) seq (Says.NotLeader (Some node))) mails fact (same, fresh.member, m) s
 
     all_said : (commands : List Command) (mails : List Mail) → Said mails → Said (answered_all r.me (name_of r) (Says.NotLeader (Some node)) commands mails)
     unfolding answered_all answered
@@ -181,7 +181,7 @@ module _ (base : Base) (me : ℕ) (fresh : IsFresh base me) where
         call_back _ g = absurd g
 
     none_flies : (r : ReplicaState) (slot : ℕ) (other : Command) → r.leader.flights ≡ [] → flying r slot ≡ Some other → ⊥
-    none_flies r slot other e is = (let none : flying r slot ≡ None = ap (λ (flights : List (Flight Command)). option_map (λ (flight : Flight Command). flight.value) (flight_at slot flights)) e in cc)
+    none_flies r slot other e fact = (let none : flying r slot ≡ None = ap (λ (flights : List (Flight Command)). option_map (λ (flight : Flight Command). flight.value) (flight_at slot flights)) e in cc)
 
     -- what is in flight is so at one that runs
     flying_runs : (r : ReplicaState) (slot : ℕ) (other : Command) → KeepsBallots base r → flying r slot ≡ Some other → r.running ≡ true
@@ -195,9 +195,9 @@ module _ (base : Base) (me : ℕ) (fresh : IsFresh base me) where
     entry_of counted on = record {
       Lost = λ other. Fixed other × (start.running ≡ true);
       entered = λ mails k. enters mails k;
-      answers = λ client seq op answer r mails t is e k. (answers_client r client seq answer mails (parts.answer_fine base me fresh start.group client seq op answer same (subst (λ (c : Command). answer_of (applied start.group c).1 ≡ Some answer) is e)) k.0, k.1);
+      answers = λ client seq op answer r mails t fact e k. (answers_client r client seq answer mails (parts.answer_fine base me fresh start.group client seq op answer same (subst (λ (c : Command). answer_of (applied start.group c).1 ≡ Some answer) fact e)) k.0, k.1);
       returned = λ r mails t k. goes_back command r mails f (on t) k;
-      reports = λ result r mails is k. absurd (unreported base counted command start f same result is);
+      reports = λ result r mails fact k. absurd (unreported base counted command start f same result fact);
       speaks = λ r mails k. unspoken base counted command start f same Q r mails k;
       teaches = λ to r mails t a k. (sends r to (Learn (name_of r) (next start) command) mails (name_is r k.0.fixed, (fresh.member, learner base counted command start f same to a), f) k.0, k.1);
       installs = λ to r mails t new k. absurd (none_joined base counted command start f same r k.0.fixed.group to new);

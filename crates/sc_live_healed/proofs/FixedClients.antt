@@ -77,19 +77,19 @@ module _ (bases : List Base) (fresh : AreFresh bases) where
       (λ way w. prefers group way (next_target way) w (ap (λ (nodes : List ℕ). is_member w.base.core.members (next_after nodes (target_of way))) w.members ∙ next_member w.base w.among (target_of way))) k
 
   follows_hint : (base : Base) → Among base bases → (group : Draw) → group ≡ base.core.id → (node : ℕ) → IsMember base node → (known : KnownGroups) → All known → All (preferring group node known)
-  follows_hint base a group is node m known k =
+  follows_hint base a group fact node m known k =
       changes (λ way. record way { preferred = Some node }) group known
-      (λ way w. (let same : w.base ≡ base = fresh.apart w.base base w.among a (w.name ∙ is) in prefers group way node w (subst (λ (b : Base). IsMember b node) (sym same) m))) k
+      (λ way w. (let same : w.base ≡ base = fresh.apart w.base base w.among a (w.name ∙ fact) in prefers group way node w (subst (λ (b : Base). IsMember b node) (sym same) m))) k
 
   learns : (base : Base) → Among base bases → (group : Draw) (arc : Arc) (succ : Link) → succ ≡ base.core.succ → (known : KnownGroups) → All known → All (learnt_from_not_mine group arc succ known)
-  learns base a group arc succ is known k =
+  learns base a group arc succ fact known k =
       let k1 : All (starting group arc.lo known) = starts group arc.lo known k in
       let next = fresh.follows base a in
       let new : KnowsFixed bases succ.group (new_way (end_of arc) succ.members) = record {
         base = next.0;
         among = next.1;
-        name = next.2 ∙ sym (ap (λ (l : Link). l.group) is);
-        members = ap (λ (l : Link). l.members) is ∙ sym next.3;
+        name = next.2 ∙ sym (ap (λ (l : Link). l.group) fact);
+        members = ap (λ (l : Link). l.members) fact ∙ sym next.3;
         preferred = λ node e. absurd (cc);
       } in
       either_way All (is_some (way_to succ.group (starting group arc.lo known))) (starting succ.group (end_of arc) (starting group arc.lo known)) _
@@ -125,21 +125,21 @@ module _ (bases : List Base) (fresh : AreFresh bases) where
   turns_on group client k = sends group (record client { known = passed_on group client.known }) (passes group client.known k)
 
   redirects : (base : Base) → Among base bases → (group : Draw) → group ≡ base.core.id → (answer : AnswerBody) → IsFixedAnswer base answer → (client : Client) → IsFixedClient bases client → Asks (redirected group answer client)
-  redirects base a group is (Says.NotLeader (Some hint)) fine client k = sends group (record client { known = preferring group hint client.known }) (follows_hint base a group is hint fine client.known k)
-  redirects base a group is (Says.NotLeader None) fine client k = absurd fine
-  redirects base a group is (Says.NotMine arc succ) fine client k =
+  redirects base a group fact (Says.NotLeader (Some hint)) fine client k = sends group (record client { known = preferring group hint client.known }) (follows_hint base a group fact hint fine client.known k)
+  redirects base a group fact (Says.NotLeader None) fine client k = absurd fine
+  redirects base a group fact (Says.NotMine arc succ) fine client k =
       let client1 : Client = record client { known = learnt_from_not_mine group arc succ client.known } in
       sends_where client1 (chosen_for client1 (waiting_request client1)) (learns base a group arc succ fine.1 client.known k)
-  redirects base a group is (Says.Gone into) fine client k = absurd fine
-  redirects base a group is (Says.Value reply) fine client k = (k, tt)
-  redirects base a group is (Says.Stale last) fine client k = (k, tt)
+  redirects base a group fact (Says.Gone into) fine client k = absurd fine
+  redirects base a group fact (Says.Value reply) fine client k = (k, tt)
+  redirects base a group fact (Says.Stale last) fine client k = (k, tt)
 
   answers : (base : Base) → Among base bases → (from : ℕ) (group : Draw) (seq : ℕ) → group ≡ base.core.id → (answer : AnswerBody) → IsFixedAnswer base answer → (client : Client) → IsFixedClient bases client → Asks (answer_taken from group seq answer client)
-  answers base a from group seq is (Says.Value reply) fine client k = begins (seq + 1) (record client { replies = client.replies ++ reply ∷ [] }) k
-  answers base a from group seq is (Says.NotLeader hint) fine client k = either_way Asks (was_asked client.asked from group) _ (client, []) (redirects base a group is (Says.NotLeader hint) fine client k) (k, tt)
-  answers base a from group seq is (Says.NotMine arc succ) fine client k = either_way Asks (was_asked client.asked from group) _ (client, []) (redirects base a group is (Says.NotMine arc succ) fine client k) (k, tt)
-  answers base a from group seq is (Says.Gone into) fine client k = absurd fine
-  answers base a from group seq is (Says.Stale last) fine client k = either_way Asks (was_asked client.asked from group) _ (client, []) (redirects base a group is (Says.Stale last) fine client k) (k, tt)
+  answers base a from group seq fact (Says.Value reply) fine client k = begins (seq + 1) (record client { replies = client.replies ++ reply ∷ [] }) k
+  answers base a from group seq fact (Says.NotLeader hint) fine client k = either_way Asks (was_asked client.asked from group) _ (client, []) (redirects base a group fact (Says.NotLeader hint) fine client k) (k, tt)
+  answers base a from group seq fact (Says.NotMine arc succ) fine client k = either_way Asks (was_asked client.asked from group) _ (client, []) (redirects base a group fact (Says.NotMine arc succ) fine client k) (k, tt)
+  answers base a from group seq fact (Says.Gone into) fine client k = absurd fine
+  answers base a from group seq fact (Says.Stale last) fine client k = either_way Asks (was_asked client.asked from group) _ (client, []) (redirects base a group fact (Says.Stale last) fine client k) (k, tt)
 
   gets : (from to : ℕ) (body : MailBody) (client : Client) (base : Base) → Among base bases → IsFixedBody base from to body → IsFixedClient bases client → Asks (got from body client)
   gets from to (Answer group seq answer) client base a h k = either_way Asks (waits_for client.waiting seq) _ (client, []) (answers base a from group seq h.0 answer h.2 client k) (k, tt)

@@ -142,13 +142,13 @@ module _ (words : ℕ → ℕ → ℕ × ℕ) (scenario : Scenario) (bounded : I
   acts sent who p (Again number) s b k = (k, tt)
 
   opened : (rows : Rows) (who : ℕ) (event : Event OrderLine) → is_told event ≡ false → IsOpen (system_of as_nodes words scenario) rows who event → Brings (mails rows) who event
-  opened rows who (Deliver number) untold o = (o.0, o.1.sent, o.2)
-  opened rows who (ToldEvent line) untold o = absurd (cc)
-  opened rows who TickEvent untold o = tt
-  opened rows who GoEvent untold o = tt
-  opened rows who Crash untold o = tt
-  opened rows who (Drop number) untold o = tt
-  opened rows who (Again number) untold o = tt
+  opened rows who (Deliver number) without_orders o = (o.0, o.1.sent, o.2)
+  opened rows who (ToldEvent line) without_orders o = absurd (cc)
+  opened rows who TickEvent without_orders o = tt
+  opened rows who GoEvent without_orders o = tt
+  opened rows who Crash without_orders o = tt
+  opened rows who (Drop number) without_orders o = tt
+  opened rows who (Again number) without_orders o = tt
 
   loosened : (rows : Rows) (who : ℕ) (event : Event OrderLine) → IsLoose (system_of as_nodes words scenario) rows event → Brings (mails rows) who event
   loosened rows who (Drop number) l = tt
@@ -159,12 +159,12 @@ module _ (words : ℕ → ℕ → ℕ × ℕ) (scenario : Scenario) (bounded : I
   loosened rows who GoEvent l = tt
   loosened rows who Crash l = tt
 
-  module _ (rows : Rows) (row : Row Mail OrderLine) (untold : is_told row.event ≡ false) (now : IsFixedJournal scenario rows) where
+  module _ (rows : Rows) (row : Row Mail OrderLine) (without_orders : is_told row.event ≡ false) (now : IsFixedJournal scenario rows) where
     pub brings : (who : ℕ) → row.who ≡ who → IsStep (system_of as_nodes words scenario) rows row → Brings (mails rows) who row.event
     brings who same (inl step) =
         let event_is : row.event ≡ step.event = ap (λ (r : Row Mail OrderLine). r.event) step.row_is in
         let who_is : step.seat.who ≡ who = sym (ap (λ (r : Row Mail OrderLine). r.who) step.row_is) ∙ same in
-        subst (λ (event : Event OrderLine). Brings (mails rows) who event) (sym event_is) (subst (λ (n : ℕ). Brings (mails rows) n step.event) who_is (opened rows step.seat.who step.event (ap is_told (sym event_is) ∙ untold) step.open_))
+        subst (λ (event : Event OrderLine). Brings (mails rows) who event) (sym event_is) (subst (λ (n : ℕ). Brings (mails rows) n step.event) who_is (opened rows step.seat.who step.event (ap is_told (sym event_is) ∙ without_orders) step.open_))
     brings who same (inr step) =
         let event_is : row.event ≡ step.event = ap (λ (r : Row Mail OrderLine). r.event) step.row_is in
         subst (λ (event : Event OrderLine). Brings (mails rows) who event) (sym event_is) (loosened rows who step.event step.loose)
@@ -188,20 +188,20 @@ module _ (words : ℕ → ℕ → ℕ × ℕ) (scenario : Scenario) (bounded : I
   -- ---- all rows
 
   -- no row gives an order
-  abbrev pub AreUntold : Rows → Type 0
-  AreUntold rows = Each (λ (row : Row Mail OrderLine). is_told row.event ≡ false) rows
+  abbrev pub AreWithoutOrders : Rows → Type 0
+  AreWithoutOrders rows = Each (λ (row : Row Mail OrderLine). is_told row.event ≡ false) rows
 
   -- of rows and one more
-  pub untold_parts : (xs : Rows) (row : Row Mail OrderLine) → AreUntold (xs ++ row ∷ []) → AreUntold xs × (is_told row.event ≡ false)
-  untold_parts [] row untold = (tt, untold.0)
-  untold_parts (x ∷ xs) row untold = (let p = untold_parts xs row untold.1 in ((untold.0, p.0), p.1))
+  pub untold_parts : (xs : Rows) (row : Row Mail OrderLine) → AreWithoutOrders (xs ++ row ∷ []) → AreWithoutOrders xs × (is_told row.event ≡ false)
+  untold_parts [] row without_orders = (tt, without_orders.0)
+  untold_parts (x ∷ xs) row without_orders = (let p = untold_parts xs row without_orders.1 in ((without_orders.0, p.0), p.1))
 
   -- and of rows and others
-  pub untold_prefix : (xs ys : Rows) → AreUntold (xs ++ ys) → AreUntold xs
-  untold_prefix [] ys untold = tt
-  untold_prefix (x ∷ xs) ys untold = (untold.0, untold_prefix xs ys untold.1)
+  pub untold_prefix : (xs ys : Rows) → AreWithoutOrders (xs ++ ys) → AreWithoutOrders xs
+  untold_prefix [] ys without_orders = tt
+  untold_prefix (x ∷ xs) ys without_orders = (without_orders.0, untold_prefix xs ys without_orders.1)
 
-  pub journal_fixed : (rows : Rows) → AreUntold rows → Lawful as_nodes words scenario rows → IsFixedJournal scenario rows
-  journal_fixed rows untold lawful =
-      lawful-induction (system_of as_nodes words scenario) (λ (xs : Rows). AreUntold xs → IsFixedJournal scenario xs)
-      (λ xs row keeps step more. (let parts = untold_parts xs row more in next_fixed xs row parts.1 (keeps parts.0) step)) (schedule scenario) rows (λ _. first_fixed) lawful untold
+  pub journal_fixed : (rows : Rows) → AreWithoutOrders rows → Lawful as_nodes words scenario rows → IsFixedJournal scenario rows
+  journal_fixed rows without_orders lawful =
+      lawful-induction (system_of as_nodes words scenario) (λ (xs : Rows). AreWithoutOrders xs → IsFixedJournal scenario xs)
+      (λ xs row keeps step more. (let parts = untold_parts xs row more in next_fixed xs row parts.1 (keeps parts.0) step)) (schedule scenario) rows (λ _. first_fixed) lawful without_orders

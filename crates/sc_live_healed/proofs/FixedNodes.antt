@@ -198,11 +198,11 @@ module _ (bases : List Base) (fresh : AreFresh bases) (node : NodeState) (k : Is
       let one = one_ticks drawer r mails k.0 in
       let place : Place = tick_row false drawer (r, []) in
       let now : One place.0 = out bases fresh node.me k.0.0 k.0.1 k.0.2 place one.0 in
-      let is = sym one.1 in
+      let fact = sym one.1 in
       let more : Each (IsFixedMail bases) (mails ++ place.1) = Each-append (IsFixedMail bases) mails place.1 s (group_said bases fresh node.me k.0.0 k.0.1 place.1 one.0.said) in
-      let rest = all_tick (names_after_tick false drawer r) replicas (tick_row false drawer (r, mails)).1 k.1 (subst (λ (p : Place). Each (IsFixedMail bases) p.1) is more) in record {
-        all = (subst (λ (p : Place). One p.0) is now, rest.all);
-        names = λ name h. has_for name (tick_row false drawer (r, mails)).0 r replicas _ (subst (λ (p : Place). name_of p.0 ≡ name_of r) is (ap (λ (core : Core). core.id) one.0.fixed.group ∙ sym (name_one bases fresh node.me r k.0))) (λ q. rest.names name q) h;
+      let rest = all_tick (names_after_tick false drawer r) replicas (tick_row false drawer (r, mails)).1 k.1 (subst (λ (p : Place). Each (IsFixedMail bases) p.1) fact more) in record {
+        all = (subst (λ (p : Place). One p.0) fact now, rest.all);
+        names = λ name h. has_for name (tick_row false drawer (r, mails)).0 r replicas _ (subst (λ (p : Place). name_of p.0 ≡ name_of r) fact (ap (λ (core : Core). core.id) one.0.fixed.group ∙ sym (name_one bases fresh node.me r k.0))) (λ q. rest.names name q) h;
         said = rest.said;
       }
 

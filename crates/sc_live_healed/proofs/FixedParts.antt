@@ -84,7 +84,7 @@ module _ (base : Base) (me : ℕ) (fresh : IsFresh base me) where
   refusal_fine (Some into) core running hint op answer e same off r = absurd (cc)
   refusal_fine None core false hint op answer e same off r =
       let leader = off refl in
-      let is : Says.NotLeader (Some leader.0) ≡ answer = (let h = leader.1 in cc) in subst Fine is leader.2
+      let fact : Says.NotLeader (Some leader.0) ≡ answer = (let h = leader.1 in cc) in subst Fine fact leader.2
   refusal_fine None core true hint op answer e same off r =
       opt_some Fine (cond (admits_requests core.lock && not (holds_key core.arc (key_of op))) (Some (Says.NotMine core.arc core.succ)) None) answer r
       (either_way (λ (o : Option AnswerBody). Opt Fine o) (admits_requests core.lock && not (holds_key core.arc (key_of op))) (Some (Says.NotMine core.arc core.succ)) None (ap (λ (c : Core). c.arc) same, ap (λ (c : Core). c.succ) same) tt)
@@ -131,11 +131,11 @@ module _ (base : Base) where
   must_fixed slot command leader e f = by (names_above slot leader.reports) (choice slot leader.reports) refl e
     where
       by : (above : Bool) (o : Option (Report Command)) → choice slot leader.reports ≡ o → must_without above (option_map (λ (report : Report Command). report.value) o) ≡ Value command → Fixed command
-      by above (Some best) is q =
+      by above (Some best) fact q =
           let same : best.value ≡ command = cc in
-          subst Fixed same (Each-among (λ (report : Report Command). Fixed report.value) leader.reports best f (choice_among slot leader.reports best is).0)
-      by true None is q = absurd (cc)
-      by false None is q = absurd (cc)
+          subst Fixed same (Each-among (λ (report : Report Command). Fixed report.value) leader.reports best f (choice_among slot leader.reports best fact).0)
+      by true None fact q = absurd (cc)
+      by false None fact q = absurd (cc)
 
   pub ready_fixed : (ready : List (ℕ × Command)) (slot : ℕ) (command : Command) → at_slot ready slot ≡ Some command → Each (λ (entry : ℕ × Command). Fixed entry.1) ready → Fixed command
   ready_fixed ready slot command e f = opt_some Fixed (at_slot ready slot) command e (opt_slot Fixed ready slot f)

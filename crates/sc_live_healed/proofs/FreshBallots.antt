@@ -19,12 +19,12 @@ use Rattle.sc_law_groups.proofs.WholeProofs.Lemmas.{group_place}
 use Rattle.sc_live_healed.proofs.SeatBirths.{seat_born}
 use Rattle.sc_live_healed.proofs.FixedNodes.{AreFresh, MayTake}
 use Rattle.sc_live_healed.proofs.FixedBirths.{groups_fresh}
-use Rattle.sc_live_healed.proofs.FixedJournals.{Rows, IsOf, IsFixedPlayer, Brings, AreUntold, untold_parts, brings, given}
+use Rattle.sc_live_healed.proofs.FixedJournals.{Rows, IsOf, IsFixedPlayer, Brings, AreWithoutOrders, untold_parts, brings, given}
 use Rattle.sc_live_healed.proofs.MovedReplicas.{AsksWithin, Brings as BringsBallot, within_more}
 use Rattle.sc_live_healed.proofs.NearJournals.{IsNearJournal, journal_near}
-use Rattle.sc_live_healed.proofs.NodeMail.{mail_taken}
+use Rattle.sc_live_healed.proofs.FixedGroupMail.{mail_taken}
 use Rattle.sc_live_healed.proofs.NodeTicks.{NoneNamed, OneNamed, put_one, tick_one}
-use Rattle.sc_live_healed.proofs.PlayerRows.{View, HasOne, Rises, PlayerRow, player_rows}
+use Rattle.sc_live_healed.proofs.ActorRows.{View, HasOne, Rises, PlayerRow, player_rows}
 use Rattle.sc_live_healed.proofs.DeliveredViews.{view, seat_view}
 use Rattle.sc_live_healed.specs.Definitions.{IsFixedBody, IsFixedMail}
 
@@ -152,8 +152,8 @@ module _ (words : ℕ → ℕ → ℕ × ℕ) (scenario : Scenario) (bounded : I
           → (seat : Seat Player) × IsOf scenario seat × (seat.who ≡ who) × (ViewOf (value player_table seat rows) ≡ Some r)
       by None f q = absurd (cc)
       by (Some seat) f q =
-          let is : seat.who ≡ who = find-who (births as_nodes scenario) who seat f in
-          (seat, ap (λ (n : ℕ). find (λ (other : Seat Player). eqb other.who n) (births as_nodes scenario)) is ∙ f, is, q)
+          let fact : seat.who ≡ who = find-who (births as_nodes scenario) who seat f in
+          (seat, ap (λ (n : ℕ). find (λ (other : Seat Player). eqb other.who n) (births as_nodes scenario)) fact ∙ f, fact, q)
 
   pub seen_at : (rows : Rows) (seat : Seat Player) → IsOf scenario seat → seen rows seat.who ≡ ViewOf (value player_table seat rows)
   seen_at rows seat is_of = ap (λ (o : Option (Seat Player)). seat_view words scenario bounded base among rows o) is_of
@@ -196,7 +196,7 @@ module _ (words : ℕ → ℕ → ℕ × ℕ) (scenario : Scenario) (bounded : I
   one_acts sent who p (Drop number) s b k one = one
   one_acts sent who p (Again number) s b k one = one
 
-  module _ (rows : Rows) (row : Row Mail OrderLine) (untold : is_told row.event ≡ false) (bound : ℕ) (near : IsNearJournal scenario bound rows) (now : HasFreshBallots rows) (step : IsStep (system_of as_nodes words scenario) rows row) where
+  module _ (rows : Rows) (row : Row Mail OrderLine) (without_orders : is_told row.event ≡ false) (bound : ℕ) (near : IsNearJournal scenario bound rows) (now : HasFreshBallots rows) (step : IsStep (system_of as_nodes words scenario) rows row) where
     abbrev later : Rows
     later = rows ++ row ∷ []
 
@@ -204,7 +204,7 @@ module _ (words : ℕ → ℕ → ℕ × ℕ) (scenario : Scenario) (bounded : I
     acts seat = acted player_table (value player_table seat rows) (input_of (mails rows) row.event)
 
     brings_it : (seat : Seat Player) → row.who ≡ seat.who → Brings (mails rows) seat.who row.event
-    brings_it seat same = brings words scenario bounded off rows row untold near.fixed seat.who same step
+    brings_it seat same = brings words scenario bounded off rows row without_orders near.fixed seat.who same step
 
     player_row : (seat : Seat Player) → IsOf scenario seat → row.who ≡ seat.who → PlayerRow words scenario bounded off base among (mails rows) seat.who (value player_table seat rows) (acts seat)
     player_row seat is_of same =
@@ -272,10 +272,10 @@ module _ (words : ℕ → ℕ → ℕ × ℕ) (scenario : Scenario) (bounded : I
 
   -- ---- all rows
 
-  pub ballots_fresh : (rows : Rows) → AreUntold words scenario bounded off rows → Lawful as_nodes words scenario rows → HasFreshBallots rows
-  ballots_fresh rows untold lawful =
-      lawful-induction (system_of as_nodes words scenario) (λ (xs : Rows). AreUntold words scenario bounded off xs → Lawful as_nodes words scenario xs → HasFreshBallots xs)
+  pub ballots_fresh : (rows : Rows) → AreWithoutOrders words scenario bounded off rows → Lawful as_nodes words scenario rows → HasFreshBallots rows
+  ballots_fresh rows without_orders lawful =
+      lawful-induction (system_of as_nodes words scenario) (λ (xs : Rows). AreWithoutOrders words scenario bounded off xs → Lawful as_nodes words scenario xs → HasFreshBallots xs)
       (λ xs row keeps step more l. (
       let parts = untold_parts words scenario bounded off xs row more in
       let first = lawful-prefix (system_of as_nodes words scenario) (schedule scenario) xs (row ∷ []) l in
-      next_ballots xs row parts.1 (1 + 4 * length xs) (journal_near words scenario bounded off xs parts.0 first) (keeps parts.0 first) step)) (schedule scenario) rows (λ _ _. first_ballots) lawful untold lawful
+      next_ballots xs row parts.1 (1 + 4 * length xs) (journal_near words scenario bounded off xs parts.0 first) (keeps parts.0 first) step)) (schedule scenario) rows (λ _ _. first_ballots) lawful without_orders lawful

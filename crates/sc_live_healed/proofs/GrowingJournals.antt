@@ -20,10 +20,10 @@ use Rattle.sc_scenario.specs.scenario.Definitions.{IsBounded}
 use Rattle.sc_meaning.specs.sound.Definitions.{Lawful, Player, as_nodes, player_table, schedule, system_of}
 use Rattle.sc_live_orderly.specs.Definitions.{is_told}
 use Rattle.sc_live_healed.proofs.SeatBirths.{seat_born}
-use Rattle.sc_live_healed.proofs.FixedJournals.{Rows, IsFixedPlayer, IsOf, IsFixedJournal, Brings, fresh, given, first_fixed, brings, next_fixed, AreUntold, untold_parts}
+use Rattle.sc_live_healed.proofs.FixedJournals.{Rows, IsFixedPlayer, IsOf, IsFixedJournal, Brings, fresh, given, first_fixed, brings, next_fixed, AreWithoutOrders, untold_parts}
 use Rattle.sc_live_healed.specs.Definitions.{IsFixedBody, IsFixedMail, IsFixedNode}
 use Rattle.sc_live_healed.proofs.FixedNodes.{AreFresh, MayTake, One, into, one_ticks}
-use Rattle.sc_live_healed.proofs.NodeMail.{TakesMail, PassesMail, mail_taken}
+use Rattle.sc_live_healed.proofs.FixedGroupMail.{TakesMail, PassesMail, mail_taken}
 use Rattle.sc_live_healed.proofs.FixedWalks.{IsFresh, IsFixedPlace}
 
 -- What is said of a replica and of a mail within a bound, and that it goes on: a bound that is greater by what a row adds will do, replicas are born within the first one, and each row of a replica leaves it and its mails within the next one.
@@ -77,10 +77,10 @@ module _ (g : Growth) (bases : List Base) (fresh : AreFresh bases) (node : NodeS
       let one = here.0 in
       let place : Place = tick_row false drawer (r, []) in
       let now = g.ticked_so one.0 node.me (fresh.each one.0 one.1 node.me one.2) bound drawer r (into bases fresh node.me r one) n.0 in
-      let is = sym (one_ticks bases fresh node k drawer r mails one).1 in
+      let fact = sym (one_ticks bases fresh node k drawer r mails one).1 in
       let said : Said (mails ++ place.1) = Each-append (λ (mail : Mail). g.Names (bound + g.adds) mail.body) mails place.1 s now.1 in
-      let rest = tick_near (names_after_tick false drawer r) replicas (tick_row false drawer (r, mails)).1 here.1 n.1 (subst (λ (p : Place). Said p.1) is said) in
-      ((subst (λ (p : Place). After p.0) is now.0, rest.0), rest.1)
+      let rest = tick_near (names_after_tick false drawer r) replicas (tick_row false drawer (r, mails)).1 here.1 n.1 (subst (λ (p : Place). Said p.1) fact said) in
+      ((subst (λ (p : Place). After p.0) fact now.0, rest.0), rest.1)
 
   pub steps_near : (input : Input Mail OrderLine) → node.policy ≡ false → MayTake bases node.me input → ((mail : Mail) → input ≡ Got mail → g.Names bound mail.body) → Each Before node.replicas → NodeAfter (node_table node input)
   steps_near (Got mail) off m names n = by_mail mail (names mail refl) n (mail_taken bases fresh node k mail m.0 m.1)
@@ -156,10 +156,10 @@ module _ (g : Growth) (words : ℕ → ℕ → ℕ × ℕ) (scenario : Scenario)
     acts sent who p (Drop number) s names b k n = stays p n
     acts sent who p (Again number) s names b k n = stays p n
 
-    module _ (rows : Rows) (row : Row Mail OrderLine) (untold : is_told row.event ≡ false) (now : IsGrownJournal g scenario bound rows) where
+    module _ (rows : Rows) (row : Row Mail OrderLine) (without_orders : is_told row.event ≡ false) (now : IsGrownJournal g scenario bound rows) where
       row_acts : (who : ℕ) → row.who ≡ who → IsStep (system_of as_nodes words scenario) rows row → (seat : Seat Player) → seat.who ≡ who → IsOf scenario seat → Acted (acted player_table (value player_table seat rows) (input_of (mails rows) row.event))
-      row_acts who same step seat is is_of =
-          acts (mails rows) seat.who (value player_table seat rows) row.event now.fixed.sent now.sent (brings words scenario bounded off rows row untold now.fixed seat.who (same ∙ sym is) step) (now.fixed.players seat is_of) (now.players seat is_of)
+      row_acts who same step seat fact is_of =
+          acts (mails rows) seat.who (value player_table seat rows) row.event now.fixed.sent now.sent (brings words scenario bounded off rows row without_orders now.fixed seat.who (same ∙ sym fact) step) (now.fixed.players seat is_of) (now.players seat is_of)
 
       row_sent : IsStep (system_of as_nodes words scenario) rows row → Each (λ (mail : Mail). g.Names (bound + g.adds) mail.body) row.sent
       row_sent (inl step) =
@@ -171,7 +171,7 @@ module _ (g : Growth) (words : ℕ → ℕ → ℕ × ℕ) (scenario : Scenario)
 
       next_near : IsStep (system_of as_nodes words scenario) rows row → IsGrownJournal g scenario (bound + g.adds) (rows ++ row ∷ [])
       next_near step = record {
-        fixed = next_fixed words scenario bounded off rows row untold now.fixed step;
+        fixed = next_fixed words scenario bounded off rows row without_orders now.fixed step;
         sent = subst (λ (ms : List Mail). Each (λ (mail : Mail). g.Names (bound + g.adds) mail.body) ms) (sym (mails-snoc rows row))
             (Each-append (λ (mail : Mail). g.Names (bound + g.adds) mail.body) (mails rows) row.sent
             (Each-weaker (λ (mail : Mail). g.Names bound mail.body) (λ (mail : Mail). g.Names (bound + g.adds) mail.body) (λ mail n. g.names_more bound mail.body n) (mails rows) now.sent) (row_sent step));
@@ -182,10 +182,10 @@ module _ (g : Growth) (words : ℕ → ℕ → ℕ × ℕ) (scenario : Scenario)
 
   -- ---- all rows
 
-  pub journal_grown : (rows : Rows) → AreUntold words scenario bounded off rows → Lawful as_nodes words scenario rows → IsGrownJournal g scenario (g.bound_at (length rows)) rows
-  journal_grown rows untold lawful =
-      lawful-induction (system_of as_nodes words scenario) (λ (xs : Rows). AreUntold words scenario bounded off xs → IsGrownJournal g scenario (g.bound_at (length xs)) xs)
+  pub journal_grown : (rows : Rows) → AreWithoutOrders words scenario bounded off rows → Lawful as_nodes words scenario rows → IsGrownJournal g scenario (g.bound_at (length rows)) rows
+  journal_grown rows without_orders lawful =
+      lawful-induction (system_of as_nodes words scenario) (λ (xs : Rows). AreWithoutOrders words scenario bounded off xs → IsGrownJournal g scenario (g.bound_at (length xs)) xs)
       (λ xs row keeps step more. (
       let parts = untold_parts words scenario bounded off xs row more in
       let same : g.bound_at (length xs) + g.adds ≡ g.bound_at (length (xs ++ row ∷ [])) = g.then_ (length xs) ∙ ap g.bound_at (sym (length_push xs row)) in
-      subst (λ (n : ℕ). IsGrownJournal g scenario n (xs ++ row ∷ [])) same (next_near (g.bound_at (length xs)) xs row parts.1 (keeps parts.0) step))) (schedule scenario) rows (λ _. first_near) lawful untold
+      subst (λ (n : ℕ). IsGrownJournal g scenario n (xs ++ row ∷ [])) same (next_near (g.bound_at (length xs)) xs row parts.1 (keeps parts.0) step))) (schedule scenario) rows (λ _. first_near) lawful without_orders

@@ -19,7 +19,7 @@ use Rattle.sc_live_orderly.specs.Definitions.{Ticks, Turn, turn_lines, HasTurns}
 use Rattle.sc_live_orderly.proofs.TakenTurns.{turns_taken}
 use Rattle.sc_live_healed.proofs.FixedNodes.{AreFresh, IsOne, name_one}
 use Rattle.sc_live_healed.proofs.FixedBirths.{groups_fresh}
-use Rattle.sc_live_healed.proofs.FixedJournals.{Rows, IsOf, IsFixedPlayer, AreUntold, untold_prefix, journal_fixed}
+use Rattle.sc_live_healed.proofs.FixedJournals.{Rows, IsOf, IsFixedPlayer, AreWithoutOrders, untold_prefix, journal_fixed}
 use Rattle.sc_live_healed.proofs.FreshBallots.{ballots_fresh, seen_at}
 use Rattle.sc_live_healed.proofs.DeliveredViews.{player_view}
 use Rattle.sc_live_healed.proofs.GrowingJournals.{PlayerGrown, journal_grown}
@@ -29,10 +29,10 @@ use Rattle.sc_live_healed.proofs.LivingActors.{turns_kind}
 use Rattle.sc_live_healed.proofs.LivingSeats.{node_is_found, living_node, living_gets, living_majority}
 use Rattle.sc_live_healed.proofs.NearRounds.{rounds_grow}
 use Rattle.sc_live_healed.proofs.NodeTicks.{OneNamed}
-use Rattle.sc_live_healed.proofs.PlayerRows.{HasOne}
+use Rattle.sc_live_healed.proofs.ActorRows.{HasOne}
 use Rattle.sc_live_healed.proofs.SettledTurns.{HasTicked, turns_settle}
 use Rattle.sc_live_healed.proofs.ShorterSchedules.{WholePrefix, whole_prefix}
-use Rattle.sc_live_healed.proofs.UntoldRows.{rows_untold}
+use Rattle.sc_live_healed.proofs.RowsWithoutOrders.{rows_untold}
 use Rattle.sc_live_healed.proofs.VotesOfTurns.{IsTicked}
 use Rattle.sc_live_healed.specs.Definitions.{lives, HasLivingMajorities, NodeTurn, ClientTurn, client_lines, IsHealed, IsIdle, IsSettledOrStopped, IsIdleLeader, IsIdleStore, IsAtEnd, StaysIdle}
 
@@ -75,7 +75,7 @@ module _ (words : ℕ → ℕ → ℕ × ℕ) (scenario : Scenario) (bounded : I
 
   -- ---- behind turns of a lawful journal
 
-  module _ (before rows : Rows) (turns : List Turn) (t : HasTurns s before turns rows) (lawful : Lawful as_nodes words scenario rows) (untold : AreUntold words scenario bounded off rows) (few : length rows ≤ 2 ^ 28) (ticked : (who : ℕ) → lives scenario who ≡ true → TicksOf who turns) where
+  module _ (before rows : Rows) (turns : List Turn) (t : HasTurns s before turns rows) (lawful : Lawful as_nodes words scenario rows) (without_orders : AreWithoutOrders words scenario bounded off rows) (few : length rows ≤ 2 ^ 28) (ticked : (who : ℕ) → lives scenario who ≡ true → TicksOf who turns) where
     few_slots : 1 + 4 * length rows ≤ last_slot
     few_slots = omega (arith, few)
 
@@ -83,15 +83,15 @@ module _ (words : ℕ → ℕ → ℕ × ℕ) (scenario : Scenario) (bounded : I
     gets who l = (let all = turns_kind s before turns rows t in living_gets scenario words before (lawful-prefix s (schedule scenario) before all.0 (subst (Lawful as_nodes words scenario) all.1 lawful)) who l)
 
     rounds : (first later : Rows) → rows ≡ first ++ later → HaveRounds scenario first
-    rounds first later e seat is_of node is =
+    rounds first later e seat is_of node fact =
         let l = lawful-prefix s (schedule scenario) first later (subst (Lawful as_nodes words scenario) e lawful) in
-        let u = untold_prefix words scenario bounded off first later (subst (AreUntold words scenario bounded off) e untold) in
+        let u = untold_prefix words scenario bounded off first later (subst (AreWithoutOrders words scenario bounded off) e without_orders) in
         let parts = ap length e ∙ length-append first later in
-        let grown : PlayerGrown rounds_grow (1 + length first) (Node node) = subst (PlayerGrown rounds_grow (1 + length first)) is ((journal_grown rounds_grow words scenario bounded off first u l).players seat is_of) in
+        let grown : PlayerGrown rounds_grow (1 + length first) (Node node) = subst (PlayerGrown rounds_grow (1 + length first)) fact ((journal_grown rounds_grow words scenario bounded off first u l).players seat is_of) in
         Each-from (λ (r : ReplicaState). r.top.round ≡ 2 ^ 32 - 1 → ⊥) node.replicas (λ r a top. (let low : r.top.round ≤ 1 + length first = Each-among (λ (x : ReplicaState). x.top.round ≤ 1 + length first) node.replicas r grown a in omega (arith, low, top, parts, few)))
 
-    module _ (seat : Seat Player) (is_of : IsOf scenario seat) (node : NodeState) (is : value player_table seat rows ≡ Node node) (living : lives scenario seat.who ≡ true) where
-      ticks_settled : (base : Base) (among : Among base scenario.groups) (ts : List Turn) → TicksOf seat.who ts → HasTicked words scenario bounded off rows lawful untold few_slots base among (lives scenario) (living_majority scenario majorities base among) seat is_of (are_nodes seat.who living) living ts
+    module _ (seat : Seat Player) (is_of : IsOf scenario seat) (node : NodeState) (fact : value player_table seat rows ≡ Node node) (living : lives scenario seat.who ≡ true) where
+      ticks_settled : (base : Base) (among : Among base scenario.groups) (ts : List Turn) → TicksOf seat.who ts → HasTicked words scenario bounded off rows lawful without_orders few_slots base among (lives scenario) (living_majority scenario majorities base among) seat is_of (are_nodes seat.who living) living ts
       ticks_settled base among [] k = absurd k
       ticks_settled base among (turn ∷ ts) (inl mine) = inl mine
       ticks_settled base among (turn ∷ ts) (inr k) = inr (ticks_settled base among ts k)
@@ -102,21 +102,21 @@ module _ (words : ℕ → ℕ → ℕ × ℕ) (scenario : Scenario) (bounded : I
       ticks_voted (turn ∷ ts) (inr k) = inr (ticks_voted ts k)
 
       k : IsFixedPlayer scenario.groups seat.who (Node node)
-      k = subst (IsFixedPlayer scenario.groups seat.who) is ((journal_fixed words scenario bounded off rows untold lawful).players seat is_of)
+      k = subst (IsFixedPlayer scenario.groups seat.who) fact ((journal_fixed words scenario bounded off rows without_orders lawful).players seat is_of)
 
       -- a replica of the node that runs is settled and idle
       replica_both : (r : ReplicaState) → Among r node.replicas → r.running ≡ true → IsIdleLeader r × IsIdle r
       replica_both r a on =
           let one : IsOne scenario.groups fresh node.me r = Each-among (IsOne scenario.groups fresh node.me) node.replicas r k.2.replicas a in
           let base : Base = one.0 in
-          let once : OneNamed name_of base.core.id node.replicas = subst (λ (p : Player). HasOne words scenario bounded off base one.1 p) is ((ballots_fresh words scenario bounded off base one.1 rows untold lawful).once seat is_of) in
+          let once : OneNamed name_of base.core.id node.replicas = subst (λ (p : Player). HasOne words scenario bounded off base one.1 p) fact ((ballots_fresh words scenario bounded off base one.1 rows without_orders lawful).once seat is_of) in
           let found : replica_of base.core.id node.replicas ≡ Some r = found_once base.core.id node.replicas r once a (name_one scenario.groups fresh node.me r one) in
           let most = living_majority scenario majorities base one.1 in
           let settles : IsSettledOrStopped r =
-          turns_settle words scenario bounded off rows lawful untold few_slots base one.1 (lives scenario) most seat is_of (are_nodes seat.who living) living before turns rows [] (sym (append-nil rows)) t gets (inr (ticks_settled base one.1 turns (ticked seat.who living)))
-          r (seen_at words scenario bounded off base one.1 rows seat is_of ∙ (ap (λ (p : Player). player_view words scenario bounded base one.1 p) is ∙ found)) in
+          turns_settle words scenario bounded off rows lawful without_orders few_slots base one.1 (lives scenario) most seat is_of (are_nodes seat.who living) living before turns rows [] (sym (append-nil rows)) t gets (inr (ticks_settled base one.1 turns (ticked seat.who living)))
+          r (seen_at words scenario bounded off base one.1 rows seat is_of ∙ (ap (λ (p : Player). player_view words scenario bounded base one.1 p) fact ∙ found)) in
           let idle : IsIdle r =
-          living_replicas_idle words scenario bounded off (lives scenario) are_nodes seat is_of living before turns rows t lawful untold gets few_slots rounds (ticks_voted turns (ticked seat.who living)) node is base one.1 most r found settles on in
+          living_replicas_idle words scenario bounded off (lives scenario) are_nodes seat is_of living before turns rows t lawful without_orders gets few_slots rounds (ticks_voted turns (ticked seat.who living)) node fact base one.1 most r found settles on in
           (record { leads = settles on; flights = idle.flights; ready = idle.ready; acts = idle.acts; backlog = idle.backlog }, idle)
 
       replica_idle : (r : ReplicaState) → Among r node.replicas → r.running ≡ true → IsIdleLeader r
@@ -127,10 +127,10 @@ module _ (words : ℕ → ℕ → ℕ × ℕ) (scenario : Scenario) (bounded : I
       replicas_rest = Each-from (λ (r : ReplicaState). r.running ≡ true → IsIdle r) node.replicas (λ r a on. (replica_both r a on).1)
 
     pub store_idle : IsIdleStore scenario rows
-    store_idle seat node a is l =
-        let is_of = node_is_found scenario seat a rows node is in
-        let mine : IsFixedPlayer scenario.groups seat.who (Node node) = subst (IsFixedPlayer scenario.groups seat.who) is ((journal_fixed words scenario bounded off rows untold lawful).players seat is_of) in
-        Each-from (λ (r : ReplicaState). r.running ≡ true → IsIdleLeader r) node.replicas (replica_idle seat is_of node is (subst (λ (who : ℕ). lives scenario who ≡ true) mine.0 l))
+    store_idle seat node a fact l =
+        let is_of = node_is_found scenario seat a rows node fact in
+        let mine : IsFixedPlayer scenario.groups seat.who (Node node) = subst (IsFixedPlayer scenario.groups seat.who) fact ((journal_fixed words scenario bounded off rows without_orders lawful).players seat is_of) in
+        Each-from (λ (r : ReplicaState). r.running ≡ true → IsIdleLeader r) node.replicas (replica_idle seat is_of node fact (subst (λ (who : ℕ). lives scenario who ≡ true) mine.0 l))
 
 -- ---- the lines that heal
 

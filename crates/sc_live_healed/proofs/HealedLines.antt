@@ -12,7 +12,7 @@ use Rattle.sc_scenario.specs.declared.scenario.scenarios.SchedLine.TheVariants.{
 use Rattle.sc_meaning.specs.sound.Definitions.{line_of, schedule}
 use Rattle.sc_live_orderly.specs.Definitions.{Kick, Ticks, Starts, Turn, kick_line, turn_lines}
 use Rattle.sc_live_orderly.proofs.PassedTasks.{flat_append}
-use Rattle.sc_live_healed.proofs.UntoldRows.{IsUntold, Spares}
+use Rattle.sc_live_healed.proofs.RowsWithoutOrders.{IsWithoutOrders, Spares}
 use Rattle.sc_live_healed.specs.Definitions.{crashes, is_order, lives, NodeTurn, ClientTurn, node_lines, client_line, client_lines, IsHealed}
 
 -- the turn of a node, and of a client
@@ -73,7 +73,7 @@ or_none : (a b : Bool) → (a || b) ≡ false → (a ≡ false) × (b ≡ false)
 or_none false b e = (refl, e)
 or_none true b e = absurd (cc)
 
-line_untold : (line : SchedLine) → is_order line ≡ false → IsUntold (line_of line)
+line_untold : (line : SchedLine) → is_order line ≡ false → IsWithoutOrders (line_of line)
 line_untold (Told node order) e = absurd (cc)
 line_untold (Go client) e = refl
 line_untold (Deliver who k) e = refl
@@ -85,23 +85,23 @@ line_untold (Settle most) e = refl
 line_untold (Free most workers) e = refl
 line_untold (Storm number most) e = refl
 
-lines_untold : (lines : List SchedLine) → list_any is_order lines ≡ false → Each IsUntold (map line_of lines)
+lines_untold : (lines : List SchedLine) → list_any is_order lines ≡ false → Each IsWithoutOrders (map line_of lines)
 lines_untold [] e = tt
 lines_untold (line ∷ lines) e = (let p = or_none (is_order line) (list_any is_order lines) e in (line_untold line p.0, lines_untold lines p.1))
 
-turns_untold : (turns : List Turn) → Each (IsUntold {O = OrderLine}) (flat_map turn_lines turns)
+turns_untold : (turns : List Turn) → Each (IsWithoutOrders {O = OrderLine}) (flat_map turn_lines turns)
 turns_untold [] = tt
 turns_untold (turn ∷ turns) = (by turn.kick, (refl, turns_untold turns))
   where
-    by : (kick : Kick) → IsUntold {O = OrderLine} (kick_line kick turn.who)
+    by : (kick : Kick) → IsWithoutOrders {O = OrderLine} (kick_line kick turn.who)
     by Ticks = refl
     by Starts = refl
 
 -- no line that heals gives an order
-pub healed_untold : (scenario : Scenario) → IsHealed scenario → Each IsUntold (schedule scenario)
+pub healed_untold : (scenario : Scenario) → IsHealed scenario → Each IsWithoutOrders (schedule scenario)
 healed_untold scenario h =
-    subst (Each IsUntold) (sym (ap (λ ls. map line_of ls) h.lines_are ∙ lines_are_turns h.before h.most h.sweep h.asks))
-    (Each-append IsUntold (map line_of h.before) (SettleLine h.most ∷ flat_map turn_lines (turns_of h.sweep h.asks)) (lines_untold h.before h.no_orders) (refl, turns_untold (turns_of h.sweep h.asks)))
+    subst (Each IsWithoutOrders) (sym (ap (λ ls. map line_of ls) h.lines_are ∙ lines_are_turns h.before h.most h.sweep h.asks))
+    (Each-append IsWithoutOrders (map line_of h.before) (SettleLine h.most ∷ flat_map turn_lines (turns_of h.sweep h.asks)) (lines_untold h.before h.no_orders) (refl, turns_untold (turns_of h.sweep h.asks)))
 
 -- ---- no crashes
 

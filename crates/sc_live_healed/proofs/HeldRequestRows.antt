@@ -9,9 +9,9 @@ use Rattle.sc_node_table.specs.Definitions.{ReplicaState, Place, next, jumped, w
 use Rattle.sc_law_walks.proofs.Queues.{turned_sets}
 use Rattle.sc_law_walks.proofs.Lemmas.{back_any, entered_me, entered_group, entered_next, cleared, entered_place, promise_flights}
 use Rattle.sc_words.proofs.PaxosProofs.Lemmas.{Each-among}
-use Rattle.sc_live_plain.proofs.RowsProofs.SlotCounts.{at_found, entries_at}
+use Rattle.sc_live_plain.proofs.PlainRowsProofs.SlotCounts.{at_found, entries_at}
 use Rattle.sc_live_plain.proofs.LeadersProofs.LeadingReplicas.{flights_at}
-use Rattle.sc_live_plain.proofs.RowsProofs.RepeatedMail.{mail_of, among_push, last_among, all_kept, others_kept}
+use Rattle.sc_live_plain.proofs.PlainRowsProofs.RepeatedMail.{mail_of, among_push, last_among, all_kept, others_kept}
 use Rattle.sc_live_healed.specs.Definitions.{IsFixedCommand, IsFixedRequest}
 use Rattle.sc_live_healed.proofs.FixedWalks.{FixedWalk}
 use Rattle.sc_live_healed.proofs.FixedParts.{ready_fixed, never_turned, applied_core}
@@ -151,15 +151,15 @@ module _ (base : Base) (me client seq : ℕ) (Elsewhere : Type 0) (f : FixedWalk
 
     -- it is answered
     answered_step : (c s : ℕ) (op : Op) (o : Option AnswerBody) → answer_of (applied r.group command).1 ≡ o → command ≡ Call c s op → is_call client seq command ≡ false → M (entered_place true command (r, mails))
-    answered_step c s op (Some answer) is same no_call =
+    answered_step c s op (Some answer) fact same no_call =
         other r e0 (mails ++ mail_of e0.me (client_actor c) (Answer e0.group.core.id s answer) ∷ [])
-        (ap (λ q. answered_or_put_back q command (e0, mails)) is ∙ ap (λ x. answered_or_put_back (Some answer) x (e0, mails)) same ∙ answers_so c s op answer e0 mails)
+        (ap (λ q. answered_or_put_back q command (e0, mails)) fact ∙ ap (λ x. answered_or_put_back (Some answer) x (e0, mails)) same ∙ answers_so c s op answer e0 mails)
         refl refl refl refl refl parts.0 parts.1 (entered_next command r) parts.2 (parts.3 ∙ on) no_call (λ h. h) (λ mail a. among_push mails _ mail a)
-    answered_step c s op None is same no_call =
+    answered_step c s op None fact same no_call =
         let b = back_group (Call c s op) r in
         let be = back_group (Call c s op) e0 in
         other (put_back (Call c s op) r) (put_back (Call c s op) e0) mails
-        (ap (λ q. answered_or_put_back q command (e0, mails)) is ∙ ap (λ x. answered_or_put_back None x (e0, mails)) same ∙ back_so c s op e0 mails)
+        (ap (λ q. answered_or_put_back q command (e0, mails)) fact ∙ ap (λ x. answered_or_put_back None x (e0, mails)) same ∙ back_so c s op e0 mails)
         be.0 b.1 b.2 b.3 b.4 (be.1 ∙ parts.0 ∙ sym b.1) (be.2 ∙ parts.1 ∙ sym b.2) (be.3 ∙ entered_next command r) (same_backlog c s op r e0 parts.2) (back_runs (Call c s op) e0 true (parts.3 ∙ on)) no_call
         (λ h. back_held client seq (Call c s op) r (subst (IsAtMost client seq) same low_ready) h) (λ mail a. a)
 
@@ -184,11 +184,11 @@ module _ (base : Base) (me client seq : ℕ) (Elsewhere : Type 0) (f : FixedWalk
   learns_entry from group command r mails h l first unready k =
       let fixed : IsFixedCommand base command = (f.heard from (Learn group (next r) command) h).2 in
       let after : Place = landed false (next r) command (entered command r, mails) in
-      let is : entered_place false command (r, mails) ≡ after = learnt_is base command r fixed mails in
-      let after_k : f.P after = subst f.P is (f.learnt_entry from group command r mails h first k.0) in
+      let fact : entered_place false command (r, mails) ≡ after = learnt_is base command r fixed mails in
+      let after_k : f.P after = subst f.P fact (f.learnt_entry from group command r mails h first k.0) in
       let core : (entered command r).group.core ≡ base.core = ap (λ (g : Group). g.core) (entered_group command r) ∙ applied_core base command r.group fixed ∙ (f.frame (r, mails) k.0).fixed.group in
       let many : length (entered command r).sets ≡ length r.sets = entered_many command r (ap (λ (sets : List (List ℕ)). length sets) (f.frame (r, mails) k.0).fixed.sets) in
-      subst M (sym is) (
+      subst M (sym fact) (
         learnt_apart base me client seq Elsewhere command r mails k.1.0 many,
         held_by l k.1.1 after (learnt_runs base me client seq Elsewhere command r mails true) (learnt_mails base me client seq Elsewhere command r mails)
             (λ n on held. learnt_held base me client seq Elsewhere command r (few r mails k.0) k.1.0 n (unready on) mails many held),

@@ -7,12 +7,12 @@ use Rattle.sc_node_table.specs.Values.{Draw, Base, Command, AnswerBody, Value, N
 use Rattle.sc_words.specs.paxos.Definitions.{LeaderState, without_flight, flight_at}
 use Rattle.sc_words.proofs.PaxosProofs.Lemmas.{Each-among, find_found}
 use Rattle.sc_node_table.specs.Definitions.{ReplicaState, Place, next, at_slot, without_slot, flying, sent, stopped, offered, entered, forgotten, put_back, slot_lost, landed, same_command, ended, under_way, answered_all, dismissed_all}
-use Rattle.sc_node_table.proofs.Lemmas.{tells_commands}
+use Rattle.sc_node_table.proofs.Lemmas.{decides_commands}
 use Rattle.sc_law_walks.proofs.Talks.{all_answered, all_dismissed}
 use Rattle.sc_law_walks.proofs.Lemmas.{grows, either_way, back_any, entered_next, cleared}
-use Rattle.sc_live_plain.proofs.RowsProofs.SlotCounts.{at_only, at_found, at_nothing, entries_at}
+use Rattle.sc_live_plain.proofs.PlainRowsProofs.SlotCounts.{at_only, at_found, at_nothing, entries_at}
 use Rattle.sc_live_plain.proofs.LeadersProofs.LeadingReplicas.{flights_at}
-use Rattle.sc_live_plain.proofs.RowsProofs.RepeatedMail.{mail_of, among_push, all_kept}
+use Rattle.sc_live_plain.proofs.PlainRowsProofs.RepeatedMail.{mail_of, among_push, all_kept}
 use Rattle.sc_live_healed.proofs.TakenRequests.{is_call, IsAtMost, AreApart, IsOurs, IsHeld, reply_mail, flight_found, held_answered, back_held, ours_back, flight_counts, entry_counts}
 use Rattle.sc_live_healed.proofs.ApartSlots.{IsCleared, apart_cleared, cleared_held}
 
@@ -125,9 +125,9 @@ module _ (base : Base) (me client seq : ℕ) (Elsewhere : Type 0) where
     flying_low c e = by (flight_at (next r) r.leader.flights) refl e
       where
         by : (o : Option (Flight Command)) → flight_at (next r) r.leader.flights ≡ o → option_map (λ (flight : Flight Command). flight.value) o ≡ Some c → IsAtMost client seq c
-        by None is q = cc
-        by (Some flight) is q =
-            let found = find_found (λ (x : Flight Command). eqb x.slot (next r)) r.leader.flights flight is in
+        by None fact q = cc
+        by (Some flight) fact q =
+            let found = find_found (λ (x : Flight Command). eqb x.slot (next r)) r.leader.flights flight fact in
             let value : flight.value ≡ c = cc in
             subst (IsAtMost client seq) value (Each-among (λ (x : Flight Command). IsAtMost client seq x.value) r.leader.flights flight few.flights found.0)
 
@@ -135,7 +135,7 @@ module _ (base : Base) (me client seq : ℕ) (Elsewhere : Type 0) where
     lost_ours : (flight : Flight Command) (x : ReplicaState) → x.backlog ≡ r.backlog → IsOurs client seq flight.value → IsHeld client seq (slot_lost false command (Some flight.value) x)
     lost_ours flight x same ours =
         cond_both (same_command flight.value command) x (put_back flight.value x) (IsHeld client seq)
-        (λ t. absurd (both_ways (is_call client seq command) other (ap (is_call client seq) (sym ((tells_commands flight.value command).0 t)) ∙ ours)))
+        (λ t. absurd (both_ways (is_call client seq command) other (ap (is_call client seq) (sym ((decides_commands flight.value command).0 t)) ∙ ours)))
         (λ _. ours_back client seq flight.value x ours (subst (Each (IsAtMost client seq)) (sym same) few.backlog))
 
     -- what is left at the slot of a learnt entry

@@ -14,7 +14,7 @@ use Rattle.sc_live_orderly.specs.Definitions.{Turn, HasTurns}
 use Rattle.sc_live_orderly.proofs.PendingMail.{none_pending}
 use Rattle.sc_live_healed.specs.Definitions.{IsFixedReplica, VotesAreUnderWay, LivingMajority, IsIdle, IsSettledOrStopped}
 use Rattle.sc_live_healed.proofs.FixedNodes.{IsOne, name_one}
-use Rattle.sc_live_healed.proofs.FixedJournals.{Rows, IsOf, fresh, AreUntold, untold_prefix}
+use Rattle.sc_live_healed.proofs.FixedJournals.{Rows, IsOf, fresh, AreWithoutOrders, untold_prefix}
 use Rattle.sc_live_healed.proofs.LivingActors.{seats_stay_nodes, turns_kind, turns_get}
 use Rattle.sc_live_healed.proofs.NodeSlots.{found_takes}
 use Rattle.sc_live_healed.proofs.TakenJournals.{groups_rosters, IsTakenJournal, journal_taken}
@@ -69,29 +69,29 @@ module _ (words : ℕ → ℕ → ℕ × ℕ) (scenario : Scenario) (bounded : I
     nodes = λ other of lives_. seats_stay_nodes scenario bounded other of (are_nodes other.who lives_) rows;
     bounds = λ other of node e base r a found.
         (let at = find_found (λ (x : ReplicaState). same_draw (name_of x) base.core.id) node.replicas r found in
-        let is = Each-among (λ (x : ReplicaState). StaysNear bound (x, [])) node.replicas r (subst (PlayerNear bound) e (near.players other of)) at.0 in
-        record { floor = is.floored; near = (let reached = is.reached in omega (arith, reached, low)) });
+        let fact = Each-among (λ (x : ReplicaState). StaysNear bound (x, [])) node.replicas r (subst (PlayerNear bound) e (near.players other of)) at.0 in
+        record { floor = fact.floored; near = (let reached = fact.reached in omega (arith, reached, low)) });
     rounds = rounds;
   }
 
   -- a prefix of a lawful journal without orders
-  taken_prefix : (rows later : Rows) → AreUntold words scenario bounded off (rows ++ later) → Lawful as_nodes words scenario (rows ++ later) → IsTakenJournal scenario rows × IsNearJournal scenario (1 + 4 * length rows) rows
-  taken_prefix rows later untold lawful =
+  taken_prefix : (rows later : Rows) → AreWithoutOrders words scenario bounded off (rows ++ later) → Lawful as_nodes words scenario (rows ++ later) → IsTakenJournal scenario rows × IsNearJournal scenario (1 + 4 * length rows) rows
+  taken_prefix rows later without_orders lawful =
       let first = lawful-prefix (system_of as_nodes words scenario) (schedule scenario) rows later lawful in
-      (journal_taken words scenario bounded off rows (untold_prefix words scenario bounded off rows later untold) first, journal_near words scenario bounded off rows (untold_prefix words scenario bounded off rows later untold) first)
+      (journal_taken words scenario bounded off rows (untold_prefix words scenario bounded off rows later without_orders) first, journal_near words scenario bounded off rows (untold_prefix words scenario bounded off rows later without_orders) first)
 
   -- Behind turns of a lawful journal without orders, of which one is the tick of a node that is alive, each replica of the node that runs, and is settled where it runs, is idle.
-  pub living_replicas_idle : (rows : Rows) (turns : List Turn) (after : Rows) → Has rows turns after → Lawful as_nodes words scenario after → AreUntold words scenario bounded off after
+  pub living_replicas_idle : (rows : Rows) (turns : List Turn) (after : Rows) → Has rows turns after → Lawful as_nodes words scenario after → AreWithoutOrders words scenario bounded off after
       → ((who : ℕ) → alive who → may_get (numbers_of (S words scenario bounded off alive).births) rows who ≡ true) → 1 + 4 * length after ≤ last_slot → ((first later : Rows) → after ≡ first ++ later → HaveRounds scenario first)
       → IsTicked words scenario bounded off alive are_nodes seat is_of living turns → (node : NodeState) → value player_table seat after ≡ Node node
       → (base : Base) → Among base scenario.groups → LivingMajority lives base.core.members → (r : ReplicaState) → replica_of base.core.id node.replicas ≡ Some r → IsSettledOrStopped r → r.running ≡ true → IsIdle r
-  living_replicas_idle rows turns after t lawful untold gets few rounds ticked node e base a most r found settles on =
+  living_replicas_idle rows turns after t lawful without_orders gets few rounds ticked node e base a most r found settles on =
       let s = S words scenario bounded off alive in
       let lets : (more later : Rows) → after ≡ (rows ++ more) ++ later → Lets (rows ++ more) =
-      λ more later is. (
-      let both = taken_prefix (rows ++ more) later (subst (AreUntold words scenario bounded off) is untold) (subst (Lawful as_nodes words scenario) is lawful) in
-      let parts = ap length is ∙ length-append (rows ++ more) later in
-      lets_vote (rows ++ more) both.0 (λ who l. turns_get s who rows turns after more later t is (gets who l)) (1 + 4 * length (rows ++ more)) both.1 (omega (arith, few, parts)) (rounds (rows ++ more) later is)) in
+      λ more later fact. (
+      let both = taken_prefix (rows ++ more) later (subst (AreWithoutOrders words scenario bounded off) fact without_orders) (subst (Lawful as_nodes words scenario) fact lawful) in
+      let parts = ap length fact ∙ length-append (rows ++ more) later in
+      lets_vote (rows ++ more) both.0 (λ who l. turns_get s who rows turns after more later t fact (gets who l)) (1 + 4 * length (rows ++ more)) both.1 (omega (arith, few, parts)) (rounds (rows ++ more) later fact)) in
       let all = turns_kind s rows turns after t in
       let whole : after ≡ (rows ++ all.0) ++ [] = all.1 ∙ sym (append-nil (rows ++ all.0)) in
       turns_leave_idle rows turns after t lets (subst Lets (sym all.1) (lets all.0 [] whole)) ticked node e base a most r found (settles on)

@@ -5,9 +5,9 @@ pub use Rattle.sc_live_healed.proofs.FixedBesides.{FixedFacts, FixedStates, Fixe
 pub use Rattle.sc_live_healed.proofs.FixedNodes.{AreFresh, MayTake, IsOne, steps_fixed}
 pub use Rattle.sc_live_healed.proofs.FixedBirths.{groups_fresh}
 pub use Rattle.sc_live_healed.proofs.FixedClients.{client_fixed}
-pub use Rattle.sc_live_healed.proofs.FixedJournals.{Rows, IsFixedPlayer, IsOf, IsFixedJournal, AreUntold, journal_fixed}
+pub use Rattle.sc_live_healed.proofs.FixedJournals.{Rows, IsFixedPlayer, IsOf, IsFixedJournal, AreWithoutOrders, journal_fixed}
 pub use Rattle.sc_live_healed.proofs.HarmlessRows.{Harm, IsHarmless, rows_harmless}
-pub use Rattle.sc_live_healed.proofs.UntoldRows.{IsUntold, rows_untold, Spares, rows_spare}
+pub use Rattle.sc_live_healed.proofs.RowsWithoutOrders.{IsWithoutOrders, rows_untold, Spares, rows_spare}
 pub use Rattle.sc_live_healed.proofs.MovedReplicas.{AsksWithin, Brings, Moves, HasMoved, mailed_moves, pumped_moves, ticked_moves}
 pub use Rattle.sc_live_healed.proofs.PollAnswers.{Answered, polls_are_answered, refusals_stop, states_stop, mail_keeps_settled, majorities_settle, answers_count}
 pub use Rattle.sc_live_healed.proofs.SettledTicks.{tick_keeps_settled}
@@ -19,7 +19,7 @@ pub use Rattle.sc_live_healed.proofs.PollBegins.{next_ballot, elected_at_tick, m
 pub use Rattle.sc_live_healed.proofs.GrowingJournals.{Growth, PlayerGrown, IsGrownJournal, journal_grown}
 pub use Rattle.sc_live_healed.proofs.NearRounds.{NamesRound, rounds_grow}
 pub use Rattle.sc_live_healed.proofs.NodeTicks.{NoneNamed, OneNamed, TicksOne, one_of_all_ticks}
-pub use Rattle.sc_live_healed.proofs.PlayerRows.{View, HasOne, Rises, AsksSo, PlayerRow, player_rows}
+pub use Rattle.sc_live_healed.proofs.ActorRows.{View, HasOne, Rises, AsksSo, PlayerRow, player_rows}
 pub use Rattle.sc_live_healed.proofs.FreshBallots.{AsksSeen, HasFreshBallots, ballots_fresh}
 pub use Rattle.sc_live_healed.proofs.OwnTicks.{OwnTick, own_tick}
 pub use Rattle.sc_live_healed.proofs.SettledTurns.{IsSettledAfter, HasTicked, turn_settles, turns_settle}

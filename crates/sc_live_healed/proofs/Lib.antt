@@ -16,7 +16,7 @@ pub mod VotedSlots
 pub mod StoppedRows
 pub mod MailedSlots
 pub mod TickedSlots
-pub mod NodeMail
+pub mod FixedGroupMail
 pub mod NodeSlots
 pub mod AnsweredAccepts
 pub mod VotesUnderWay
@@ -29,7 +29,7 @@ pub mod FixedClients
 pub mod SeatBirths
 pub mod FixedJournals
 pub mod HarmlessRows
-pub mod UntoldRows
+pub mod RowsWithoutOrders
 pub mod TakenJournals
 pub mod LivingActors
 pub mod VotesInTurns
@@ -60,7 +60,7 @@ pub mod NearRounds
 pub mod SettledTicks
 pub mod PollBegins
 pub mod NodeTicks
-pub mod PlayerRows
+pub mod ActorRows
 pub mod FreshBallots
 pub mod OwnTicks
 pub mod SettledTurns

@@ -16,10 +16,10 @@ use Rattle.sc_scenario.specs.scenario.Definitions.{IsBounded}
 use Rattle.sc_meaning.specs.sound.Definitions.{Lawful, Player, as_nodes, births, client_seat, client_seats, node_seat, player_table, route_of, schedule, system_of}
 use Rattle.sc_live_orderly.proofs.Lemmas.{is_born-from}
 use Rattle.sc_paxos_law.proofs.Leading.{counts_within}
-use Rattle.sc_live_plain.proofs.RowsProofs.NodeSeats.{seat_in}
+use Rattle.sc_live_plain.proofs.PlainRowsProofs.NodeSeats.{seat_in}
 use Rattle.sc_live_healed.proofs.FixedJournals.{Rows, IsOf}
 use Rattle.sc_live_healed.proofs.HealedLines.{living_spared}
-use Rattle.sc_live_healed.proofs.UntoldRows.{rows_spare}
+use Rattle.sc_live_healed.proofs.RowsWithoutOrders.{rows_spare}
 use Rattle.sc_live_healed.specs.Definitions.{lives, HasLivingMajorities, LivingMajority}
 
 -- ---- clients stay clients

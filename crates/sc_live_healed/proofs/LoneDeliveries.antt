@@ -70,7 +70,7 @@ module _ (words : ℕ → ℕ → ℕ × ℕ) (scenario : Scenario) (bounded : I
   member_up base a node m =
       let p = group_place scenario bounded base a in
       subst (λ (b : Base). IsMember b node → IsUpTo scenario.nodes node) p.2
-      (λ is. (let line = bounded.each p.0 (record { lo = 0; members = [] }) p.1 in Each-among (IsUpTo scenario.nodes) _ node (Each-from_All (IsUpTo scenario.nodes) _ line.members_in) (member-among _ node is))) m
+      (λ fact. (let line = bounded.each p.0 (record { lo = 0; members = [] }) p.1 in Each-among (IsUpTo scenario.nodes) _ node (Each-from_All (IsUpTo scenario.nodes) _ line.members_in) (member-among _ node fact))) m
 
   pub member_gets : (rows : Rows) (base : Base) → Among base scenario.groups → (node : ℕ) → IsMember base node → has_crashed rows node ≡ false → Gets rows node
   member_gets rows base a node m lives =

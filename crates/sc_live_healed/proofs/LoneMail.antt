@@ -8,8 +8,8 @@ use Rattle.sc_words.proofs.PaxosProofs.Lemmas.{Each-among}
 use Rattle.sc_node_table.specs.Definitions.{ReplicaState, Place, next, name_of, at_slot, mailed, admits_requests, request_refusal, refused_at, requested, queued, request_row, queued_number, without_request, pumped, answer_to}
 use Rattle.sc_live_plain.specs.Definitions.{takers}
 use Rattle.sc_live_plain.proofs.LeadersProofs.LeadingReplicas.{in_range}
-use Rattle.sc_live_plain.proofs.RowsProofs.SlotCounts.{at_none, one_if, one_if_most}
-use Rattle.sc_live_plain.proofs.RowsProofs.RepeatedMail.{last_among}
+use Rattle.sc_live_plain.proofs.PlainRowsProofs.SlotCounts.{at_none, one_if, one_if_most}
+use Rattle.sc_live_plain.proofs.PlainRowsProofs.RepeatedMail.{last_among}
 use Rattle.sc_live_healed.specs.Definitions.{IsFixedReplica, IsFixedBody, TakesSlots}
 use Rattle.sc_live_healed.proofs.FixedWalks.{FixedWalk, IsFresh, IsFixedPlace}
 use Rattle.sc_live_healed.proofs.FixedParts.{request_taken}
@@ -57,16 +57,16 @@ refusal_redirects None core true hint op answer e =
     (λ _ q. (let same : NotMine core.arc core.succ ≡ answer = cc in ap redirects (sym same))) (λ _ q. absurd (cc)) e
 
 -- an answer that a client takes notice of, from the node that it asked: a reply, or one that sends it on
-abbrev pub Tells : AnswerBody → Type 0
-Tells answer = (redirects answer ≡ true) ⊎ ((reply : Reply) × (answer ≡ Value reply))
+abbrev pub IsReplyOrRedirect : AnswerBody → Type 0
+IsReplyOrRedirect answer = (redirects answer ≡ true) ⊎ ((reply : Reply) × (answer ≡ Value reply))
 
-answers_tell : (answer : AnswerBody) → Answers answer → Tells answer
-answers_tell (Value reply) a = inr (reply, refl)
-answers_tell (NotLeader (Some hint)) a = inl refl
-answers_tell (NotLeader None) a = absurd a
-answers_tell (NotMine arc succ) a = absurd a
-answers_tell (Gone into) a = absurd a
-answers_tell (Stale last) a = absurd a
+answers_reply_or_redirect : (answer : AnswerBody) → Answers answer → IsReplyOrRedirect answer
+answers_reply_or_redirect (Value reply) a = inr (reply, refl)
+answers_reply_or_redirect (NotLeader (Some hint)) a = inl refl
+answers_reply_or_redirect (NotLeader None) a = absurd a
+answers_reply_or_redirect (NotMine arc succ) a = absurd a
+answers_reply_or_redirect (Gone into) a = absurd a
+answers_reply_or_redirect (Stale last) a = absurd a
 
 module _ (base : Base) (me : ℕ) (born : IsFresh base me) (client first seq : ℕ) where
   abbrev few_walk : FixedWalk base me
@@ -112,12 +112,12 @@ module _ (base : Base) (me : ℕ) (born : IsFresh base me) (client first seq : �
 
     -- a leader holds the request, or its client is answered
     abbrev pub IsServed : Place → Type 0
-    IsServed place = ((place.0.running ≡ true) × IsHeld client seq place.0) ⊎ ((answer : AnswerBody) × Tells answer × Among (reply_mail client seq me base.core.id answer) place.1)
+    IsServed place = ((place.0.running ≡ true) × IsHeld client seq place.0) ⊎ ((answer : AnswerBody) × IsReplyOrRedirect answer × Among (reply_mail client seq me base.core.id answer) place.1)
 
     serves : (place : Place) → HeldOr base me client seq ⊥ place → IsServed place
     serves place (inl no_way) = absurd no_way
     serves place (inr (inl held)) = inl held
-    serves place (inr (inr told)) = inr (told.0, answers_tell told.0 told.1, told.2)
+    serves place (inr (inr told)) = inr (told.0, answers_reply_or_redirect told.0 told.1, told.2)
 
     -- a mail brings no Learn of the request
     abbrev Unheard : MailBody → Type 0

@@ -8,14 +8,14 @@ use Rattle.sc_node_table.specs.Values.{Draw, Op, Base, Core, Command, AnswerBody
 use Rattle.sc_node_table.specs.Definitions.{NodeState, ReplicaState, Place, name_of, replica_of, with_replica, mailed, node_table, may_come, group_of_mail}
 use Rattle.sc_law_walks.proofs.Lemmas.{either_way}
 use Rattle.sc_meaning.proofs.EntriesProofs.Lemmas.{other_name}
-use Rattle.sc_live_steps.proofs.CalmProofs.Lemmas.{put_found}
+use Rattle.sc_live_steps.proofs.CalmStepsProofs.Lemmas.{put_found}
 use Rattle.sc_live_healed.specs.Definitions.{IsFixedMail, IsFixedNode, IsFixedReplica, TakesSlots, AllTakeSlots}
 use Rattle.sc_live_healed.proofs.FixedNodes.{AreFresh}
-use Rattle.sc_live_healed.proofs.NodeMail.{TakesMail, PassesMail, mail_taken}
+use Rattle.sc_live_healed.proofs.FixedGroupMail.{TakesMail, PassesMail, mail_taken}
 use Rattle.sc_live_healed.proofs.TakenRequests.{IsHeld, reply_mail}
 use Rattle.sc_live_healed.proofs.NumberedRequests.{IsFewBody, IsFewPlace}
 use Rattle.sc_live_healed.proofs.LoneRequests as lone
-use Rattle.sc_live_healed.proofs.LoneMail.{apart_of, unready_of, Tells, Finds, Heard, mailed_lone, mailed_held, mailed_asked}
+use Rattle.sc_live_healed.proofs.LoneMail.{apart_of, unready_of, IsReplyOrRedirect, Finds, Heard, mailed_lone, mailed_held, mailed_asked}
 
 -- ---- replicas by name
 
@@ -121,9 +121,9 @@ module _ (client first seq : ℕ) where
       abbrev pub IsServedStep : Base → NodeState × List Mail → Type 0
       IsServedStep base x =
           ((r : ReplicaState) × (replica_of base.core.id x.0.replicas ≡ Some r) × (r.running ≡ true) × IsHeld client seq r)
-          ⊎ ((answer : AnswerBody) × Tells answer × Among (reply_mail client seq node.me base.core.id answer) x.1)
+          ⊎ ((answer : AnswerBody) × IsReplyOrRedirect answer × Among (reply_mail client seq node.me base.core.id answer) x.1)
 
-      served_place : (t : TakesMail bases node mail) → (((place t).0.running ≡ true) × IsHeld client seq (place t).0) ⊎ ((answer : AnswerBody) × Tells answer × Among (reply_mail client seq node.me t.base.core.id answer) (place t).1) → IsServedStep t.base step
+      served_place : (t : TakesMail bases node mail) → (((place t).0.running ≡ true) × IsHeld client seq (place t).0) ⊎ ((answer : AnswerBody) × IsReplyOrRedirect answer × Among (reply_mail client seq node.me t.base.core.id answer) (place t).1) → IsServedStep t.base step
       served_place t s =
           subst (IsServedStep t.base) (sym t.step) (elim s [
             | inl h ↦ inl ((place t).0, put_found t.base.core.id (place t).0 t.replica node.replicas (named t) t.found, h.0, h.1)
@@ -137,10 +137,10 @@ module _ (client first seq : ℕ) where
           | inl same ↦ (
               let id = draw_is t.base.core.id base.core.id same in
               let one : t.base ≡ base = apart.apart t.base base t.among a id in
-              let is : r ≡ t.replica = same_replica (sym found ∙ ap (λ (d : Draw). replica_of d node.replicas) (sym id) ∙ t.found) in
+              let fact : r ≡ t.replica = same_replica (sym found ∙ ap (λ (d : Draw). replica_of d node.replicas) (sym id) ∙ t.found) in
               subst (λ (b : Base). IsServedStep b step) one (served_place t
               (mailed_held t.base node.me (apart.each t.base t.among node.me t.member) client first seq early late mail.from mail.body t.replica (heard t) unlearnt (finds t) (hidden t)
-              (apart_of t.base t.replica t.fixed (takes_here t)) (unready_of t.base t.replica (takes_here t)) (ap (λ (x : ReplicaState). x.running) (sym is) ∙ on) (subst (IsHeld client seq) is held))))
+              (apart_of t.base t.replica t.fixed (takes_here t)) (unready_of t.base t.replica (takes_here t)) (ap (λ (x : ReplicaState). x.running) (sym fact) ∙ on) (subst (IsHeld client seq) fact held))))
           | inr other ↦ (
               let unlike : t.base.core.id ≡ base.core.id → ⊥ = λ e. true≢false (sym (same_name t.base.core.id base.core.id e) ∙ other) in
               subst (IsServedStep base) (sym t.step) (inl (r, put_other t.base.core.id base.core.id (place t).0 node.replicas (named t) unlike ∙ found, on, held)))
@@ -152,23 +152,23 @@ module _ (client first seq : ℕ) where
 
       -- the mail is the request
       pub node_asked : (base : Base) → Among base bases → (op : Op) → mail.body ≡ Request base.core.id client seq op → IsServedStep base step
-      node_asked base a op is = by way
+      node_asked base a op fact = by way
         where
           one_name : {x y : Draw} → Some x ≡ Some y → x ≡ y
           one_name e = cc
 
           never : PassesMail node mail → ⊥
           never p = elim (p.why) [
-            | inl no_way ↦ true≢false (sym (ap (may_come mail.from) is) ∙ no_way)
-            | inr none ↦ (let e : Some base.core.id ≡ None = sym (ap group_of_mail is) ∙ none in cc)
+            | inl no_way ↦ true≢false (sym (ap (may_come mail.from) fact) ∙ no_way)
+            | inr none ↦ (let e : Some base.core.id ≡ None = sym (ap group_of_mail fact) ∙ none in cc)
           ]
 
           by : PassesMail node mail ⊎ TakesMail bases node mail → IsServedStep base step
           by (inl p) = absurd (never p)
           by (inr t) =
-              let id : t.base.core.id ≡ base.core.id = one_name (sym t.group ∙ ap group_of_mail is) in
+              let id : t.base.core.id ≡ base.core.id = one_name (sym t.group ∙ ap group_of_mail fact) in
               let one : t.base ≡ base = apart.apart t.base base t.among a id in
               let born = apart.each t.base t.among node.me t.member in
-              let s = mailed_asked t.base node.me born client first seq early late mail.from base.core.id op t.replica (subst (λ (b : MailBody). Heard t.base node.me born client first seq mail.from b) is (heard t)) (finds t) (hidden t) (apart_of t.base t.replica t.fixed (takes_here t)) in
+              let s = mailed_asked t.base node.me born client first seq early late mail.from base.core.id op t.replica (subst (λ (b : MailBody). Heard t.base node.me born client first seq mail.from b) fact (heard t)) (finds t) (hidden t) (apart_of t.base t.replica t.fixed (takes_here t)) in
               subst (λ (b : Base). IsServedStep b step) one (served_place t
-              (subst (λ (b : MailBody). (((mailed mail.from b (t.replica, [])).0.0.running ≡ true) × IsHeld client seq (mailed mail.from b (t.replica, [])).0.0) ⊎ ((answer : AnswerBody) × Tells answer × Among (reply_mail client seq node.me t.base.core.id answer) (mailed mail.from b (t.replica, [])).0.1)) (sym is) s))
+              (subst (λ (b : MailBody). (((mailed mail.from b (t.replica, [])).0.0.running ≡ true) × IsHeld client seq (mailed mail.from b (t.replica, [])).0.0) ⊎ ((answer : AnswerBody) × IsReplyOrRedirect answer × Among (reply_mail client seq node.me t.base.core.id answer) (mailed mail.from b (t.replica, [])).0.1)) (sym fact) s))

@@ -16,7 +16,7 @@ use Rattle.sc_law_entries.proofs.NamesProofs.EachFound.{Each-drop, opt_get, opt_
 use Rattle.sc_law_refusal.proofs.HeldCommands as held
 use Rattle.sc_law_walks.proofs.Places.{cleared}
 use Rattle.sc_law_walks.proofs.Lemmas.{either_way, back_any, entered_group, entered_running, TableEntry, entry_holds, entered_place, entered_next, entry_is}
-use Rattle.sc_live_plain.proofs.RowsProofs.RepeatedMail.{mail_of, among_push, last_among, others_kept}
+use Rattle.sc_live_plain.proofs.PlainRowsProofs.RepeatedMail.{mail_of, among_push, last_among, others_kept}
 use Rattle.sc_live_healed.specs.Definitions.{IsFixedCommand}
 use Rattle.sc_live_healed.proofs.FixedWalks.{FixedWalk}
 use Rattle.sc_live_healed.proofs.FixedEntries.{unreported, unspoken, none_joined}
@@ -138,10 +138,10 @@ module _ (base : Base) (me client first seq : ℕ) (early : Bool) (Elsewhere : T
     entry_parts fixed same = record {
       Lost = λ other. start.running ≡ true → Mine other;
       entered = λ mails k. (ap (λ (g : Group). g.core) (entered_group command start) ∙ applied_core base command start.group fixed ∙ same, entered_running command start, alone_entered command start mails k.0, λ o. hidden_entered command start mails o k.1);
-      answers = λ who number op answer r mails t is e q. (let m = subst Mine is (mine t) in
+      answers = λ who number op answer r mails t fact e q. (let m = subst Mine fact (mine t) in
           (q.0, q.1, lone.alone_push client first r mails (client_actor who) (Answer (name_of r) number answer) tt (ap client_actor m.0) q.2, λ o. lone.hidden_push client first seq early Elsewhere r mails (client_actor who) (Answer (name_of r) number answer) tt (q.3 o)));
       returned = λ r mails t q. goes_back command r mails (λ _. mine t) q;
-      reports = λ result r mails is q. absurd (unreported base counted_ command start fixed same result is);
+      reports = λ result r mails fact q. absurd (unreported base counted_ command start fixed same result fact);
       speaks = λ r mails q. unspoken base counted_ command start fixed same Q r mails q;
       installs = λ to r mails t new q. absurd (none_joined base counted_ command start fixed same r q.0 to new);
       repolls = λ to r mails t new q. absurd (none_joined base counted_ command start fixed same r q.0 to new);
@@ -164,14 +164,14 @@ module _ (base : Base) (me client first seq : ℕ) (early : Bool) (Elsewhere : T
 
   -- while it is early the client's own request is the first one
   teaches_late : (b : Bool) (command : Command) → early ≡ b → Mine command → IsAtMost client seq command → Other command → early ≡ false
-  teaches_late false command is mine low o = is
-  teaches_late true (Call who number op) is mine low o =
-      let at = late is in
+  teaches_late false command fact mine low o = fact
+  teaches_late true (Call who number op) fact mine low o =
+      let at = late fact in
       let most = low mine.0 in
       let least = mine.1 in
       let same : number ≡ seq = omega (arith, at, most, least) in
       absurd (true≢false (sym (and_from (eqb who client) (eqb number seq) (eq-eqb who client mine.0) (eq-eqb number seq same)) ∙ o))
-  teaches_late true _ is mine low o = absurd mine
+  teaches_late true _ fact mine low o = absurd mine
 
   pub counts_entry : (command : Command) (r : ReplicaState) (mails : List Mail) → r.running ≡ true → at_slot r.ready (next r) ≡ Some command → P (r, mails) → L (entered_place true command (r, mails))
   counts_entry command r mails on e k =
@@ -190,8 +190,8 @@ module _ (base : Base) (me client first seq : ℕ) (early : Bool) (Elsewhere : T
           let answer : Mail = mail_of e0.me (client_actor client) (Answer e0.group.core.id seq (Value reply.0)) in
           let said : List Mail = mails ++ answer ∷ [] in
           let step = ap (λ x. answered_or_put_back (answer_of (applied r.group x).1) x (e0, mails)) c.1 ∙ ap (λ q. answered_or_put_back q (Call client seq c.0) (e0, mails)) reply.1 ∙ answers_so client seq c.0 (Value reply.0) e0 mails in
-          let is : entered_place true command (r, mails) ≡ cleared (next r) (e0, learning base command r fixed (e0, said)) = counted_is base command r fixed mails e0 said step refl in
-          subst Hidden (sym is) (inr (inr (record {
+          let fact : entered_place true command (r, mails) ≡ cleared (next r) (e0, learning base command r fixed (e0, said)) = counted_is base command r fixed mails e0 said step refl in
+          subst Hidden (sym fact) (inr (inr (record {
             mail = answer;
             among = others_kept e0.me (Learn (name_of e0) (next r) command) r.group.core.members said answer (last_among mails answer);
             to = refl;

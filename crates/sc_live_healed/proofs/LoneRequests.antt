@@ -12,7 +12,7 @@ use Rattle.sc_law_entries.specs.names.Definitions.{Opt}
 use Rattle.sc_law_entries.proofs.NamesProofs.EachFound.{opt_either, opt_slot}
 use Rattle.sc_law_refusal.proofs.HeldCommands as held
 use Rattle.sc_law_walks.proofs.Talks.{all_sent}
-use Rattle.sc_live_plain.proofs.RowsProofs.RepeatedMail.{mail_of, among_push}
+use Rattle.sc_live_plain.proofs.PlainRowsProofs.RepeatedMail.{mail_of, among_push}
 use Rattle.sc_live_healed.proofs.TakenRequests.{is_call}
 
 module _ (client first : ℕ) where
@@ -90,12 +90,12 @@ module _ (client first : ℕ) where
   no_value slot r command low k e = by (choice slot r.leader.reports) refl e
     where
       by : (o : Option (Report Command)) → choice slot r.leader.reports ≡ o → must_without (names_above slot r.leader.reports) (option_map (λ (report : Report Command). report.value) o) ≡ MustBe command → ⊥
-      by (Some report) is q =
-          let found = choice_among slot r.leader.reports report is in
+      by (Some report) fact q =
+          let found = choice_among slot r.leader.reports report fact in
           let under = Each-among (λ (x : Report Command). x.slot < next r) r.leader.reports report k.reports found.0 in
           let at = found.1 in
           omega (arith, under, at, low)
-      by None is q = cond_both (names_above slot r.leader.reports) Gap Open (λ x. x ≡ MustBe command → ⊥) (λ _ h. cc) (λ _ h. cc) q
+      by None fact q = cond_both (names_above slot r.leader.reports) Gap Open (λ x. x ≡ MustBe command → ⊥) (λ _ h. cc) (λ _ h. cc) q
 
   -- what is in flight or ready is the client's
   listed_mine : (o : Option Command) → Opt IsMine o → Each IsMine (listed o)

@@ -103,8 +103,8 @@ module _ (words : ℕ → ℕ → ℕ × ℕ) (scenario : Scenario) (bounded : I
       let mail_is : IsFixedMail scenario.groups t.mail = given words scenario bounded off (mails rows) t.number t.mail fixed.sent t.sent in
       let says_so : IsFixedBody mail_is.base t.mail.from t.mail.to (Request group client request.0 request.1) = subst (λ (b : MailBody). IsFixedBody mail_is.base t.mail.from t.mail.to b) (ap (λ (m : Mail). m.body) same) mail_is.says in
       let node : is_node t.seat.who ≡ true = ap is_node (receiver_is words scenario bounded rows row t) ∙ (fresh words scenario bounded off).within mail_is.base mail_is.among t.mail.to says_so.1 in
-      let is = seats_stay_nodes scenario bounded t.seat (receiver_of words scenario bounded rows row t) node rows in
-      no_node (sym here ∙ is.1)
+      let fact = seats_stay_nodes scenario bounded t.seat (receiver_of words scenario bounded rows row t) node rows in
+      no_node (sym here ∙ fact.1)
 
   -- the request stands where it was, unless the client is sent on now
   where_same : (seq : ℕ) (group : Draw) (target : ℕ) → ((answer : AnswerBody) → t.mail.from ≡ target → t.mail.to ≡ client_actor client → t.mail.body ≡ Answer group seq answer → redirects answer ≡ true → ⊥) → WhereAt rows seq group target → WhereAt after seq group target
@@ -244,8 +244,8 @@ module _ (words : ℕ → ℕ → ℕ × ℕ) (scenario : Scenario) (bounded : I
       where
         by : StandsAt rows a.seq a.group a.target → State after
         by (IsReplied r) = elim (subst (Among r.mail) t.first r.among) [
-          | inl is ↦
-              let body : t.mail.body ≡ Answer r.group a.seq (Value r.reply) = ap (λ (m : Mail). m.body) is ∙ r.body in
+          | inl fact ↦
+              let body : t.mail.body ≡ Answer r.group a.seq (Value r.reply) = ap (λ (m : Mail). m.body) fact ∙ r.body in
               let taken : step ≡ answer_taken t.mail.from r.group a.seq (Value r.reply) asks =
               ap (λ (b : MailBody). got t.mail.from b asks) body
               ∙ cond-true (waits_for asks.waiting a.seq) (answer_taken t.mail.from r.group a.seq (Value r.reply) asks) (asks, []) (ap (λ (o : Option ℕ). waits_for o a.seq) a.waits ∙ eq-eqb a.seq a.seq refl) in

@@ -14,7 +14,7 @@ use Rattle.sc_live_orderly.specs.Definitions.{TakesLowest, AreDelivered}
 use Rattle.sc_live_orderly.proofs.PendingMail.{takes_lowest}
 use Rattle.sc_live_plain.specs.Definitions.{waiting_ones}
 use Rattle.sc_live_healed.specs.Definitions.{IsAskingOn}
-use Rattle.sc_live_healed.proofs.FixedJournals.{Rows, IsOf, IsFixedJournal, AreUntold, untold_prefix}
+use Rattle.sc_live_healed.proofs.FixedJournals.{Rows, IsOf, IsFixedJournal, AreWithoutOrders, untold_prefix}
 use Rattle.sc_live_healed.proofs.TakenJournals.{IsTakenJournal, journal_taken}
 use Rattle.sc_live_healed.proofs.FewJournals.{IsFewJournal, HasSentFew, journal_few}
 use Rattle.sc_live_healed.proofs.AskingJournals.{IsAskingJournal, IsAskingPlayer, IsAskingAt, journal_asking}
@@ -31,10 +31,10 @@ module _ (words : ℕ → ℕ → ℕ × ℕ) (scenario : Scenario) (bounded : I
     pub few : (bound : ℕ) → HasSentFew client bound rows → IsFewJournal client bound scenario rows
 
   -- a prefix of a lawful journal without orders
-  pub frames_of : (client : ℕ) (rows later : Rows) → AreUntold words scenario bounded off (rows ++ later) → Lawful as_nodes words scenario (rows ++ later) → Frames client rows
-  frames_of client rows later untold lawful =
+  pub frames_of : (client : ℕ) (rows later : Rows) → AreWithoutOrders words scenario bounded off (rows ++ later) → Lawful as_nodes words scenario (rows ++ later) → Frames client rows
+  frames_of client rows later without_orders lawful =
       let law = lawful-prefix (system_of as_nodes words scenario) (schedule scenario) rows later lawful in
-      let none = untold_prefix words scenario bounded off rows later untold in
+      let none = untold_prefix words scenario bounded off rows later without_orders in
       record { asking = journal_asking words scenario rows law; taken = journal_taken words scenario bounded off rows none law; few = λ bound few. journal_few client bound words scenario bounded off rows none few law }
 
   module _ (client : ℕ) (seat : Seat Player) (is_of : IsOf scenario seat) (number : seat.who ≡ client_actor client) (first : ℕ) where

@@ -22,7 +22,7 @@ use Rattle.sc_live_healed.proofs.NumberedRequests.{IsFewBody}
 use Rattle.sc_live_healed.proofs.AskingClients.{redirects}
 use Rattle.sc_live_healed.proofs.TakenRequests.{IsHeld, reply_mail}
 use Rattle.sc_live_healed.proofs.LoneRequests as lone
-use Rattle.sc_live_healed.proofs.LoneMail.{Tells}
+use Rattle.sc_live_healed.proofs.LoneMail.{IsReplyOrRedirect}
 use Rattle.sc_live_healed.proofs.LoneNodes.{TakesAlone, node_alone, node_hidden, node_held, node_asked}
 use Rattle.sc_live_healed.proofs.LoneDeliveries.{S, pending, Gets, born_gets, pending_each, receiver_is, receiver_of, same_seat, sent_is, value_own, value_other, crashed_same, rest_stays, sent_stays, pending_then, pending_first, receiver_lives}
 
@@ -141,7 +141,7 @@ module _ (words : ℕ → ℕ → ℕ × ℕ) (scenario : Scenario) (bounded : I
 
         -- where the node serves the request
         served : (early : Bool) → (early ≡ true → first ≡ seq) → AtNodes after (λ n. Logs seq early n) → Each (Unlearnt early) (mail_at after) → (base : Base) → Among base scenario.groups → base.core.id ≡ group → t.seat.who ≡ target
-            → ((r : ReplicaState) × (replica_of base.core.id stepped.0.replicas ≡ Some r) × (r.running ≡ true) × IsHeld client seq r) ⊎ ((answer : AnswerBody) × Tells answer × Among (reply_mail client seq node.me base.core.id answer) stepped.1) → Stands after seq group target
+            → ((r : ReplicaState) × (replica_of base.core.id stepped.0.replicas ≡ Some r) × (r.running ≡ true) × IsHeld client seq r) ⊎ ((answer : AnswerBody) × IsReplyOrRedirect answer × Among (reply_mail client seq node.me base.core.id answer) stepped.1) → Stands after seq group target
         served early late logs unlearnt base a id at (inl s) =
             Waits early late logs unlearnt (IsHeldAt t.seat (receiver_of words scenario bounded rows row t) at (crashed_same words scenario bounded rows row t t.seat.who ∙ receiver_lives words scenario bounded rows row t) stepped.0
             (value_own words scenario bounded rows row t t.seat refl ∙ ap (λ (p : Player). (player_table p (Got t.mail)).0) here) base a id s.0 s.1 s.2 s.3)

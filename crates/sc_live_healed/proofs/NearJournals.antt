@@ -6,7 +6,7 @@ use Rattle.sc_node_table.specs.Definitions.{ReplicaState, Place, mailed, tick_ro
 use Rattle.sc_scenario.specs.declared.scenario.scenarios.Scenario.{Scenario}
 use Rattle.sc_scenario.specs.scenario.Definitions.{IsBounded}
 use Rattle.sc_meaning.specs.sound.Definitions.{Lawful, Player, as_nodes}
-use Rattle.sc_live_healed.proofs.FixedJournals.{Rows, AreUntold}
+use Rattle.sc_live_healed.proofs.FixedJournals.{Rows, AreWithoutOrders}
 use Rattle.sc_live_healed.proofs.NearSlots.{NamesNear, BringsNear, StaysNear, mailed_near, ticked_near}
 use Rattle.sc_live_healed.proofs.GrowingJournals.{Growth, PlayerGrown, IsGrownJournal, journal_grown}
 
@@ -66,5 +66,5 @@ PlayerNear bound player = PlayerGrown slots_grow bound player
 abbrev pub IsNearJournal : Scenario → ℕ → Rows → Type 0
 IsNearJournal scenario bound rows = IsGrownJournal slots_grow scenario bound rows
 
-pub journal_near : (words : ℕ → ℕ → ℕ × ℕ) (scenario : Scenario) (bounded : IsBounded scenario) (off : scenario.policy ≡ false) (rows : Rows) → AreUntold words scenario bounded off rows → Lawful as_nodes words scenario rows → IsNearJournal scenario (1 + 4 * length rows) rows
-journal_near words scenario bounded off rows untold lawful = journal_grown slots_grow words scenario bounded off rows untold lawful
+pub journal_near : (words : ℕ → ℕ → ℕ × ℕ) (scenario : Scenario) (bounded : IsBounded scenario) (off : scenario.policy ≡ false) (rows : Rows) → AreWithoutOrders words scenario bounded off rows → Lawful as_nodes words scenario rows → IsNearJournal scenario (1 + 4 * length rows) rows
+journal_near words scenario bounded off rows without_orders lawful = journal_grown slots_grow words scenario bounded off rows without_orders lawful

@@ -197,8 +197,8 @@ module _ (base : Base) (me : ℕ) (fresh : IsFresh base me) (bound : ℕ) where
   }
     where
       flying_low : (o : Option (Flight Command)) (slot : ℕ) (command : Command) (r : ReplicaState) (mails : List Mail) → flight_at slot r.leader.flights ≡ o → option_map (λ (flight : Flight Command). flight.value) o ≡ Some command → E (r, mails) → slot < bound + slots_ahead
-      flying_low None slot command r mails e is k = cc
-      flying_low (Some flight) slot command r mails e is k =
+      flying_low None slot command r mails e fact k = cc
+      flying_low (Some flight) slot command r mails e fact k =
           let found = find_found (λ (x : Flight Command). eqb x.slot slot) r.leader.flights flight e in
           let low = Each-among (λ (x : Flight Command). x.slot < bound + slots_ahead) r.leader.flights flight k.flights found.0 in
           let same = eqb-true flight.slot slot found.1 in omega (arith, low, same)

@@ -7,7 +7,7 @@ use Rattle.sc_actor.specs.declared.rows.Input.TheVariants.{Tick, Go, Told as Tol
 use Rattle.sc_node_table.specs.Definitions.{NodeState, ReplicaState, Place, name_of, replica_of, with_replica, ticked, on_tick, tick_row, names_after_tick, mailed, node_table}
 use Rattle.sc_law_walks.proofs.Lemmas.{either_way}
 use Rattle.sc_live_healed.proofs.FixedNodes.{AreFresh, MayTake, One, one_ticks}
-use Rattle.sc_live_healed.proofs.NodeMail.{TakesMail, PassesMail, mail_taken}
+use Rattle.sc_live_healed.proofs.FixedGroupMail.{TakesMail, PassesMail, mail_taken}
 use Rattle.sc_live_healed.proofs.ServingReplicas.{Grows, IsAsked, asked_still}
 use Rattle.sc_live_healed.proofs.MailedSlots.{mailed_takes}
 use Rattle.sc_live_healed.proofs.TickedSlots.{AskAll, tick_takes}

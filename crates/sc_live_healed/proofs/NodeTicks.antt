@@ -88,18 +88,18 @@ module _ (bases : List Base) (fresh : AreFresh bases) (node : NodeState) (k : Is
   -- Replicas of other groups tick: what is said is of other groups.
   pub record SaysOther (mails : List Mail) (said : List Mail) : Type 0 where
     pub more : List Mail
-    pub is : said ≡ mails ++ more
+    pub fact : said ≡ mails ++ more
     pub other : Each IsOther more
 
   pub others_say : (drawer : Drawer) (replicas : List ReplicaState) (mails : List Mail) → Each One replicas → NoneNamed name_of base.core.id replicas → SaysOther mails (ticked false drawer replicas mails).1
   unfolding ticked
-  others_say drawer [] mails here n = record { more = []; is = sym (append-nil mails); other = tt }
+  others_say drawer [] mails here n = record { more = []; fact = sym (append-nil mails); other = tt }
   others_say drawer (r ∷ replicas) mails here n =
       let place : Place = tick_row false drawer (r, []) in
       let t = one_ticks bases fresh node k drawer r mails here.0 in
       let rest = others_say (names_after_tick false drawer r) replicas (tick_row false drawer (r, mails)).1 here.1 n.1 in record {
         more = place.1 ++ rest.more;
-        is = rest.is ∙ (ap (λ (p : Place). p.1 ++ rest.more) t.1 ∙ append_assoc mails place.1 rest.more);
+        fact = rest.fact ∙ (ap (λ (p : Place). p.1 ++ rest.more) t.1 ∙ append_assoc mails place.1 rest.more);
         other = Each-append IsOther place.1 rest.more (says_other drawer r here.0 n.0) rest.other;
       }
 
@@ -108,7 +108,7 @@ module _ (bases : List Base) (fresh : AreFresh bases) (node : NodeState) (k : Is
     pub drawer : Drawer
     pub replica : ReplicaState
     pub was : replica_of base.core.id replicas ≡ Some replica
-    pub is : replica_of base.core.id step.0 ≡ Some (tick_row false drawer (replica, [])).0
+    pub fact : replica_of base.core.id step.0 ≡ Some (tick_row false drawer (replica, [])).0
     pub before : List Mail
     pub after : List Mail
     pub sent : step.1 ≡ (mails ++ before) ++ ((tick_row false drawer (replica, [])).1 ++ after)
@@ -139,10 +139,10 @@ module _ (bases : List Base) (fresh : AreFresh bases) (node : NodeState) (k : Is
             drawer = drawer;
             replica = x;
             was = cond-true (same_draw (name_of x) base.core.id) (Some x) (replica_of base.core.id replicas) t;
-            is = cond-true (same_draw (name_of (tick_row false drawer (x, mails)).0) base.core.id) (Some (tick_row false drawer (x, mails)).0) (replica_of base.core.id rest.0) (ap (λ (d : Draw). same_draw d base.core.id) name ∙ t) ∙ ap (λ (p : Place). Some p.0) now;
+            fact = cond-true (same_draw (name_of (tick_row false drawer (x, mails)).0) base.core.id) (Some (tick_row false drawer (x, mails)).0) (replica_of base.core.id rest.0) (ap (λ (d : Draw). same_draw d base.core.id) name ∙ t) ∙ ap (λ (p : Place). Some p.0) now;
             before = [];
             after = said.more;
-            sent = said.is ∙ (ap (λ (p : Place). p.1 ++ said.more) now ∙ (append_assoc mails place.1 said.more ∙ ap (λ (ms : List Mail). ms ++ (place.1 ++ said.more)) (sym (append-nil mails))));
+            sent = said.fact ∙ (ap (λ (p : Place). p.1 ++ said.more) now ∙ (append_assoc mails place.1 said.more ∙ ap (λ (ms : List Mail). ms ++ (place.1 ++ said.more)) (sym (append-nil mails))));
             others_before = tt;
             others_after = said.other;
           }
@@ -157,7 +157,7 @@ module _ (bases : List Base) (fresh : AreFresh bases) (node : NodeState) (k : Is
             drawer = t.drawer;
             replica = t.replica;
             was = cond-false (same_draw (name_of x) base.core.id) (Some x) (replica_of base.core.id replicas) f ∙ t.was;
-            is = cond-false (same_draw (name_of (tick_row false drawer (x, mails)).0) base.core.id) (Some (tick_row false drawer (x, mails)).0) (replica_of base.core.id rest.0) (ap (λ (d : Draw). same_draw d base.core.id) name ∙ f) ∙ t.is;
+            fact = cond-false (same_draw (name_of (tick_row false drawer (x, mails)).0) base.core.id) (Some (tick_row false drawer (x, mails)).0) (replica_of base.core.id rest.0) (ap (λ (d : Draw). same_draw d base.core.id) name ∙ f) ∙ t.fact;
             before = place.1 ++ t.before;
             after = t.after;
             sent = t.sent ∙ ap (λ (ms : List Mail). ms ++ (own ++ t.after)) (ap (λ (p : Place). p.1 ++ t.before) now ∙ append_assoc mails place.1 t.before);

@@ -6,7 +6,7 @@ use Rattle.sc_base.proofs.Lemmas.{draw_is, same_name}
 use Rattle.sc_words.proofs.PaxosProofs.Lemmas.{Each-among, Each-weaker, find_found}
 use Rattle.sc_node_table.specs.Values.{Draw, Base, Core, Mail, MailBody, Request, Answer, Prepare, Promise, Accept, Accepted, Nack, Learn, Ask, Install, TxPrepare, TxVote, TxOutcome, TxElsewhere, TxWatch, TxWatched, Told}
 use Rattle.sc_node_table.specs.Definitions.{NodeState, ReplicaState, Executed, name_of, replica_of, with_replica, with_children, taken_by, routed, on_mail, may_come, group_of_mail, mailed}
-use Rattle.sc_live_steps.proofs.CalmProofs.Lemmas.{put_found, put_others}
+use Rattle.sc_live_steps.proofs.CalmStepsProofs.Lemmas.{put_found, put_others}
 use Rattle.sc_live_healed.proofs.FixedWalks.{IsFresh, IsMember, IsSaid, IsFixedPlace}
 use Rattle.sc_live_healed.proofs.FixedPlaces.{mailed_fixed}
 use Rattle.sc_live_healed.proofs.FixedNodes.{AreFresh, IsOne, into, group_is, to_member, name_one}
@@ -63,7 +63,7 @@ module _ (bases : List Base) (fresh : AreFresh bases) (base : Base) (among : Amo
     pub was : replica_of base.core.id node.replicas ≡ Some replica
     pub fixed : IsFixedPlace base node.me (replica, [])
     pub heard : IsFixedBody base mail.from node.me mail.body
-    pub is : replica_of base.core.id step.0.replicas ≡ Some (mailed mail.from mail.body (replica, [])).0.0
+    pub fact : replica_of base.core.id step.0.replicas ≡ Some (mailed mail.from mail.body (replica, [])).0.0
     pub sent : step.1 ≡ (mailed mail.from mail.body (replica, [])).0.1
 
   -- The replica of the group stays, and no mail of the group is sent.
@@ -106,7 +106,7 @@ module _ (bases : List Base) (fresh : AreFresh bases) (base : Base) (among : Amo
           was = e;
           fixed = fixed;
           heard = heard;
-          is = ap (λ (step : NodeState × List Mail). replica_of base.core.id step.0.replicas) left ∙ put_found base.core.id (mailed mail.from mail.body (r, [])).0.0 r node.replicas name e;
+          fact = ap (λ (step : NodeState × List Mail). replica_of base.core.id step.0.replicas) left ∙ put_found base.core.id (mailed mail.from mail.body (r, [])).0.0 r node.replicas name e;
           sent = refl;
         }
 

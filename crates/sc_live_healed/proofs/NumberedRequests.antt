@@ -164,9 +164,9 @@ module _ (client bound : ℕ) where
     entry_parts counted_ command start f same c = record {
       Lost = λ other. C other;
       entered = λ mails k. (ap (λ (g : Group). g.core) (entered_group command start) ∙ applied_core base command start.group f ∙ same, entered_few base command start mails f c k);
-      answers = λ who seq op answer r mails t is e q. (q.0, said_few r mails (client_actor who) (Answer (name_of r) seq answer) tt q.1);
+      answers = λ who seq op answer r mails t fact e q. (q.0, said_few r mails (client_actor who) (Answer (name_of r) seq answer) tt q.1);
       returned = λ r mails t q. (back_any (λ x. x.group.core ≡ base.core) (λ x acts backlog p. p) command r q.0, back_few command r mails c q.1);
-      reports = λ result r mails is q. absurd (unreported base counted_ command start f same result is);
+      reports = λ result r mails fact q. absurd (unreported base counted_ command start f same result fact);
       speaks = λ r mails q. unspoken base counted_ command start f same Q r mails q;
       teaches = λ to r mails t a q. (q.0, said_few r mails to (Learn (name_of r) (next start) command) c q.1);
       installs = λ to r mails t new q. absurd (none_joined base counted_ command start f same r q.0 to new);

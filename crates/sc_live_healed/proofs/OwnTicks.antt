@@ -22,7 +22,7 @@ use Rattle.sc_live_healed.proofs.FixedBirths.{groups_fresh}
 use Rattle.sc_live_healed.proofs.FixedJournals.{Rows, IsOf, IsFixedPlayer, IsFixedJournal}
 use Rattle.sc_live_healed.proofs.LivingActors.{seats_stay_nodes}
 use Rattle.sc_live_healed.proofs.NodeTicks.{none_found, found_none, tick_none, one_of_all_ticks}
-use Rattle.sc_live_healed.proofs.PlayerRows.{View, HasOne}
+use Rattle.sc_live_healed.proofs.ActorRows.{View, HasOne}
 use Rattle.sc_live_healed.proofs.FreshBallots.{HasFreshBallots, seen_at}
 use Rattle.sc_live_healed.proofs.DeliveredViews.{view}
 
@@ -51,7 +51,7 @@ module _ (words : ℕ → ℕ → ℕ × ℕ) (scenario : Scenario) (bounded : I
       pub drawer : Drawer
       pub replica : ReplicaState
       pub was : seen rows seat.who ≡ Some replica
-      pub is : seen (rows ++ row_of player_table seat rows TickEvent ∷ []) seat.who ≡ Some (tick_row false drawer (replica, [])).0
+      pub fact : seen (rows ++ row_of player_table seat rows TickEvent ∷ []) seat.who ≡ Some (tick_row false drawer (replica, [])).0
       pub member : IsMember base seat.who
       pub fixed : IsFixedPlace base seat.who (replica, [])
       pub before : List Mail
@@ -109,7 +109,7 @@ module _ (words : ℕ → ℕ → ℕ × ℕ) (scenario : Scenario) (bounded : I
                     drawer = t.drawer;
                     replica = t.replica;
                     was = seen_at words scenario bounded off base among rows seat is_of ∙ (ap ViewOf e ∙ t.was);
-                    is = seen_after ∙ t.is;
+                    fact = seen_after ∙ t.fact;
                     member = subst (IsMember base) k.0 (subst (λ (b : Base). IsMember b node.me) same one.2);
                     fixed = subst (λ (n : ℕ). IsFixedPlace base n (t.replica, [])) k.0 (subst (λ (b : Base). IsFixedPlace b node.me (t.replica, [])) same (into scenario.groups fresh node.me t.replica one));
                     before = t.before;

@@ -31,7 +31,7 @@ module _ (base : Base) (alive : ℕ → Bool) where
     pub fixed : IsFixedPlace base mail.to (replica, [])
     pub heard : IsFixedBody base mail.from mail.to mail.body
     pub room : (group : Draw) (slot : ℕ) (state : Base) (sets : List (List ℕ)) → mail.body ≡ Install group slot state sets → slot ≤ last_slot
-    pub is : after mail.to ≡ Some (mailed mail.from mail.body (replica, [])).0.0
+    pub fact : after mail.to ≡ Some (mailed mail.from mail.body (replica, [])).0.0
     pub others : (who : ℕ) → (who ≡ mail.to → ⊥) → after who ≡ before who
     pub sent : new ≡ filter (λ (m : Mail). alive m.to) (mailed mail.from mail.body (replica, [])).0.1
 
@@ -112,14 +112,14 @@ module _ (base : Base) (alive : ℕ → Bool) where
       pub floored_after : AreFloored after
       floored_after who r e =
           elim (cases_Bool (eqb who mail.to)) [
-            | inl y ↦ (let is : place.0 ≡ r = one_replica after mail.to place.0 r t.is (ap after (sym (eqb-true who mail.to y)) ∙ e) in subst (λ (x : ReplicaState). x.acceptor.floor < next x) is moves.1.floored)
+            | inl y ↦ (let fact : place.0 ≡ r = one_replica after mail.to place.0 r t.fact (ap after (sym (eqb-true who mail.to y)) ∙ e) in subst (λ (x : ReplicaState). x.acceptor.floor < next x) fact moves.1.floored)
             | inr f ↦ low who r (sym (t.others who (λ same. true≢false (sym (eq-eqb who mail.to same) ∙ f))) ∙ e)
           ]
 
       -- who polls now polled before
       pub polled_before : (r : ReplicaState) → mail.to ≡ n → after n ≡ Some r → Polls r → (place.0 ≡ r) × Polls t.replica × ((m : ℕ) → is_member t.replica.leader.promisers m ≡ true → is_member r.leader.promisers m ≡ true)
       polled_before r is_n e p =
-          let same : place.0 ≡ r = one_replica after mail.to place.0 r t.is (ap after is_n ∙ e) in
+          let same : place.0 ≡ r = one_replica after mail.to place.0 r t.fact (ap after is_n ∙ e) in
           (let b = by same (moves.1.leads (ap (λ (x : ReplicaState). x.running) same ∙ p.0)) in (same, b.0, b.1))
         where
           by : place.0 ≡ r → ⊥ ⊎ ((t.replica.running ≡ true) × (place.0.leader.ballot ≡ t.replica.leader.ballot) × (place.0.leader.is_first ≡ t.replica.leader.is_first) × ((node : ℕ) → is_member t.replica.leader.promisers node ≡ true → is_member place.0.leader.promisers node ≡ true))

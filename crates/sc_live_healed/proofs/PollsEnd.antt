@@ -42,12 +42,12 @@ module _ (words : ℕ → ℕ → ℕ × ℕ) (scenario : Scenario) (bounded : I
   view_fixed rows now who r e = by (find (λ (other : Seat Player). eqb other.who who) (births as_nodes scenario)) refl e
     where
       at_node : (seat : Seat Player) → seat.who ≡ who → (p : Player) → IsFixedPlayer scenario.groups seat.who p → player_view words scenario bounded base among p ≡ Some r → IsFixedPlace base who (r, []) × IsMember base who
-      at_node seat is (Client client) k q = absurd (cc)
-      at_node seat is (Node node) k q =
+      at_node seat fact (Client client) k q = absurd (cc)
+      at_node seat fact (Node node) k q =
           let found = find_found (λ (x : ReplicaState). same_draw (name_of x) base.core.id) node.replicas r q in
           let one : IsOne scenario.groups fresh node.me r = Each-among (IsOne scenario.groups fresh node.me) node.replicas r k.2.replicas found.0 in
           let same : one.0 ≡ base = fresh.apart one.0 base one.1 among (sym (name_one scenario.groups fresh node.me r one) ∙ draw_is (name_of r) base.core.id found.1) in
-          let me : node.me ≡ who = k.0 ∙ is in (
+          let me : node.me ≡ who = k.0 ∙ fact in (
             subst (λ (n : ℕ). IsFixedPlace base n (r, [])) me (subst (λ (b : Base). IsFixedPlace b node.me (r, [])) same (into scenario.groups fresh node.me r one)),
             subst (IsMember base) me (subst (λ (b : Base). IsMember b node.me) same one.2),
           )
@@ -55,8 +55,8 @@ module _ (words : ℕ → ℕ → ℕ × ℕ) (scenario : Scenario) (bounded : I
       by : (o : Option (Seat Player)) → find (λ (other : Seat Player). eqb other.who who) (births as_nodes scenario) ≡ o → seat_view words scenario bounded base among rows o ≡ Some r → IsFixedPlace base who (r, []) × IsMember base who
       by None f q = absurd (cc)
       by (Some seat) f q =
-          let is : seat.who ≡ who = find-who (births as_nodes scenario) who seat f in
-          at_node seat is (value player_table seat rows) (now.players seat (ap (λ (n : ℕ). find (λ (other : Seat Player). eqb other.who n) (births as_nodes scenario)) is ∙ f)) q
+          let fact : seat.who ≡ who = find-who (births as_nodes scenario) who seat f in
+          at_node seat fact (value player_table seat rows) (now.players seat (ap (λ (n : ℕ). find (λ (other : Seat Player). eqb other.who n) (births as_nodes scenario)) fact ∙ f)) q
 
   module _ (a0 : ℕ → Bool) (n : ℕ) (n_alive : a0 n ≡ true) (ballot : Ballot) (from_slot : ℕ) (most : length base.core.members < 2 * count_by a0 base.core.members) where
     abbrev First : Rows → List Mail → List Mail → Type 0
@@ -91,11 +91,11 @@ module _ (words : ℕ → ℕ → ℕ × ℕ) (scenario : Scenario) (bounded : I
       owned_taken : IsTaken base a0 (seen_at rows) mail after new → (r : ReplicaState) → after n ≡ Some r → r.running ≡ true → r.leader.ballot ≡ ballot
       owned_taken t r e on = elim (is_or_not base a0 n n_alive ballot from_slot n mail.to) [
         | inl same ↦ (let place : Place = (mailed mail.from mail.body (t.replica, [])).0 in
-            let is : place.0 ≡ r = one_replica base a0 n n_alive ballot from_slot after mail.to place.0 r t.is (ap after (sym same) ∙ e) in
+            let fact : place.0 ≡ r = one_replica base a0 n n_alive ballot from_slot after mail.to place.0 r t.fact (ap after (sym same) ∙ e) in
             let m = moves base a0 n n_alive ballot from_slot (seen_at rows) mail after new t course.floored in
-            elim (m.1.leads (ap (λ (x : ReplicaState). x.running) is ∙ on)) [
+            elim (m.1.leads (ap (λ (x : ReplicaState). x.running) fact ∙ on)) [
               | inl never ↦ absurd never
-              | inr l ↦ sym (ap (λ (x : ReplicaState). x.leader.ballot) is) ∙ (l.1 ∙ course.owned t.replica (ap (seen_at rows) same ∙ t.was) l.0)
+              | inr l ↦ sym (ap (λ (x : ReplicaState). x.leader.ballot) fact) ∙ (l.1 ∙ course.owned t.replica (ap (seen_at rows) same ∙ t.was) l.0)
             ])
         | inr other ↦ course.owned r (sym (t.others n other) ∙ e) on
       ]
@@ -104,8 +104,8 @@ module _ (words : ℕ → ℕ → ℕ × ℕ) (scenario : Scenario) (bounded : I
       settled_taken : IsTaken base a0 (seen_at rows) mail after new → IsSettled rows → IsSettled (rows ++ row ∷ [])
       settled_taken t k r e = elim (is_or_not base a0 n n_alive ballot from_slot n mail.to) [
         | inl same ↦ (let place : Place = (mailed mail.from mail.body (t.replica, [])).0 in
-            let is : place.0 ≡ r = one_replica base a0 n n_alive ballot from_slot after mail.to place.0 r t.is (ap after (sym same) ∙ e) in
-            subst IsSettledOrStopped is (mail_keeps_settled base mail.to t.fresh mail.from mail.body t.replica (course.floored mail.to t.replica t.was) t.heard t.fixed (k t.replica (ap (seen_at rows) same ∙ t.was))))
+            let fact : place.0 ≡ r = one_replica base a0 n n_alive ballot from_slot after mail.to place.0 r t.fact (ap after (sym same) ∙ e) in
+            subst IsSettledOrStopped fact (mail_keeps_settled base mail.to t.fresh mail.from mail.body t.replica (course.floored mail.to t.replica t.was) t.heard t.fixed (k t.replica (ap (seen_at rows) same ∙ t.was))))
         | inr other ↦ k r (sym (t.others n other) ∙ e)
       ]
 
@@ -166,7 +166,7 @@ module _ (words : ℕ → ℕ → ℕ × ℕ) (scenario : Scenario) (bounded : I
 
     as_begun : (a : ℕ → Bool) → ((who : ℕ) → a who ≡ a0 who) → (c : Replicas) (mail : Mail) (after : Replicas) (new : List Mail) → IsDelivered base a c mail after new → IsDelivered base a0 c mail after new
     as_begun a same c mail next_view new (inl t) =
-        inl record { of_group = t.of_group; fresh = t.fresh; replica = t.replica; was = t.was; fixed = t.fixed; heard = t.heard; room = t.room; is = t.is; others = t.others; sent = t.sent ∙ filters_agree a a0 same (mailed mail.from mail.body (t.replica, [])).0.1 }
+        inl record { of_group = t.of_group; fresh = t.fresh; replica = t.replica; was = t.was; fixed = t.fixed; heard = t.heard; room = t.room; fact = t.fact; others = t.others; sent = t.sent ∙ filters_agree a a0 same (mailed mail.from mail.body (t.replica, [])).0.1 }
     as_begun a same c mail next_view new (inr p) = inr record { other = p.other; same = p.same; sent = p.sent }
 
     given : (sent : List Mail) (number : ℕ) (mail : Mail) → Each (λ (m : Mail). FitsSlots m.body) sent → numbered sent number ≡ Some mail → FitsSlots mail.body

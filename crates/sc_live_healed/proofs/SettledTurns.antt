@@ -23,7 +23,7 @@ use Rattle.sc_paxos_law.proofs.Leading.{counts_within}
 use Rattle.sc_live_healed.proofs.FixedWalks.{IsFresh, IsMember}
 use Rattle.sc_live_healed.proofs.FixedNodes.{AreFresh}
 use Rattle.sc_live_healed.proofs.FixedBirths.{groups_fresh}
-use Rattle.sc_live_healed.proofs.FixedJournals.{Rows, IsOf, IsFixedJournal, AreUntold, untold_prefix}
+use Rattle.sc_live_healed.proofs.FixedJournals.{Rows, IsOf, IsFixedJournal, AreWithoutOrders, untold_prefix}
 use Rattle.sc_live_healed.proofs.LivingActors.{acts_row, seats_stay_nodes, turns_get, turns_kind}
 use Rattle.sc_live_healed.proofs.NearSlots.{NamesNear, StaysNear}
 use Rattle.sc_live_healed.proofs.NearJournals.{IsNearJournal, PlayerNear, journal_near}
@@ -43,7 +43,7 @@ fits_near : (bound : ℕ) (body : MailBody) → bound ≤ last_slot → NamesNea
 fits_near bound (Install group slot base sets) low n = omega (arith, low, n)
 fits_near bound _ low n = tt
 
-module _ (words : ℕ → ℕ → ℕ × ℕ) (scenario : Scenario) (bounded : IsBounded scenario) (off : scenario.policy ≡ false) (whole : Rows) (is_lawful : Lawful as_nodes words scenario whole) (is_untold : AreUntold words scenario bounded off whole) (are_few : 1 + 4 * length whole ≤ last_slot) where
+module _ (words : ℕ → ℕ → ℕ × ℕ) (scenario : Scenario) (bounded : IsBounded scenario) (off : scenario.policy ≡ false) (whole : Rows) (is_lawful : Lawful as_nodes words scenario whole) (is_untold : AreWithoutOrders words scenario bounded off whole) (are_few : 1 + 4 * length whole ≤ last_slot) where
   abbrev s : System Player Mail OrderLine
   s = system_of as_nodes words scenario
 
@@ -52,16 +52,16 @@ module _ (words : ℕ → ℕ → ℕ × ℕ) (scenario : Scenario) (bounded : I
   -- What holds after these rows.
   record Stands (rows : Rows) : Type 0 where
     lawful : Lawful as_nodes words scenario rows
-    untold : AreUntold words scenario bounded off rows
+    without_orders : AreWithoutOrders words scenario bounded off rows
     few : 1 + 4 * length rows ≤ last_slot
     near : IsNearJournal scenario (1 + 4 * length rows) rows
 
   stands : (xs ys : Rows) → whole ≡ xs ++ ys → Stands xs
   stands xs ys e =
       let first = lawful-prefix s (schedule scenario) xs ys (subst (Lawful as_nodes words scenario) e is_lawful) in
-      let plain = untold_prefix words scenario bounded off xs ys (subst (AreUntold words scenario bounded off) e is_untold) in
+      let plain = untold_prefix words scenario bounded off xs ys (subst (AreWithoutOrders words scenario bounded off) e is_untold) in
       let parts : length whole ≡ length xs + length ys = ap length e ∙ length-append xs ys in
-      record { lawful = first; untold = plain; few = omega (arith, are_few, parts); near = journal_near words scenario bounded off xs plain first }
+      record { lawful = first; without_orders = plain; few = omega (arith, are_few, parts); near = journal_near words scenario bounded off xs plain first }
 
   fitting : (xs ys : Rows) → whole ≡ xs ++ ys → IsFixedJournal scenario xs × Each (λ (m : Mail). FitsSlots m.body) (mails xs)
   fitting xs ys e =
@@ -89,7 +89,7 @@ module _ (words : ℕ → ℕ → ℕ × ℕ) (scenario : Scenario) (bounded : I
 
     -- a round is left
     room : (rows : Rows) → Stands rows → (who : ℕ) (r : ReplicaState) → seen rows who ≡ Some r → eqb r.top.round (2 ^ 32 - 1) ≡ false
-    room rows k who r e = (let x = seat_seen words scenario bounded off base among rows who r e in at (value player_table x.0 rows) x.3 ((journal_grown rounds_grow words scenario bounded off rows k.untold k.lawful).players x.0 x.1))
+    room rows k who r e = (let x = seat_seen words scenario bounded off base among rows who r e in at (value player_table x.0 rows) x.3 ((journal_grown rounds_grow words scenario bounded off rows k.without_orders k.lawful).players x.0 x.1))
       where
         at : (p : Player) → player_view words scenario bounded base among p ≡ Some r → PlayerGrown rounds_grow (1 + length rows) p → eqb r.top.round (2 ^ 32 - 1) ≡ false
         at (Node node) q n =
@@ -148,7 +148,7 @@ module _ (words : ℕ → ℕ → ℕ × ℕ) (scenario : Scenario) (bounded : I
         -- who was settled is
         was_settled : settled r0 ≡ true → IsSettledAfter rows1
         was_settled on r e running =
-            let same : (tick_row false t.drawer (r0, [])).0 ≡ r = (let q = sym t.is ∙ e in cc) in
+            let same : (tick_row false t.drawer (r0, [])).0 ≡ r = (let q = sym t.fact ∙ e in cc) in
             let free = ap (λ (core : Core). core.lock) t.fixed.fixed.group ∙ born.free in
             ap settled (sym same) ∙ tick_keeps_settled t.drawer r0 [] free on
 
@@ -163,7 +163,7 @@ module _ (words : ℕ → ℕ → ℕ × ℕ) (scenario : Scenario) (bounded : I
           elects = elected_at_tick base seat.who born t.drawer r0 [] t.fixed off_ (room rows k seat.who r0 t.was)
 
           is_elected : (r : ReplicaState) → seen rows1 seat.who ≡ Some r → (elected_place (r0, [])).0 ≡ r
-          is_elected r e = (let same : (tick_row false t.drawer (r0, [])).0 ≡ r = (let q = sym t.is ∙ e in cc) in ap (λ (p : Place). p.0) (sym elects) ∙ same)
+          is_elected r e = (let same : (tick_row false t.drawer (r0, [])).0 ≡ r = (let q = sym t.fact ∙ e in cc) in ap (λ (p : Place). p.0) (sym elects) ∙ same)
 
           abbrev AsksIf : Mail → Type 0
           AsksIf m = group_of_mail m.body ≡ Some base.core.id → (m.from ≡ seat.who) × (m.body ≡ Prepare base.core.id (next_ballot r0) (next r0))
@@ -201,7 +201,7 @@ module _ (words : ℕ → ℕ → ℕ × ℕ) (scenario : Scenario) (bounded : I
 
           unpromised : (m : ℕ) (x : ReplicaState) → seen rows1 m ≡ Some x → x.acceptor.promised ≡ next_ballot r0 → ⊥
           unpromised m x e same =
-              let ballots : HasFreshBallots words scenario bounded off base among rows = ballots_fresh words scenario bounded off base among rows k.untold k.lawful in
+              let ballots : HasFreshBallots words scenario bounded off base among rows = ballots_fresh words scenario bounded off base among rows k.without_orders k.lawful in
               let step = MayAdd-step s rows (place_after s (schedule scenario) rows).tasks row (lawful-last s (schedule scenario) rows row k1.lawful) in
               let low = promised_before words scenario bounded off base among rows row refl (1 + 4 * length rows) k.near ballots step seat.who m r0 x t.was e (ap (λ (b : Ballot). b.node) same ∙ t.fixed.me_is) in
               let round = ap (λ (b : Ballot). b.round) same in omega (arith, low, round)
@@ -222,7 +222,7 @@ module _ (words : ℕ → ℕ → ℕ × ℕ) (scenario : Scenario) (bounded : I
           let rows1 : Rows = rows ++ row ∷ [] in
           let k1 : Stands rows1 = stands rows1 (deliveries ++ later) (e ∙ append_assoc rows1 deliveries later) in
           let k : Stands rows = stands rows (row ∷ (deliveries ++ later)) (e ∙ (append_assoc rows1 deliveries later ∙ append_assoc rows (row ∷ []) (deliveries ++ later))) in
-          let ballots : HasFreshBallots words scenario bounded off base among rows = ballots_fresh words scenario bounded off base among rows k.untold k.lawful in
+          let ballots : HasFreshBallots words scenario bounded off base among rows = ballots_fresh words scenario bounded off base among rows k.without_orders k.lawful in
           elim (own_tick words scenario bounded off base among seat is_of node_is rows k.near.fixed ballots) [
             | inl none ↦ stays_settled rows1 deliveries later e delivered may mine (λ r f. absurd (let bad = sym f ∙ none in cc))
             | inr t ↦ elim (cases_Bool (settled t.replica)) [

@@ -16,7 +16,7 @@ use Rattle.sc_live_orderly.specs.Definitions.{is_told}
 use Rattle.sc_law_groups.proofs.WholeProofs.Lemmas.{group_place}
 use Rattle.sc_live_healed.proofs.SeatBirths.{seat_born}
 use Rattle.sc_live_healed.proofs.FixedNodes.{AreFresh}
-use Rattle.sc_live_healed.proofs.FixedJournals.{Rows, IsFixedPlayer, IsOf, IsFixedJournal, Brings, fresh, given, first_fixed, brings, next_fixed, AreUntold, untold_parts}
+use Rattle.sc_live_healed.proofs.FixedJournals.{Rows, IsFixedPlayer, IsOf, IsFixedJournal, Brings, fresh, given, first_fixed, brings, next_fixed, AreWithoutOrders, untold_parts}
 use Rattle.sc_live_healed.proofs.NodeSlots.{AreRosters, steps_take}
 use Rattle.sc_live_healed.proofs.MailedSlots.{born_takes}
 use Rattle.sc_live_healed.specs.Definitions.{IsFixedReplica, IsFixedMail, TakesSlots, AllTakeSlots}
@@ -86,17 +86,17 @@ module _ (words : ℕ → ℕ → ℕ × ℕ) (scenario : Scenario) (bounded : I
   acts sent who (Node node) (Again number) s b k t = t
 
   next_taken : (rows : Rows) (row : Row Mail OrderLine) → is_told row.event ≡ false → IsTakenJournal scenario rows → IsStep (system_of as_nodes words scenario) rows row → IsTakenJournal scenario (rows ++ row ∷ [])
-  next_taken rows row untold now step = record {
-    fixed = next_fixed words scenario bounded off rows row untold now.fixed step;
+  next_taken rows row without_orders now step = record {
+    fixed = next_fixed words scenario bounded off rows row without_orders now.fixed step;
     takes = λ seat is_of. subst (PlayerTakes bases) (sym (value-snoc player_table seat rows row))
         (cond_both (eqb row.who seat.who) (acted player_table (value player_table seat rows) (input_of (mails rows) row.event)).0 (value player_table seat rows) (PlayerTakes bases)
-        (λ t. acts (mails rows) seat.who (value player_table seat rows) row.event now.fixed.sent (brings words scenario bounded off rows row untold now.fixed seat.who (eqb-true row.who seat.who t) step) (now.fixed.players seat is_of) (now.takes seat is_of))
+        (λ t. acts (mails rows) seat.who (value player_table seat rows) row.event now.fixed.sent (brings words scenario bounded off rows row without_orders now.fixed seat.who (eqb-true row.who seat.who t) step) (now.fixed.players seat is_of) (now.takes seat is_of))
         (λ _. now.takes seat is_of));
   }
 
   -- ---- all rows
 
-  pub journal_taken : (rows : Rows) → AreUntold words scenario bounded off rows → Lawful as_nodes words scenario rows → IsTakenJournal scenario rows
-  journal_taken rows untold lawful =
-      lawful-induction (system_of as_nodes words scenario) (λ (xs : Rows). AreUntold words scenario bounded off xs → IsTakenJournal scenario xs)
-      (λ xs row keeps step more. (let parts = untold_parts words scenario bounded off xs row more in next_taken xs row parts.1 (keeps parts.0) step)) (schedule scenario) rows (λ _. first_taken) lawful untold
+  pub journal_taken : (rows : Rows) → AreWithoutOrders words scenario bounded off rows → Lawful as_nodes words scenario rows → IsTakenJournal scenario rows
+  journal_taken rows without_orders lawful =
+      lawful-induction (system_of as_nodes words scenario) (λ (xs : Rows). AreWithoutOrders words scenario bounded off xs → IsTakenJournal scenario xs)
+      (λ xs row keeps step more. (let parts = untold_parts words scenario bounded off xs row more in next_taken xs row parts.1 (keeps parts.0) step)) (schedule scenario) rows (λ _. first_taken) lawful without_orders

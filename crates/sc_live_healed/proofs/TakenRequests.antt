@@ -10,9 +10,9 @@ use Rattle.sc_node_table.specs.Definitions.{ReplicaState, next, taken_at, taken_
 use Rattle.sc_law_walks.proofs.Lemmas.{grows}
 use Rattle.sc_law_walks.proofs.Talks.{all_answered, all_dismissed}
 use Rattle.sc_live_plain.specs.Definitions.{takers}
-use Rattle.sc_live_plain.proofs.RowsProofs.SlotCounts.{count-cons, one_yes, one_no, entries_at, find_none}
+use Rattle.sc_live_plain.proofs.PlainRowsProofs.SlotCounts.{count-cons, one_yes, one_no, entries_at, find_none}
 use Rattle.sc_live_plain.proofs.LeadersProofs.LeadingReplicas.{flights_at}
-use Rattle.sc_live_plain.proofs.RowsProofs.RepeatedMail.{mail_of, among_push, last_among}
+use Rattle.sc_live_plain.proofs.PlainRowsProofs.RepeatedMail.{mail_of, among_push, last_among}
 use Rattle.sc_live_plain.proofs.Lemmas.{to_numbers}
 
 -- ---- whose request a command is
@@ -45,17 +45,17 @@ pub record AreApart (r : ReplicaState) : Type 0 where
 -- a flight stands at its slot
 pub flight_counts : (fs : List (Flight Command)) (f : Flight Command) → Among f fs → 1 ≤ flights_at f.slot fs
 flight_counts [] f a = absurd a
-flight_counts (x ∷ fs) f (inl is) =
+flight_counts (x ∷ fs) f (inl fact) =
     let c = count-cons (λ (y : Flight Command). eqb y.slot f.slot) x fs in
-    let here = one_yes (eqb x.slot f.slot) (eq-eqb x.slot f.slot (ap (λ (y : Flight Command). y.slot) is)) in omega (arith, c, here)
+    let here = one_yes (eqb x.slot f.slot) (eq-eqb x.slot f.slot (ap (λ (y : Flight Command). y.slot) fact)) in omega (arith, c, here)
 flight_counts (x ∷ fs) f (inr a) = (let c = count-cons (λ (y : Flight Command). eqb y.slot f.slot) x fs in let more = flight_counts fs f a in omega (arith, c, more))
 
 -- an entry stands at its slot
 pub entry_counts : (es : List (ℕ × Command)) (e : ℕ × Command) → Among e es → 1 ≤ entries_at e.0 es
 entry_counts [] e a = absurd a
-entry_counts (x ∷ es) e (inl is) =
+entry_counts (x ∷ es) e (inl fact) =
     let c = count-cons (λ (y : ℕ × Command). eqb y.0 e.0) x es in
-    let here = one_yes (eqb x.0 e.0) (eq-eqb x.0 e.0 (ap (λ (y : ℕ × Command). y.0) is)) in omega (arith, c, here)
+    let here = one_yes (eqb x.0 e.0) (eq-eqb x.0 e.0 (ap (λ (y : ℕ × Command). y.0) fact)) in omega (arith, c, here)
 entry_counts (x ∷ es) e (inr a) = (let c = count-cons (λ (y : ℕ × Command). eqb y.0 e.0) x es in let more = entry_counts es e a in omega (arith, c, more))
 
 -- ---- what the client asked for
@@ -74,8 +74,8 @@ module _ (client seq : ℕ) where
 
   pub flight_found : (fs : List (Flight Command)) (f : Flight Command) → Among f fs → flights_at f.slot fs ≤ 1 → flight_at f.slot fs ≡ Some f
   flight_found [] f a most = absurd a
-  flight_found (x ∷ fs) f (inl is) most =
-      cond-true (eqb x.slot f.slot) (Some x) (flight_at f.slot fs) (eq-eqb x.slot f.slot (ap (λ (y : Flight Command). y.slot) is)) ∙ ap Some is
+  flight_found (x ∷ fs) f (inl fact) most =
+      cond-true (eqb x.slot f.slot) (Some x) (flight_at f.slot fs) (eq-eqb x.slot f.slot (ap (λ (y : Flight Command). y.slot) fact)) ∙ ap Some fact
   flight_found (x ∷ fs) f (inr a) most =
       let c = count-cons (λ (y : Flight Command). eqb y.slot f.slot) x fs in
       let more = flight_counts fs f a in
@@ -85,8 +85,8 @@ module _ (client seq : ℕ) where
 
   entry_found : (es : List (ℕ × Command)) (e : ℕ × Command) → Among e es → entries_at e.0 es ≤ 1 → at_slot es e.0 ≡ Some e.1
   entry_found [] e a most = absurd a
-  entry_found (x ∷ es) e (inl is) most =
-      cond-true (eqb x.0 e.0) (Some x.1) (at_slot es e.0) (eq-eqb x.0 e.0 (ap (λ (y : ℕ × Command). y.0) is)) ∙ ap (λ (y : ℕ × Command). Some y.1) is
+  entry_found (x ∷ es) e (inl fact) most =
+      cond-true (eqb x.0 e.0) (Some x.1) (at_slot es e.0) (eq-eqb x.0 e.0 (ap (λ (y : ℕ × Command). y.0) fact)) ∙ ap (λ (y : ℕ × Command). Some y.1) fact
   entry_found (x ∷ es) e (inr a) most =
       let c = count-cons (λ (y : ℕ × Command). eqb y.0 e.0) x es in
       let more = entry_counts es e a in
@@ -176,9 +176,9 @@ module _ (client seq : ℕ) where
   without_ours who [] command a ours other = absurd a
   without_ours who (c ∷ backlog) command (inl same) ours other =
       let our_c : IsOurs c = subst IsOurs (sym same) ours in
-      let is = call_so client seq c our_c in
+      let fact = call_so client seq c our_c in
       cond_both (is_request_of who c) backlog (c ∷ without_request backlog who) (Among command)
-      (λ t. absurd (let own : client ≡ who = eqb-true client who (sym (ap (is_request_of who) is.1) ∙ t) in other own (ap (λ (x : Command). queued_number (x ∷ backlog) who) is.1 ∙ cond-true (eqb client who) (Some seq) (queued_number backlog who) (eq-eqb client who own))))
+      (λ t. absurd (let own : client ≡ who = eqb-true client who (sym (ap (is_request_of who) fact.1) ∙ t) in other own (ap (λ (x : Command). queued_number (x ∷ backlog) who) fact.1 ∙ cond-true (eqb client who) (Some seq) (queued_number backlog who) (eq-eqb client who own))))
       (λ _. inl same)
   without_ours who (c ∷ backlog) command (inr a) ours other =
       cond_both (is_request_of who c) backlog (c ∷ without_request backlog who) (Among command) (λ _. a)
@@ -262,6 +262,6 @@ module _ (client seq : ℕ) where
   pub ours_back : (command : Command) (r : ReplicaState) → IsOurs command → Each (IsAtMost client seq) r.backlog → IsHeld (put_back command r)
   unfolding put_back
   ours_back command r ours few =
-      let is = call_so client seq command ours in
-      let b = before_ours is.0 (queued_number r.backlog client) r.backlog refl few in
-      subst (λ (c : Command). IsHeld (put_back c r)) (sym is.1) (Queued b.0 b.1 b.2)
+      let fact = call_so client seq command ours in
+      let b = before_ours fact.0 (queued_number r.backlog client) r.backlog refl few in
+      subst (λ (c : Command). IsHeld (put_back c r)) (sym fact.1) (Queued b.0 b.1 b.2)

@@ -50,14 +50,14 @@ module _ (E : Place → Type 0) (u : Unqueued E) where
     entry_parts = record {
       Lost = λ other. Unit {0};
       entered = λ mails k. (e.enters mails (entered_next command start) k, ap (λ (group : Group). group.core) (entered_group command start) ∙ applied_core base command start.group fixed ∙ same);
-      answers = λ client seq op answer r mails t is a k. (e.answers client seq answer r mails k.0, k.1);
+      answers = λ client seq op answer r mails t fact a k. (e.answers client seq answer r mails k.0, k.1);
       returned = λ r mails t k. back_so command r mails k;
-      reports = λ result r mails is k. absurd (unreported base counted command start fixed same result is);
+      reports = λ result r mails fact k. absurd (unreported base counted command start fixed same result fact);
       speaks = λ r mails k. unspoken base counted command start fixed same Q r mails k;
       teaches = λ to r mails t a k. (e.teaches to r mails k.0, k.1);
       installs = λ to r mails t new k. absurd (none_joined base counted command start fixed same r k.1 to new);
       repolls = λ to r mails t new k. absurd (none_joined base counted command start fixed same r k.1 to new);
-      flies = λ other r mails is k. tt;
+      flies = λ other r mails fact k. tt;
       landed = λ place k. (e.clears place k.0, k.1);
       back = λ other r mails l k. back_so other r mails k;
     }

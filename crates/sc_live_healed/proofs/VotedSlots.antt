@@ -152,7 +152,7 @@ module _ (base : Base) (free : base.core.lock ≡ Free) (stands : base.core.gone
           (voted_all U slot v r.leader.flights few_flights (λ g a ne. stays g a (λ b s. ne (sym s)))
           (λ g a here. record {
             value = Each-among (λ (x : Flight Command). IsFixedCommand base x.value) r.leader.flights g fixed.flights a;
-            undecided = record { voters = vote.members_still; undecided = no_ };
+            undecided = record { voters = vote.few; undecided = no_ };
             from = inl (record {
               was = flight;
               among = among;

@@ -28,13 +28,13 @@ module _ (bases : List Base) (alive : ℕ → Type 0) (node : NodeState) (mail :
   votes_after_others votes base a r e flight f member in_ lives =
       still_under_way mail others more base node.me member r.leader.ballot flight flight rest refl (record {
         counted = λ v. v;
-        asked = λ command is. (
-            let who : mail.to ≡ member = ap (λ (x : Mail). x.to) is in
+        asked = λ command fact. (
+            let who : mail.to ≡ member = ap (λ (x : Mail). x.to) fact in
             Answered (subst (λ (w : ℕ). IsAnswered more base w node.me r.leader.ballot flight.slot) who
-            (answers base a r.leader.ballot flight.slot command (subst alive (sym who) lives) (is ∙ ap (λ (w : ℕ). mail_between node.me w (Accept base.core.id r.leader.ballot flight.slot command)) (sym who)))));
-        accepted = λ is. absurd (elsewhere (ap (λ (x : Mail). x.to) is));
-        refused = λ promised low is. absurd (elsewhere (ap (λ (x : Mail). x.to) is));
-        installed = λ last sent sets up near is. absurd (elsewhere (ap (λ (x : Mail). x.to) is));
+            (answers base a r.leader.ballot flight.slot command (subst alive (sym who) lives) (fact ∙ ap (λ (w : ℕ). mail_between node.me w (Accept base.core.id r.leader.ballot flight.slot command)) (sym who)))));
+        accepted = λ fact. absurd (elsewhere (ap (λ (x : Mail). x.to) fact));
+        refused = λ promised low fact. absurd (elsewhere (ap (λ (x : Mail). x.to) fact));
+        installed = λ last sent sets up near fact. absurd (elsewhere (ap (λ (x : Mail). x.to) fact));
       }) (votes base a r e flight f member in_ lives)
 
 -- ---- the node's own tick
@@ -47,8 +47,8 @@ module _ (bases : List Base) (fresh : AreFresh bases) (rosters : AreRosters base
   ticked_from mails [] [] l t r a = absurd a
   ticked_from mails [] (x ∷ after) l t r a = absurd t
   ticked_from mails (y ∷ replicas) [] l t r a = absurd t
-  ticked_from mails (y ∷ replicas) (x ∷ after) l t r (inl is) =
-      subst (λ (z : ReplicaState). (base : Base) × Among base bases × IsFixedReplica base z × (z.me ≡ node.me) × Each (IsAsked base z.me z.leader.ballot mails) z.leader.flights) is (t.0.0, t.0.1, t.0.3.fixed, t.0.3.me_is, t.0.3.asked l.0)
+  ticked_from mails (y ∷ replicas) (x ∷ after) l t r (inl fact) =
+      subst (λ (z : ReplicaState). (base : Base) × Among base bases × IsFixedReplica base z × (z.me ≡ node.me) × Each (IsAsked base z.me z.leader.ballot mails) z.leader.flights) fact (t.0.0, t.0.1, t.0.3.fixed, t.0.3.me_is, t.0.3.asked l.0)
   ticked_from mails (y ∷ replicas) (x ∷ after) l t r (inr a) = ticked_from mails replicas after l.1 t.1 r a
 
   -- the votes for what it has in flight are counted or asked for

@@ -102,13 +102,13 @@ module _ (words : ℕ → ℕ → ℕ × ℕ) (scenario : Scenario) (bounded : I
 
       -- another actor takes it
       answers : (lead : NodeState) → lead.me ≡ seat.who → (base : Base) → Among base bases → (ballot : Ballot) (slot : ℕ) (command : Command) → alive t.mail.to → t.mail ≡ mail_between lead.me t.mail.to (Accept base.core.id ballot slot command) → IsAnswered more base t.mail.to lead.me ballot slot
-      answers lead mine base a ballot slot command lives is =
+      answers lead mine base a ballot slot command lives fact =
           let at = l.nodes t.seat receiver_of_seat (subst alive (sym receiver_is) lives) in
           let k = node_fixed rows l t.seat receiver_of_seat at.0 at.1 in
           let to : t.mail.to ≡ at.0.me = sym receiver_is ∙ sym k.0 in
           let leads : alive lead.me = subst alive (sym mine) living in
           let given_ = accept_answered bases (fresh words scenario bounded off) at.0 k.2 (l.bounds t.seat receiver_of_seat at.0 at.1) t.mail mail_fixed to base a lead.me ballot slot command (are_nodes lead.me leads)
-          (is ∙ ap (λ (who : ℕ). mail_between lead.me who (Accept base.core.id ballot slot command)) to) in
+          (fact ∙ ap (λ (who : ℕ). mail_between lead.me who (Accept base.core.id ballot slot command)) to) in
           subst (λ (who : ℕ). IsAnswered more base who lead.me ballot slot) (sym to)
           (answered_still (node_table at.0 (Got t.mail)).1 more base at.0.me lead.me ballot slot (λ x b e. sent_stays at.0 at.1 x b (subst alive (sym e) leads)) given_)
 
@@ -135,8 +135,8 @@ module _ (words : ℕ → ℕ → ℕ × ℕ) (scenario : Scenario) (bounded : I
             value_is ∙ (cond-true (eqb row.who seat.who) (acted player_table (value player_table seat rows) (input_of (mails rows) row.event)).0 (value player_table seat rows) yes_
             ∙ (ap (λ (event : Event OrderLine). (acted player_table (value player_table seat rows) (input_of (mails rows) event)).0) event_is
             ∙ (ap (λ (s : Seat Player). (acted player_table (value player_table s rows) (input_of {O = OrderLine} (mails rows) (Deliver t.number))).0) (sym same) ∙ ap (λ (p : Player × List Mail). p.0) (taken_is was.0 here)))) in
-            let is : (node_table was.0 (Got t.mail)).0 ≡ node = node_is (sym now ∙ e) in
-            subst (λ (n : NodeState). VotesAreUnderWay bases alive more n) is (itself same was.0 was.1))
+            let fact : (node_table was.0 (Got t.mail)).0 ≡ node = node_is (sym now ∙ e) in
+            subst (λ (n : NodeState). VotesAreUnderWay bases alive more n) fact (itself same was.0 was.1))
         | inr no_ ↦ (
             let other : t.seat.who ≡ seat.who → ⊥ = λ same. true≢false (sym (eq-eqb row.who seat.who (row_who ∙ same)) ∙ no_) in
             let now : value player_table seat rows ≡ Node node = sym (value_is ∙ cond-false (eqb row.who seat.who) (acted player_table (value player_table seat rows) (input_of (mails rows) row.event)).0 (value player_table seat rows) no_) ∙ e in

@@ -53,8 +53,8 @@ module _ (words : ℕ → ℕ → ℕ × ℕ) (scenario : Scenario) (bounded : I
         let sent : row.sent ≡ (on_tick was.0).1 = ap (λ (p : Player). (acted player_table p (Some Tick)).1) was.1 in
         let more : List Mail = pending_mail System_ (rows ++ row ∷ []) in
         let test : Mail → Bool = λ (m : Mail). may_get (numbers_of System_.births) (rows ++ row ∷ []) m.to in
-        let is : (on_tick was.0).0 ≡ node = node_is (sym now ∙ e) in
-        subst (λ (n : NodeState). VotesAreUnderWay scenario.groups alive more n) is
+        let fact : (on_tick was.0).0 ≡ node = node_is (sym now ∙ e) in
+        subst (λ (n : NodeState). VotesAreUnderWay scenario.groups alive more n) fact
         (votes_after_tick scenario.groups (fresh words scenario bounded off) (groups_rosters scenario bounded) alive was.0 k.2 (node_takes words scenario bounded off alive rows l seat is_of was.0 was.1) (l.rounds seat is_of was.0 was.1) k.1 more
         (λ x a lives. subst (Among x) (sym (after-row System_ test rows row))
         (Among-right x (mail_with test (mails rows) (counts_at (copies rows) row.event)) (filter test row.sent) (Among-filter test row.sent x (subst (Among x) (sym sent) a) (later.gets x.to lives)))))

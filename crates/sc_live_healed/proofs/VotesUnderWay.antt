@@ -11,7 +11,7 @@ use Rattle.sc_paxos_law.proofs.Lemmas.{member-among}
 use Rattle.sc_live_plain.proofs.Lemmas.{put_found, put_others, some_is}
 use Rattle.sc_live_healed.specs.Definitions.{IsFixedReplica, IsFixedBase, IsFixedBody, IsFixedMail, IsFixedNode, TakesSlots, AllTakeSlots, HasVoted, Counts, IsCarried, mail_between, IsAnswered, Accepts, Refuses, Installs, IsVoteUnderWay, Counted, Asked, Answered, VotesAreUnderWay, IsInBounds}
 use Rattle.sc_live_healed.proofs.FixedNodes.{AreFresh}
-use Rattle.sc_live_healed.proofs.NodeMail.{TakesMail, PassesMail, mail_taken}
+use Rattle.sc_live_healed.proofs.FixedGroupMail.{TakesMail, PassesMail, mail_taken}
 use Rattle.sc_live_healed.proofs.NodeSlots.{AreRosters, found_takes}
 use Rattle.sc_live_healed.proofs.AnsweredAccepts.{accept_answers}
 use Rattle.sc_live_healed.proofs.ServingReplicas.{Grows, IsUnderWay}
@@ -36,13 +36,13 @@ module _ (mail : Mail) (others more : List Mail) (base : Base) (lead member : �
 
   pub still_under_way : MakesUp → IsVoteUnderWay (mail ∷ others) base lead ballot before member → W
   still_under_way m (Counted voted) = Counted (m.counted voted)
-  still_under_way m (Asked command (inl is)) = m.asked command is
+  still_under_way m (Asked command (inl fact)) = m.asked command fact
   still_under_way m (Asked command (inr a)) = Asked command (subst (λ (s : ℕ). Among (mail_between lead member (Accept base.core.id ballot s command)) more) same (rest _ a))
-  still_under_way m (Answered (Accepts (inl is))) = m.accepted is
+  still_under_way m (Answered (Accepts (inl fact))) = m.accepted fact
   still_under_way m (Answered (Accepts (inr a))) = Answered (Accepts (subst (λ (s : ℕ). Among (mail_between member lead (Accepted base.core.id ballot s)) more) same (rest _ a)))
-  still_under_way m (Answered (Refuses promised low (inl is))) = m.refused promised low is
+  still_under_way m (Answered (Refuses promised low (inl fact))) = m.refused promised low fact
   still_under_way m (Answered (Refuses promised low (inr a))) = Answered (Refuses promised low (rest _ a))
-  still_under_way m (Answered (Installs last sent sets up near (inl is))) = m.installed last sent sets up near is
+  still_under_way m (Answered (Installs last sent sets up near (inl fact))) = m.installed last sent sets up near fact
   still_under_way m (Answered (Installs last sent sets up near (inr a))) = Answered (Installs last sent sets (subst (λ (s : ℕ). s ≤ last) same up) near (rest _ a))
 
 -- an answer among other mails
@@ -95,22 +95,22 @@ module _ (bases : List Base) (fresh : AreFresh bases) where
       (mail : Mail) (m : IsFixedMail bases mail) (to : mail.to ≡ node.me) where
     answered_by : (base : Base) → Among base bases → (lead : ℕ) (ballot : Ballot) (slot : ℕ) (command : Command) → is_node lead ≡ true → mail ≡ mail_between lead node.me (Accept base.core.id ballot slot command)
         → PassesMail node mail ⊎ TakesMail bases node mail → IsAnswered (node_table node (Got mail)).1 base node.me lead ballot slot
-    answered_by base a lead ballot slot command n is (inl p) =
+    answered_by base a lead ballot slot command n fact (inl p) =
         absurd (elim (p.why) [
-          | inl no_ ↦ true≢false (sym (ap (λ (x : Mail). may_come x.from x.body) is ∙ n) ∙ no_)
-          | inr none ↦ (let some : Some base.core.id ≡ None = sym (ap (λ (x : Mail). group_of_mail x.body) is) ∙ none in cc)
+          | inl no_ ↦ true≢false (sym (ap (λ (x : Mail). may_come x.from x.body) fact ∙ n) ∙ no_)
+          | inr none ↦ (let some : Some base.core.id ≡ None = sym (ap (λ (x : Mail). group_of_mail x.body) fact) ∙ none in cc)
         ])
-    answered_by base a lead ballot slot command n is (inr t) =
-        let same : base ≡ t.base = same_group base t.base a t.among (sym (ap (λ (x : Mail). group_of_mail x.body) is) ∙ t.group) in
+    answered_by base a lead ballot slot command n fact (inr t) =
+        let same : base ≡ t.base = same_group base t.base a t.among (sym (ap (λ (x : Mail). group_of_mail x.body) fact) ∙ t.group) in
         let found : replica_of base.core.id node.replicas ≡ Some t.replica = subst (λ (b : Base). replica_of b.core.id node.replicas ≡ Some t.replica) (sym same) t.found in
         let fixed : IsFixedReplica base t.replica = subst (λ (b : Base). IsFixedReplica b t.replica) (sym same) t.fixed in
         let answers = accept_answers base lead ballot slot command t.replica [] (ap (λ (core : Core). core.id) fixed.group) (bounds base t.replica a found) in
-        subst (λ (ms : List Mail). IsAnswered ms base node.me lead ballot slot) (sym (ap (λ (step : NodeState × List Mail). step.1) t.step ∙ ap (λ (x : Mail). (mailed x.from x.body (t.replica, [])).0.1) is ∙ accept_mails lead base.core.id ballot slot command t.replica))
+        subst (λ (ms : List Mail). IsAnswered ms base node.me lead ballot slot) (sym (ap (λ (step : NodeState × List Mail). step.1) t.step ∙ ap (λ (x : Mail). (mailed x.from x.body (t.replica, [])).0.1) fact ∙ accept_mails lead base.core.id ballot slot command t.replica))
         (subst (λ (me : ℕ). IsAnswered (accept_row lead ballot slot command (t.replica, [])).1 base me lead ballot slot) t.me_is answers)
 
     pub accept_answered : (base : Base) → Among base bases → (lead : ℕ) (ballot : Ballot) (slot : ℕ) (command : Command) → is_node lead ≡ true → mail ≡ mail_between lead node.me (Accept base.core.id ballot slot command)
         → IsAnswered (node_table node (Got mail)).1 base node.me lead ballot slot
-    accept_answered base a lead ballot slot command n is = answered_by base a lead ballot slot command n is (mail_taken bases fresh node k mail m to)
+    accept_answered base a lead ballot slot command n fact = answered_by base a lead ballot slot command n fact (mail_taken bases fresh node k mail m to)
 
   -- ---- a node takes a mail
 
@@ -121,10 +121,10 @@ module _ (bases : List Base) (fresh : AreFresh bases) where
       (sends : (x : Mail) → Among x (node_table node (Got mail)).1 → alive x.to → Among x more) (votes : VotesAreUnderWay bases alive (mail ∷ others) node) where
     -- its own Accept is answered
     own_asked : (base : Base) → Among base bases → (ballot : Ballot) (slot : ℕ) (command : Command) → mail ≡ mail_between node.me mail.to (Accept base.core.id ballot slot command) → IsAnswered more base mail.to node.me ballot slot
-    own_asked base a ballot slot command is =
+    own_asked base a ballot slot command fact =
         subst (λ (who : ℕ). IsAnswered more base who node.me ballot slot) (sym to)
         (answered_still (node_table node (Got mail)).1 more base node.me node.me ballot slot (λ x b e. sends x b (subst alive (sym e) living))
-        (accept_answered node k bounds mail m to base a node.me ballot slot command (nodes node.me living) (is ∙ ap (λ (who : ℕ). mail_between node.me who (Accept base.core.id ballot slot command)) to)))
+        (accept_answered node k bounds mail m to base a node.me ballot slot command (nodes node.me living) (fact ∙ ap (λ (who : ℕ). mail_between node.me who (Accept base.core.id ballot slot command)) to)))
 
     -- where the group's replica is as it was, and the mail is not one of the group
     stays : (base : Base) → Among base bases → (r : ReplicaState) → replica_of base.core.id node.replicas ≡ Some r → ((body : MailBody) → group_of_mail body ≡ Some base.core.id → (from : ℕ) → alive from → is_node from ≡ true → mail ≡ mail_between from mail.to body → may_come from body ≡ true → ⊥)
@@ -132,18 +132,18 @@ module _ (bases : List Base) (fresh : AreFresh bases) where
     stays base a r e none flight f member in_ lives =
         still_under_way mail others more base node.me member r.leader.ballot flight flight rest refl (record {
           counted = λ v. v;
-          asked = λ command is. absurd (none (Accept base.core.id r.leader.ballot flight.slot command) refl node.me living (nodes node.me living) (is ∙ ap (λ (who : ℕ). mail_between node.me who (Accept base.core.id r.leader.ballot flight.slot command)) (sym (ap (λ (x : Mail). x.to) is))) (nodes node.me living));
-          accepted = λ is. absurd (none (Accepted base.core.id r.leader.ballot flight.slot) refl member lives (nodes member lives) (is ∙ ap (λ (who : ℕ). mail_between member who (Accepted base.core.id r.leader.ballot flight.slot)) (sym (ap (λ (x : Mail). x.to) is))) (nodes member lives));
-          refused = λ promised low is. absurd (none (Nack base.core.id promised) refl member lives (nodes member lives) (is ∙ ap (λ (who : ℕ). mail_between member who (Nack base.core.id promised)) (sym (ap (λ (x : Mail). x.to) is))) (nodes member lives));
-          installed = λ last sent sets up near is. absurd (none (Install base.core.id last sent sets) refl member lives (nodes member lives) (is ∙ ap (λ (who : ℕ). mail_between member who (Install base.core.id last sent sets)) (sym (ap (λ (x : Mail). x.to) is))) (nodes member lives));
+          asked = λ command fact. absurd (none (Accept base.core.id r.leader.ballot flight.slot command) refl node.me living (nodes node.me living) (fact ∙ ap (λ (who : ℕ). mail_between node.me who (Accept base.core.id r.leader.ballot flight.slot command)) (sym (ap (λ (x : Mail). x.to) fact))) (nodes node.me living));
+          accepted = λ fact. absurd (none (Accepted base.core.id r.leader.ballot flight.slot) refl member lives (nodes member lives) (fact ∙ ap (λ (who : ℕ). mail_between member who (Accepted base.core.id r.leader.ballot flight.slot)) (sym (ap (λ (x : Mail). x.to) fact))) (nodes member lives));
+          refused = λ promised low fact. absurd (none (Nack base.core.id promised) refl member lives (nodes member lives) (fact ∙ ap (λ (who : ℕ). mail_between member who (Nack base.core.id promised)) (sym (ap (λ (x : Mail). x.to) fact))) (nodes member lives));
+          installed = λ last sent sets up near fact. absurd (none (Install base.core.id last sent sets) refl member lives (nodes member lives) (fact ∙ ap (λ (who : ℕ). mail_between member who (Install base.core.id last sent sets)) (sym (ap (λ (x : Mail). x.to) fact))) (nodes member lives));
         }) (votes base a r e flight f member in_ lives)
 
     passes : PassesMail node mail → VotesAreUnderWay bases alive more (node_table node (Got mail)).0
     passes p =
         subst (λ (step : NodeState × List Mail). VotesAreUnderWay bases alive more step.0) (sym p.step)
-        (λ base a r e. stays base a r e (λ body of from lives n is come. elim (p.why) [
-          | inl no_ ↦ true≢false (sym (ap (λ (x : Mail). may_come x.from x.body) is ∙ come) ∙ no_)
-          | inr none ↦ (let some : Some base.core.id ≡ None = sym (ap (λ (x : Mail). group_of_mail x.body) is ∙ of) ∙ none in cc)
+        (λ base a r e. stays base a r e (λ body of from lives n fact come. elim (p.why) [
+          | inl no_ ↦ true≢false (sym (ap (λ (x : Mail). may_come x.from x.body) fact ∙ come) ∙ no_)
+          | inr none ↦ (let some : Some base.core.id ≡ None = sym (ap (λ (x : Mail). group_of_mail x.body) fact ∙ of) ∙ none in cc)
         ]))
 
     -- the replica that takes the mail
@@ -172,16 +172,16 @@ module _ (bases : List Base) (fresh : AreFresh bases) where
           let f = fresh.each base t.among node.me t.member in
           still_under_way mail others more base node.me member ballot c.was flight rest c.same_slot (record {
             counted = λ v. c.kept member v;
-            asked = λ command is. (
-                let who : member ≡ mail.to = sym (ap (λ (x : Mail). x.to) is) in
+            asked = λ command fact. (
+                let who : member ≡ mail.to = sym (ap (λ (x : Mail). x.to) fact) in
                 Answered (subst (λ (s : ℕ). IsAnswered more base member node.me ballot s) c.same_slot (subst (λ (w : ℕ). IsAnswered more base w node.me ballot c.was.slot) (sym who)
-                (own_asked base t.among ballot c.was.slot command (is ∙ ap (λ (w : ℕ). mail_between node.me w (Accept base.core.id ballot c.was.slot command)) who)))));
-            accepted = λ is. (let counts : Counts member (Accepted base.core.id ballot c.was.slot) ballot flight = subst (λ (x : Mail). Counts x.from x.body ballot flight) is c.counts in Counted (counts refl c.same_slot));
-            refused = λ promised low is. absurd (true≢false (sym on ∙ (ap (λ (x : Mail). (mailed x.from x.body (t.replica, [])).0.0.running) is ∙ nack_mails member base.core.id promised t.replica (runs c.was c.among) low)));
-            installed = λ last sent sets up near is. (
-                let body : IsFixedBody base member t.replica.me (Install base.core.id last sent sets) = subst (λ (x : Mail). IsFixedBody base x.from t.replica.me x.body) is says in
+                (own_asked base t.among ballot c.was.slot command (fact ∙ ap (λ (w : ℕ). mail_between node.me w (Accept base.core.id ballot c.was.slot command)) who)))));
+            accepted = λ fact. (let counts : Counts member (Accepted base.core.id ballot c.was.slot) ballot flight = subst (λ (x : Mail). Counts x.from x.body ballot flight) fact c.counts in Counted (counts refl c.same_slot));
+            refused = λ promised low fact. absurd (true≢false (sym on ∙ (ap (λ (x : Mail). (mailed x.from x.body (t.replica, [])).0.0.running) fact ∙ nack_mails member base.core.id promised t.replica (runs c.was c.among) low)));
+            installed = λ last sent sets up near fact. (
+                let body : IsFixedBody base member t.replica.me (Install base.core.id last sent sets) = subst (λ (x : Mail). IsFixedBody base x.from t.replica.me x.body) fact says in
                 let open_ = (in_open base f.free f.stands t.replica here t.fixed takes_slots c.was c.among).0 in
-                absurd (true≢false (sym on ∙ (ap (λ (x : Mail). (mailed x.from x.body (t.replica, [])).0.0.running) is ∙ install_mails base member base.core.id last sent sets t.replica t.fixed body near (omega (arith, open_, up))))));
+                absurd (true≢false (sym on ∙ (ap (λ (x : Mail). (mailed x.from x.body (t.replica, [])).0.0.running) fact ∙ install_mails base member base.core.id last sent sets t.replica t.fixed body near (omega (arith, open_, up))))));
           }) (votes base t.among t.replica t.found c.was c.among member in_ lives)
 
       -- the replica after the mail
@@ -218,14 +218,14 @@ module _ (bases : List Base) (fresh : AreFresh bases) where
           by base a r e true same flight f member in_ lives =
               let one : base ≡ t.base = fresh.apart base t.base a t.among (draw_is base.core.id t.base.core.id same) in
               let found = put_found t.base.core.id (mailed mail.from mail.body (t.replica, [])).0.0 t.replica node.replicas name_after t.found in
-              let is : (mailed mail.from mail.body (t.replica, [])).0.0 ≡ r = some_is (sym found ∙ ap (λ (b : Base). replica_of b.core.id (with_replica t.base.core.id (mailed mail.from mail.body (t.replica, [])).0.0 node.replicas)) (sym one) ∙ e) in
+              let fact : (mailed mail.from mail.body (t.replica, [])).0.0 ≡ r = some_is (sym found ∙ ap (λ (b : Base). replica_of b.core.id (with_replica t.base.core.id (mailed mail.from mail.body (t.replica, [])).0.0 node.replicas)) (sym one) ∙ e) in
               subst (λ (b : Base). IsVoteUnderWay more b node.me r.leader.ballot flight member) (sym one)
-              (subst (λ (x : ReplicaState). IsVoteUnderWay more t.base node.me x.leader.ballot flight member) is
-              (own_votes flight (subst (λ (x : ReplicaState). Among flight x.leader.flights) (sym is) f) member (subst (λ (b : Base). is_member b.core.members member ≡ true) one in_) lives))
+              (subst (λ (x : ReplicaState). IsVoteUnderWay more t.base node.me x.leader.ballot flight member) fact
+              (own_votes flight (subst (λ (x : ReplicaState). Among flight x.leader.flights) (sym fact) f) member (subst (λ (b : Base). is_member b.core.members member ≡ true) one in_) lives))
           by base a r e false other flight f member in_ lives =
               let ne : base.core.id ≡ t.base.core.id → ⊥ = λ same. true≢false (sym (same_name base.core.id t.base.core.id same) ∙ other) in
               stays base a r (sym (put_others t.base.core.id base.core.id (mailed mail.from mail.body (t.replica, [])).0.0 node.replicas name_after ne) ∙ e)
-              (λ body of from l n is come. ne (let ids : Some base.core.id ≡ Some t.base.core.id = sym (ap (λ (x : Mail). group_of_mail x.body) is ∙ of) ∙ t.group in some_is ids)) flight f member in_ lives
+              (λ body of from l n fact come. ne (let ids : Some base.core.id ≡ Some t.base.core.id = sym (ap (λ (x : Mail). group_of_mail x.body) fact ∙ of) ∙ t.group in some_is ids)) flight f member in_ lives
 
     -- the votes for what its replicas have in flight stay counted or under way
     pub votes_after_mail : VotesAreUnderWay bases alive more (node_table node (Got mail)).0

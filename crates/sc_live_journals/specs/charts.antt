@@ -1,5 +1,5 @@
 pub mod Charts
 pub mod GoneDistances
 pub mod ChartSequence
-pub mod QuietPrefixes
+pub mod LastQuietPrefixes
 pub mod Definitions

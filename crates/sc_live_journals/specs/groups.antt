@@ -3,13 +3,13 @@ pub mod QuietLeaders
 pub mod ReplicaInvariants
 pub mod RowKinds
 pub mod WellLedGroups
-pub mod GroupLogs
+pub mod RequiredLogs
 pub mod PlayerEvents
 pub mod QuietGroups
 pub mod RisingHints
-pub mod Rows
+pub mod WellLedRows
 pub mod Slots
-pub mod EntryLearners
-pub mod WholeJournals
+pub mod TaughtGroups
+pub mod WellLedJournals
 pub mod GreatestBallots
 pub mod Definitions

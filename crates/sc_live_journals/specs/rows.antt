@@ -1,5 +1,5 @@
 pub mod NonPaxosMail
-pub mod GroupBeginnings
+pub mod GroupBirths
 pub mod Elections
 pub mod EvenGroups
 pub mod Groups
@@ -7,7 +7,7 @@ pub mod FollowingRows
 pub mod MailRows
 pub mod Senders
 pub mod ReplicaSteps
-pub mod WholeJournals
+pub mod FollowedJournals
 pub mod PlayerRows
 pub mod ReplicaInvariant
 pub mod Definitions

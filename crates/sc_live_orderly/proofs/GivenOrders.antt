@@ -101,29 +101,29 @@ module _ {A M O : Type 0} (s : System A M O) where
         record { so = delivered_so allowed row.who row.event d; fewer = omega (arith, none, less) }
 
     taught : (tasks : List (Task O)) → Each (IsTaskOf (IsCalmSo allowed)) tasks → MayAdd s rows tasks row → IsTaught allowed row tasks
-    taught [] is may = absurd may
-    taught (Once (GoLine who) ∷ tasks) is may =
+    taught [] fact may = absurd may
+    taught (Once (GoLine who) ∷ tasks) fact may =
         let go : Event O = Go in
         let same : go ≡ row.event = acts-event s rows who go row (unless-some (has_started rows who) (acts s rows who Go) row may) in
         let none : one_if (is_told row.event) ≡ 0 = subst (λ (e : Event O). one_if (is_told e) ≡ 0) same refl in
         record { so = subst (λ (e : Event O). GivesAllowedOrder allowed row.who e) same tt; fewer = omega (arith, none) }
-    taught (Once (ToldLine who order) ∷ tasks) is may =
+    taught (Once (ToldLine who order) ∷ tasks) fact may =
         let acted = unless-some (has_crashed rows who) (acts s rows who (Told order)) row may in
         let same : Told order ≡ row.event = acts-event s rows who (Told order) row acted in
         let here = acts-who s rows who (Told order) row acted in
         let one : one_if (is_told row.event) ≡ 1 = subst (λ (e : Event O). one_if (is_told e) ≡ 1) same refl in
-        record { so = subst (λ (e : Event O). GivesAllowedOrder allowed row.who e) same (subst (λ (w : ℕ). allowed w order ≡ true) (sym here) is.0.1); fewer = omega (arith, one) }
-    taught (Settles left ∷ tasks) is may = by_delivery (Settles left ∷ tasks) (delivery-event s rows left row may) (omega arith)
-    taught (Frees left ∷ tasks) is may = by_delivery (Frees left ∷ tasks) (free-event s rows left row may) (omega arith)
-    taught (Once (Settle most) ∷ tasks) is may = cc
-    taught (Once (Free most workers) ∷ tasks) is may = cc
-    taught (Once (DeliverLine who k) ∷ tasks) is may = by_delivery (Once (DeliverLine who k) ∷ tasks) (deliver-event s rows who k row may) (omega arith)
-    taught (Once (DropLine who k) ∷ tasks) is may = absurd is.0.0
-    taught (Once (AgainLine mail) ∷ tasks) is may = absurd is.0.0
-    taught (Once (TickLine who) ∷ tasks) is may = absurd is.0.0
-    taught (Once (CrashLine who) ∷ tasks) is may = absurd is.0.0
-    taught (Once (Storm number most) ∷ tasks) is may = absurd is.0.0
-    taught (Storms words ∷ tasks) is may = absurd is.0
+        record { so = subst (λ (e : Event O). GivesAllowedOrder allowed row.who e) same (subst (λ (w : ℕ). allowed w order ≡ true) (sym here) fact.0.1); fewer = omega (arith, one) }
+    taught (Settles left ∷ tasks) fact may = by_delivery (Settles left ∷ tasks) (delivery-event s rows left row may) (omega arith)
+    taught (Frees left ∷ tasks) fact may = by_delivery (Frees left ∷ tasks) (free-event s rows left row may) (omega arith)
+    taught (Once (Settle most) ∷ tasks) fact may = cc
+    taught (Once (Free most workers) ∷ tasks) fact may = cc
+    taught (Once (DeliverLine who k) ∷ tasks) fact may = by_delivery (Once (DeliverLine who k) ∷ tasks) (deliver-event s rows who k row may) (omega arith)
+    taught (Once (DropLine who k) ∷ tasks) fact may = absurd fact.0.0
+    taught (Once (AgainLine mail) ∷ tasks) fact may = absurd fact.0.0
+    taught (Once (TickLine who) ∷ tasks) fact may = absurd fact.0.0
+    taught (Once (CrashLine who) ∷ tasks) fact may = absurd fact.0.0
+    taught (Once (Storm number most) ∷ tasks) fact may = absurd fact.0.0
+    taught (Storms words ∷ tasks) fact may = absurd fact.0
 
   -- ---- lawful journals
 

@@ -88,6 +88,6 @@ module _ {A M O : Type 0} (s : System A M O) (owing : Owing A M) (lines : List (
 
     -- where the last line is one of deliveries that has room for what is owed at birth, the whole journal ends quiet
     pub ends_quiet_at_last : (last : Line O) → IsManyLine last → lines ≡ before ++ last ∷ [] → HasRoom (owed_at_birth s owing) last → is_quiet s journal ≡ true
-    ends_quiet_at_last (Settle most) is are room = at_last (λ left. Settles left) settles_many most (Settle most) refl are room
-    ends_quiet_at_last (Free most workers) is are room = at_last (λ left. Frees left) frees_many most (Free most workers) refl are room
-    ends_quiet_at_last _ is are room = absurd is
+    ends_quiet_at_last (Settle most) fact are room = at_last (λ left. Settles left) settles_many most (Settle most) refl are room
+    ends_quiet_at_last (Free most workers) fact are room = at_last (λ left. Frees left) frees_many most (Free most workers) refl are room
+    ends_quiet_at_last _ fact are room = absurd fact

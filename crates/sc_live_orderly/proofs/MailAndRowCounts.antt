@@ -29,7 +29,7 @@ all_pass : {X : Type 0} (test : X → Bool) (xs : List X) → Each (λ x. test x
 all_pass test [] all = refl
 all_pass test (x ∷ xs) all = ap (λ b. cond b (x ∷ filter test xs) (filter test xs)) all.0 ∙ ap (λ t. x ∷ t) (all_pass test xs all.1)
 
-Each-behind : {X : Type 0} (P : X → Type 0) (xs ys : List X) → Each P (xs ++ ys) → Each P ys
+pub Each-behind : {X : Type 0} (P : X → Type 0) (xs ys : List X) → Each P (xs ++ ys) → Each P ys
 Each-behind P [] ys e = e
 Each-behind P (x ∷ xs) ys e = Each-behind P xs ys e.1
 

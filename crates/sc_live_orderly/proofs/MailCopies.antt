@@ -80,7 +80,7 @@ module _ {M : Type 0} (test : M → Bool) where
   mail_with-other [] counts place count mail at t = cc
   mail_with-other (m ∷ sent) [] place count mail at t = refl
   mail_with-other (m ∷ sent) (c ∷ counts) zero count mail at t =
-      let same : test m ≡ false = (let is : m ≡ mail = cc in ap test is ∙ t) in
+      let same : test m ≡ false = (let fact : m ≡ mail = cc in ap test fact ∙ t) in
       ap (λ b. cond b (replicate count m) [] ++ mail_with test sent counts) same ∙ sym (ap (λ b. cond b (replicate c m) [] ++ mail_with test sent counts) same)
   mail_with-other (m ∷ sent) (c ∷ counts) (suc place) count mail at t = ap (λ xs. cond (test m) (replicate c m) [] ++ xs) (mail_with-other sent counts place count mail at t)
 
@@ -95,12 +95,12 @@ module _ {M : Type 0} (test : M → Bool) where
     taken_sum (m ∷ sent) [] place mail at t some = absurd (omega arith)
     taken_sum (m ∷ sent) (zero ∷ counts) zero mail at t some = absurd (omega arith)
     taken_sum (m ∷ sent) (suc c ∷ counts) zero mail at t some =
-        let is : m ≡ mail = cc in
-        let same : test m ≡ true = ap test is ∙ t in
+        let fact : m ≡ mail = cc in
+        let same : test m ≡ true = ap test fact ∙ t in
         let less : suc c - 1 ≡ c = omega arith in
         let xs = mail_with test sent counts in
         ap (λ b. sum_by owes (cond b (replicate (suc c) m) [] ++ xs)) same
-        ∙ (copy_sum c m xs ∙ (ap (λ x. owes x + sum_by owes (replicate c m ++ xs)) is ∙ ap (λ n. owes mail + n) (sym (ap (λ b. sum_by owes (cond b (replicate (suc c - 1) m) [] ++ xs)) same ∙ ap (λ n. sum_by owes (replicate n m ++ xs)) less))))
+        ∙ (copy_sum c m xs ∙ (ap (λ x. owes x + sum_by owes (replicate c m ++ xs)) fact ∙ ap (λ n. owes mail + n) (sym (ap (λ b. sum_by owes (cond b (replicate (suc c - 1) m) [] ++ xs)) same ∙ ap (λ n. sum_by owes (replicate n m ++ xs)) less))))
     taken_sum (m ∷ sent) (c ∷ counts) (suc place) mail at t some =
         let here = cond (test m) (replicate c m) [] in
         let before = mail_with test sent counts in

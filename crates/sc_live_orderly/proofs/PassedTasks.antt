@@ -1,6 +1,7 @@
 -- Where a walk through a schedule passes tasks, it comes to a place at which the later ones are left.
-use Rattle.std.proofs.Common.{◌≡◌, ℕ, ◌+◌, List, [], ◌∷◌, ◌++◌, Bool, true, false, ◌||◌, refl, sym, ◌∙◌, ap, subst, append_assoc, append-nil}
+use Rattle.std.proofs.Common.{◌≡◌, ℕ, ◌+◌, List, [], ◌∷◌, ◌++◌, Bool, false, ◌||◌, refl, sym, ◌∙◌, ap, subst, append_assoc, append-nil, inl, inr}
 use Rattle.std.specs.List.{flat_map}
+use Rattle.std.proofs.lemmas.Bool.{cases_Bool}
 use Rattle.sc_actor.specs.declared.rows.Row.{Row}
 use Rattle.sc_actor.specs.declared.schedules.Line.{Line}
 use Rattle.sc_actor.specs.Definitions.{System, Task, Allows, IsLawful, IsWhole, is_over, cuts, skips, place_after, rest_of_task}
@@ -41,22 +42,19 @@ module _ {A M O : Type 0} (s : System A M O) (all : List (Line O)) (journal : Li
 
     at_end : Later []
     at_end rows [] k c e stands = record { rows = rows; more = []; k = k; c = c; journal_is = e; stands = stands }
-    at_end rows (task ∷ prefix) k c e stands = by (is_over s rows task) refl (at_end rows prefix (k + skips task) (c || cuts s rows task) e)
-      where
-        by : (b : Bool) → is_over s rows task ≡ b → (Stands s all rows (prefix ++ back) (k + skips task) (c || cuts s rows task) → Reaches back) → Reaches back
-        by true over go = go (Stands-over s all rows task (prefix ++ back) k c stands over)
-        by false open_ go = absurd (more_rows rows task (prefix ++ back) k c e stands open_)
+    at_end rows (task ∷ prefix) k c e stands = elim (cases_Bool (is_over s rows task)) [
+      | inl over ↦ at_end rows prefix (k + skips task) (c || cuts s rows task) e (Stands-over s all rows task (prefix ++ back) k c stands over)
+      | inr open_ ↦ absurd (more_rows rows task (prefix ++ back) k c e stands open_)
+    ]
 
     at_row : (row : Row M O) (more : List (Row M O)) → Later more → Later (row ∷ more)
     at_row row more again rows [] k c e stands = record { rows = rows; more = row ∷ more; k = k; c = c; journal_is = e; stands = stands }
-    at_row row more again rows (task ∷ prefix) k c e stands = by (is_over s rows task) refl (at_row row more again rows prefix (k + skips task) (c || cuts s rows task) e)
-      where
-        by : (b : Bool) → is_over s rows task ≡ b → (Stands s all rows (prefix ++ back) (k + skips task) (c || cuts s rows task) → Reaches back) → Reaches back
-        by true over go = go (Stands-over s all rows task (prefix ++ back) k c stands over)
-        by false open_ go =
-            let next = Stands-row s all rows task (prefix ++ back) k c row stands open_ (next_row rows row more task (prefix ++ back) k c e stands open_) in
-            again (rows ++ row ∷ []) (rest_of_task task ++ prefix) k c (e ∙ sym (append_assoc rows (row ∷ []) more))
-            (subst (λ tasks. Stands s all (rows ++ row ∷ []) tasks k c) (sym (append_assoc (rest_of_task task) prefix back)) next)
+    at_row row more again rows (task ∷ prefix) k c e stands = elim (cases_Bool (is_over s rows task)) [
+      | inl over ↦ at_row row more again rows prefix (k + skips task) (c || cuts s rows task) e (Stands-over s all rows task (prefix ++ back) k c stands over)
+      | inr open_ ↦ (let next = Stands-row s all rows task (prefix ++ back) k c row stands open_ (next_row rows row more task (prefix ++ back) k c e stands open_) in
+          again (rows ++ row ∷ []) (rest_of_task task ++ prefix) k c (e ∙ sym (append_assoc rows (row ∷ []) more))
+          (subst (λ tasks. Stands s all (rows ++ row ∷ []) tasks k c) (sym (append_assoc (rest_of_task task) prefix back)) next))
+    ]
 
     pub reach : (more : List (Row M O)) → Later more
     reach [] = at_end

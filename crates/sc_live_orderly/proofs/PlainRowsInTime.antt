@@ -28,9 +28,9 @@ module _ {A M O : Type 0} (s : System A M O) where
       (by_rows s lines (λ rows. AreInTime s rows × IsClear s rows) (none_in_time s, clear_quiet s [] refl)
       (λ rows row l now. (
       let o = orderly s lines rows row plain l in
-      let is : o.event ≡ row.event = sym (ap (λ (r : Row M O). r.event) o.row_is) in
-      let untold : is_told row.event ≡ false = subst (λ (e : Event O). is_told e ≡ false) is (untold_event rows o.seat.who o.event o.in_order) in (
-        in_time_row s rows row now.0 (orderly_is_calm s rows row o) (subst (λ (e : Event O). ComesInTime s rows e) is (comes rows o.seat.who o.event now.1 o.in_order)),
+      let fact : o.event ≡ row.event = sym (ap (λ (r : Row M O). r.event) o.row_is) in
+      let untold : is_told row.event ≡ false = subst (λ (e : Event O). is_told e ≡ false) fact (untold_event rows o.seat.who o.event o.in_order) in (
+        in_time_row s rows row now.0 (orderly_is_calm s rows row o) (subst (λ (e : Event O). ComesInTime s rows e) fact (comes rows o.seat.who o.event now.1 o.in_order)),
         clear_row s rows row untold now.1,
       )))
       journal lawful).0

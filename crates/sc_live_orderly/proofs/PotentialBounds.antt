@@ -28,10 +28,10 @@ module _ {A M O : Type 0} (s : System A M O) where
   mail-row owes rows row =
       let test : M → Bool = λ mail. is_born s (s.receiver mail) in
       let left = mail_with test (mails rows) (counts_at (copies rows) row.event) in
-      let is = ap (sum_by owes) (after-row s test rows row) in
+      let fact = ap (sum_by owes) (after-row s test rows row) in
       let split = sum_by-append owes left (filter test row.sent) in
       let le = filter_sum test owes row.sent in
-      omega (arith, is, split, le)
+      omega (arith, fact, split, le)
 
   -- a delivery takes away what its mail owes
   pub delivered : (owes : M → ℕ) (rows : List (Row M O)) (number : ℕ) (mail : M) → is_born s (s.receiver mail) ≡ true → IsUnderWay s rows number mail →

@@ -225,8 +225,8 @@ module _ {A M O : Type 0} (s : System A M O) (lines : List (Line O)) (calm : Eac
   takes-lawful rows row number lawful event =
       let o = calm_row s lines rows row calm lawful in
       let who : o.seat.who ≡ row.who = sym (ap (λ (r : Row M O). r.who) o.row_is) in
-      let is : o.event ≡ Deliver number = sym (ap (λ (r : Row M O). r.event) o.row_is) ∙ event in
-      let first : kth (waiting s rows (Some o.seat.who)) 1 ≡ Some number = subst (λ (e : Event O). IsCalmEvent s rows o.seat.who e) is o.calm in
+      let fact : o.event ≡ Deliver number = sym (ap (λ (r : Row M O). r.event) o.row_is) ∙ event in
+      let first : kth (waiting s rows (Some o.seat.who)) 1 ≡ Some number = subst (λ (e : Event O). IsCalmEvent s rows o.seat.who e) fact o.calm in
       let t = tidy-calm s lines rows calm (lawful-prefix s lines rows (row ∷ []) lawful) in
       subst (λ w. TakesFirst s rows w number) who (takes_first s rows o.seat.who number t (is_born-from s o.seat.who o.seat o.born) first)
 

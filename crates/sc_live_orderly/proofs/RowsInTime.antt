@@ -42,6 +42,9 @@ module _ {A M O : Type 0} (s : System A M O) where
         | inr q ↦ timely before r q.0 q.1
       ]
 
+  pub timely_by : (rows : List (Row M O)) (row : Row M O) → AreInTime s rows → (event : Event O) → event ≡ row.event → IsCalmRow s rows row → ComesInTime s rows event → AreInTime s (rows ++ row ∷ [])
+  timely_by rows row timely event fact calm comes = in_time_row rows row timely calm (subst (λ (e : Event O). ComesInTime s rows e) fact comes)
+
   -- what holds of no rows, and is kept by each that comes in time, holds of all rows in time
   pub by_time : (P : List (Row M O) → Type 0) → P [] → ((rows : List (Row M O)) (row : Row M O) → AreInTime s (rows ++ row ∷ []) → P rows → P (rows ++ row ∷ [])) → (journal : List (Row M O)) → AreInTime s journal → P journal
   by_time P none next journal timely = from [] journal timely none

@@ -32,8 +32,8 @@ module _ {A : Type 0} (f g : Seat A → ℕ) (who : ℕ) (others : (seat : Seat 
   one_changes (s ∷ seats) seat apart e = by (eqb s.who who) refl (one_changes seats seat) e
     where
       by : (b : Bool) → eqb s.who who ≡ b → (are_apart seats ≡ true → find (λ other. eqb other.who who) seats ≡ Some seat → sum_by g seats + f seat ≡ sum_by f seats + g seat) → cond b (Some s) (find (λ other. eqb other.who who) seats) ≡ Some seat → sum_by g (s ∷ seats) + f seat ≡ sum_by f (s ∷ seats) + g seat
-      by true is more found =
-          let to : s.who ≡ who = eqb-true s.who who is in
+      by true fact more found =
+          let to : s.who ≡ who = eqb-true s.who who fact in
           let alone : list_any (λ other. eqb other.who who) seats ≡ false =
           ap (λ n. list_any (λ other. eqb other.who n) seats) (sym to) ∙ not-true (list_any (λ other. eqb other.who s.who) seats) (and_parts (not (list_any (λ other. eqb other.who s.who) seats)) (are_apart seats) apart).0 in
           let rest = none_changes seats alone in
@@ -41,9 +41,9 @@ module _ {A : Type 0} (f g : Seat A → ℕ) (who : ℕ) (others : (seat : Seat 
           let a = sum_by-cons f s seats in
           let b = sum_by-cons g s seats in
           omega (arith, rest, a, b, ap f same, ap g same)
-      by false is more found =
+      by false fact more found =
           let rec = more (and_parts (not (list_any (λ other. eqb other.who s.who) seats)) (are_apart seats) apart).1 found in
-          let here = others s (flip s.who who is) in
+          let here = others s (flip s.who who fact) in
           let a = sum_by-cons f s seats in
           let b = sum_by-cons g s seats in
           omega (arith, rec, here, a, b)

@@ -1,6 +1,7 @@
 -- A journal of spaced lines in which no line was cut off comes in time: each order begins where nothing is under way.
-use Rattle.std.proofs.Common.{◌≡◌, ℕ, ◌+◌, ◌-◌, List, [], ◌∷◌, ◌++◌, Bool, true, false, true≢false, cond, ◌||◌, not, refl, sym, ◌∙◌, ap, subst, arith}
+use Rattle.std.proofs.Common.{◌≡◌, ℕ, ◌+◌, ◌-◌, List, [], ◌∷◌, ◌++◌, Bool, true, false, true≢false, ◌||◌, not, refl, sym, ◌∙◌, ap, subst, arith}
 use Rattle.std.specs.List.{flat_map}
+use Rattle.std.proofs.lemmas.Bool.{cond_both}
 use Rattle.std.proofs.lemmas.List.Sums.{fold-append}
 use Rattle.sc_base.specs.Definitions.{Each}
 use Rattle.sc_actor.specs.declared.rows.Row.{Row}
@@ -10,10 +11,10 @@ use Rattle.sc_actor.specs.declared.schedules.Line.{Line}
 use Rattle.sc_actor.specs.declared.schedules.Line.TheVariants.{Go as GoLine, Deliver as DeliverLine, Drop as DropLine, Again as AgainLine, Tick as TickLine, Crash as CrashLine, Told as ToldLine, Settle, Free, Storm}
 use Rattle.sc_actor.specs.Definitions.{has_crashed, System, acts, has_started, Task, Once, Settles, Frees, Storms, WalkPlace, MayAdd, IsLawful, onward, is_over, is_quiet, after_row, place_after, rest_of_all, tasks_of, unsettled}
 use Rattle.sc_actor.proofs.Lemmas.{lawful-last, place_after-rows, unless-some}
-use Rattle.sc_live_orderly.specs.Definitions.{IsCalmRow, is_told, HasRoom, Said, Nothing, Goes, AnOrder, AreSpaced, IsClear, ComesInTime, AreInTime}
+use Rattle.sc_live_orderly.specs.Definitions.{is_told, HasRoom, Said, Nothing, Goes, AnOrder, AreSpaced, AreInTime}
 use Rattle.sc_live_orderly.proofs.RowsOfSchedules.{allows_calm, by_rows}
 use Rattle.sc_live_orderly.proofs.QuietLineEnds.{acts-event, delivery-event, free-event, deliver-event}
-use Rattle.sc_live_orderly.proofs.RowsInTime.{in_time_row, clear_row, delivery_in_time, none_in_time}
+use Rattle.sc_live_orderly.proofs.RowsInTime.{in_time_row, timely_by, clear_row, delivery_in_time, none_in_time}
 use Rattle.sc_live_orderly.proofs.SpacedTasks.{AreTasksSpaced, lines_spaced, Knows, Stands, may_go, may_order, knows_delivery}
 use Rattle.sc_live_orderly.proofs.UncutPrefixes.{onward_cut, uncut_before}
 
@@ -48,36 +49,16 @@ module _ {A M O : Type 0} (s : System A M O) where
   passes rows said [] skipped apart known = λ none. tt
   passes rows said (Once (GoLine who) ∷ tasks) skipped apart known =
       let clear = may_go s said rows apart.0 known in
-      by (is_over s rows (Once (GoLine who))) clear (passes rows Goes tasks (skipped + 1) apart.1 clear)
-    where
-      by : (b : Bool) → IsClear s rows → IsFine rows (onward s rows tasks (skipped + 1) false) → IsFine rows (cond b (onward s rows tasks (skipped + 1) (false || false)) (record { tasks = Once (GoLine who) ∷ tasks; rows = rows; skipped = skipped; unsettled = false }))
-      by true clear more = more
-      by false clear more = λ none. (clear, apart.1)
+      cond_both (is_over s rows (Once (GoLine who))) _ _ (IsFine rows) (λ _. passes rows Goes tasks (skipped + 1) apart.1 clear) (λ _ none. (clear, apart.1))
   passes rows said (Once (ToldLine who order) ∷ tasks) skipped apart known =
       let quiet = may_order s said rows apart.0 known in
-      by (is_over s rows (Once (ToldLine who order))) quiet (passes rows AnOrder tasks (skipped + 1) apart.1 tt)
-    where
-      by : (b : Bool) → is_quiet s rows ≡ true → IsFine rows (onward s rows tasks (skipped + 1) false) → IsFine rows (cond b (onward s rows tasks (skipped + 1) (false || false)) (record { tasks = Once (ToldLine who order) ∷ tasks; rows = rows; skipped = skipped; unsettled = false }))
-      by true quiet more = more
-      by false quiet more = λ none. (quiet, apart.1)
+      cond_both (is_over s rows (Once (ToldLine who order))) _ _ (IsFine rows) (λ _. passes rows AnOrder tasks (skipped + 1) apart.1 tt) (λ _ none. (quiet, apart.1))
   passes rows said (Once (DeliverLine who k) ∷ tasks) skipped apart known =
-      by (is_over s rows (Once (DeliverLine who k))) (passes rows said tasks (skipped + 1) apart.1 known)
-    where
-      by : (b : Bool) → IsFine rows (onward s rows tasks (skipped + 1) false) → IsFine rows (cond b (onward s rows tasks (skipped + 1) (false || false)) (record { tasks = Once (DeliverLine who k) ∷ tasks; rows = rows; skipped = skipped; unsettled = false }))
-      by true more = more
-      by false more = λ none. (apart.0, (said, (known, apart.1)))
+      cond_both (is_over s rows (Once (DeliverLine who k))) _ _ (IsFine rows) (λ _. passes rows said tasks (skipped + 1) apart.1 known) (λ _ none. (apart.0, (said, (known, apart.1))))
   passes rows said (Settles left ∷ tasks) skipped apart known =
-      by (is_over s rows (Settles left)) (past_many rows tasks (skipped + 0) (λ quiet. passes rows Nothing tasks (skipped + 0) apart.1 quiet))
-    where
-      by : (b : Bool) → IsFine rows (onward s rows tasks (skipped + 0) (false || not (is_quiet s rows))) → IsFine rows (cond b (onward s rows tasks (skipped + 0) (false || not (is_quiet s rows))) (record { tasks = Settles left ∷ tasks; rows = rows; skipped = skipped; unsettled = false }))
-      by true more = more
-      by false more = λ none. apart
+      cond_both (is_over s rows (Settles left)) _ _ (IsFine rows) (λ _. past_many rows tasks (skipped + 0) (λ quiet. passes rows Nothing tasks (skipped + 0) apart.1 quiet)) (λ _ none. apart)
   passes rows said (Frees left ∷ tasks) skipped apart known =
-      by (is_over s rows (Frees left)) (past_many rows tasks (skipped + 0) (λ quiet. passes rows Nothing tasks (skipped + 0) apart.1 quiet))
-    where
-      by : (b : Bool) → IsFine rows (onward s rows tasks (skipped + 0) (false || not (is_quiet s rows))) → IsFine rows (cond b (onward s rows tasks (skipped + 0) (false || not (is_quiet s rows))) (record { tasks = Frees left ∷ tasks; rows = rows; skipped = skipped; unsettled = false }))
-      by true more = more
-      by false more = λ none. apart
+      cond_both (is_over s rows (Frees left)) _ _ (IsFine rows) (λ _. past_many rows tasks (skipped + 0) (λ quiet. passes rows Nothing tasks (skipped + 0) apart.1 quiet)) (λ _ none. apart)
   passes rows said (Once (Settle most) ∷ tasks) skipped apart known = absurd apart
   passes rows said (Once (Free most workers) ∷ tasks) skipped apart known = absurd apart
   passes rows said (Once (DropLine who k) ∷ tasks) skipped apart known = absurd apart
@@ -95,23 +76,20 @@ module _ {A M O : Type 0} (s : System A M O) where
     fine : IsFine (rows ++ row ∷ []) (onward s (rows ++ row ∷ []) (rest_of_all tasks) skipped false)
 
   module _ (rows : List (Row M O)) (row : Row M O) (timely : AreInTime s rows) where
-    timely_by : (event : Event O) → event ≡ row.event → IsCalmRow s rows row → ComesInTime s rows event → AreInTime s (rows ++ row ∷ [])
-    timely_by event is calm comes = in_time_row s rows row timely calm (subst (λ (e : Event O). ComesInTime s rows e) is comes)
-
     step : (tasks : List (Task O)) (skipped : ℕ) → MayAdd s rows tasks row → Stands s 0 0 rows tasks → IsStep rows row tasks skipped
     step [] skipped may stands = absurd may
     step (Once (GoLine who) ∷ tasks) skipped may stands =
         let go : Event O = Go in
-        let is : go ≡ row.event = acts-event s rows who go row (unless-some (has_started rows who) (acts s rows who Go) row may).1 in
-        let untold : is_told row.event ≡ false = subst (λ (e : Event O). is_told e ≡ false) is refl in
+        let fact : go ≡ row.event = acts-event s rows who go row (unless-some (has_started rows who) (acts s rows who Go) row may).1 in
+        let untold : is_told row.event ≡ false = subst (λ (e : Event O). is_told e ≡ false) fact refl in
         record {
-          timely = timely_by Go is (allows_calm s rows (Once (GoLine who)) row tt may) stands.0;
+          timely = timely_by s rows row timely Go fact (allows_calm s rows (Once (GoLine who)) row tt may) stands.0;
           fine = passes (rows ++ row ∷ []) Goes tasks skipped stands.1 (clear_row s rows row untold stands.0);
         }
     step (Once (ToldLine who order) ∷ tasks) skipped may stands =
-        let is : Told order ≡ row.event = acts-event s rows who (Told order) row (unless-some (has_crashed rows who) (acts s rows who (Told order)) row may).1 in
+        let fact : Told order ≡ row.event = acts-event s rows who (Told order) row (unless-some (has_crashed rows who) (acts s rows who (Told order)) row may).1 in
         record {
-          timely = timely_by (Told order) is (allows_calm s rows (Once (ToldLine who order)) row tt may) stands.0;
+          timely = timely_by s rows row timely (Told order) fact (allows_calm s rows (Once (ToldLine who order)) row tt may) stands.0;
           fine = passes (rows ++ row ∷ []) AnOrder tasks skipped stands.1 tt;
         }
     step (Once (DeliverLine who k) ∷ tasks) skipped may stands =
@@ -148,8 +126,8 @@ module _ {A M O : Type 0} (s : System A M O) where
     abbrev Stage : List (Row M O) → Type 0
     Stage rows = unsettled s lines rows ≡ false → AreInTime s rows × Stands s 0 0 rows (place_after s lines rows).tasks
 
-    stage_row : (rows : List (Row M O)) (row : Row M O) → IsLawful s lines (rows ++ row ∷ []) → Stage rows → Stage (rows ++ row ∷ [])
-    stage_row rows row lawful now none =
+    settled_row : (rows : List (Row M O)) (row : Row M O) → IsLawful s lines (rows ++ row ∷ []) → Stage rows → Stage (rows ++ row ∷ [])
+    settled_row rows row lawful now none =
         let place = place_after s lines rows in
         let uncut : place.unsettled ≡ false = uncut_before s lines rows (row ∷ []) none in
         let stage = now uncut in
@@ -163,4 +141,4 @@ module _ {A M O : Type 0} (s : System A M O) where
     pub settled_in_time : AreSpaced Nothing lines → (journal : List (Row M O)) → IsLawful s lines journal → unsettled s lines journal ≡ false → AreInTime s journal
     settled_in_time apart journal lawful none =
         let begins : Stage [] = λ none'. (none_in_time s, passes [] Nothing (flat_map (tasks_of s.words) lines) 0 (lines_spaced s.words 0 Nothing lines apart (any_room lines)) refl none') in
-        (by_rows s lines Stage begins stage_row journal lawful none).0
+        (by_rows s lines Stage begins settled_row journal lawful none).0

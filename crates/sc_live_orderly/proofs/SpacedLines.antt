@@ -1,7 +1,7 @@
 -- On the walk of spaced lines each order begins where nothing is under way, and no line of deliveries that has room is cut off.
-use Rattle.std.proofs.Common.{◌≡◌, ℕ, zero, suc, ◌+◌, ◌-◌, ◌*◌, ◌≤◌, List, [], ◌∷◌, ◌++◌, Bool, true, false, true≢false, cond, eqb, ◌||◌, not, refl, sym, ◌∙◌, ap, subst, arith, mul_comm, Option, None, Some}
+use Rattle.std.proofs.Common.{◌≡◌, ℕ, zero, suc, ◌+◌, ◌-◌, ◌*◌, ◌≤◌, List, [], ◌∷◌, ◌++◌, Bool, true, false, true≢false, cond, eqb, ◌||◌, not, refl, sym, ◌∙◌, ap, subst, arith, mul_comm}
 use Rattle.std.specs.List.{flat_map}
-use Rattle.std.proofs.lemmas.Bool.{ne_eqb}
+use Rattle.std.proofs.lemmas.Bool.{cond_both, ne_eqb}
 use Rattle.std.proofs.lemmas.List.Sums.{fold-append}
 use Rattle.std.proofs.Math.Nat.{mul-le-mul_left}
 use Rattle.sc_base.specs.Definitions.{Each}
@@ -11,13 +11,13 @@ use Rattle.sc_actor.specs.declared.rows.Event.TheVariants.{Go, Told}
 use Rattle.sc_actor.specs.declared.schedules.Line.{Line}
 use Rattle.sc_actor.specs.declared.schedules.Line.TheVariants.{Go as GoLine, Deliver as DeliverLine, Drop as DropLine, Again as AgainLine, Tick as TickLine, Crash as CrashLine, Told as ToldLine, Settle, Free, Storm}
 use Rattle.sc_actor.specs.Definitions.{has_crashed, is_delivery, System, acts, has_started, Task, Once, Settles, Frees, Storms, WalkPlace, Allows, MayAdd, IsLawful, onward, is_over, is_quiet, after_row, place_after, rest_of_all, tasks_of, unsettled}
-use Rattle.sc_actor.proofs.Lemmas.{lawful-last, lawful-prefix, place_after-rows}
-use Rattle.sc_live_orderly.specs.Definitions.{IsCalmRow, is_told, deliveries, orders, HasRoom, Said, Nothing, Goes, AnOrder, AreSpaced, IsClear, ComesInTime, AreInTime, orders_given, IsMeasure}
+use Rattle.sc_actor.proofs.Lemmas.{lawful-last, lawful-prefix, place_after-rows, unless-some}
+use Rattle.sc_live_orderly.specs.Definitions.{is_told, deliveries, orders, HasRoom, Said, Nothing, Goes, AnOrder, AreSpaced, IsClear, AreInTime, orders_given, IsMeasure}
 use Rattle.sc_live_orderly.proofs.RowsOfSchedules.{allows_calm, by_rows}
 use Rattle.sc_live_orderly.proofs.PotentialBounds.{count_push}
 use Rattle.sc_live_orderly.proofs.QuietLineEnds.{acts-event, delivery-event, free-event, deliver-event}
 use Rattle.sc_live_orderly.proofs.GivenOrders.{spaced_are_calm, few_told}
-use Rattle.sc_live_orderly.proofs.RowsInTime.{in_time_row, clear_row, delivery_untold, delivery_in_time, none_in_time, one_if}
+use Rattle.sc_live_orderly.proofs.RowsInTime.{in_time_row, timely_by, clear_row, delivery_untold, delivery_in_time, none_in_time, one_if}
 use Rattle.sc_live_orderly.proofs.SpacedTasks.{AreTasksSpaced, lines_spaced, Knows, Stands, may_go, may_order, knows_delivery}
 
 raised : (raise : ℕ) (b : Bool) (n m : ℕ) → m ≡ n + cond b 1 0 → m * raise ≡ n * raise + cond b raise 0
@@ -49,46 +49,32 @@ module _ {A M O : Type 0} (s : System A M O) (lines : List (Line O)) (most : ℕ
     uncut true e = refl
     uncut false e = absurd (true≢false (sym e))
 
+    -- past a line of deliveries with room, or before it
+    past_many : (tasks : List (Task O)) (skipped : ℕ) → (Knows s Nothing rows → IsFine rows (onward s rows tasks skipped false)) → is_quiet s rows ≡ true → IsFine rows (onward s rows tasks skipped (false || not (is_quiet s rows)))
+    past_many tasks skipped more quiet = subst (λ c. IsFine rows (onward s rows tasks skipped c)) (sym (uncut (is_quiet s rows) quiet)) (more quiet)
+
+    settles_by : (left : ℕ) (tasks : List (Task O)) (skipped : ℕ) → owed rows ≤ left → AreTasksSpaced (still + raise) Nothing tasks → (Knows s Nothing rows → IsFine rows (onward s rows tasks (skipped + 0) false)) → IsFine rows (onward s rows (Settles left ∷ tasks) skipped false)
+    settles_by left tasks skipped room apart more = cond_both (is_over s rows (Settles left)) _ _ (IsFine rows) (λ over. past_many tasks (skipped + 0) more (over_quiet left room over)) (λ _. ((room, apart), refl))
+
+    frees_by : (left : ℕ) (tasks : List (Task O)) (skipped : ℕ) → owed rows ≤ left → AreTasksSpaced (still + raise) Nothing tasks → (Knows s Nothing rows → IsFine rows (onward s rows tasks (skipped + 0) false)) → IsFine rows (onward s rows (Frees left ∷ tasks) skipped false)
+    frees_by left tasks skipped room apart more = cond_both (is_over s rows (Frees left)) _ _ (IsFine rows) (λ over. past_many tasks (skipped + 0) more (over_quiet left room over)) (λ _. ((room, apart), refl))
+
     passes : (said : Said) (tasks : List (Task O)) (skipped : ℕ) → AreTasksSpaced (still + raise) said tasks → Knows s said rows → IsFine rows (onward s rows tasks skipped false)
     passes said [] skipped apart known = (tt, refl)
     passes said (Once (GoLine who) ∷ tasks) skipped apart known =
         let clear = may_go s said rows apart.0 known in
-        by (is_over s rows (Once (GoLine who))) clear (passes Goes tasks (skipped + 1) apart.1 clear)
-      where
-        by : (b : Bool) → IsClear s rows → IsFine rows (onward s rows tasks (skipped + 1) false) → IsFine rows (cond b (onward s rows tasks (skipped + 1) (false || false)) (record { tasks = Once (GoLine who) ∷ tasks; rows = rows; skipped = skipped; unsettled = false }))
-        by true clear more = more
-        by false clear more = ((clear, apart.1), refl)
+        cond_both (is_over s rows (Once (GoLine who))) _ _ (IsFine rows) (λ _. passes Goes tasks (skipped + 1) apart.1 clear) (λ _. ((clear, apart.1), refl))
     passes said (Once (ToldLine who order) ∷ tasks) skipped apart known =
         let quiet = may_order s said rows apart.0 known in
-        by (is_over s rows (Once (ToldLine who order))) quiet (passes AnOrder tasks (skipped + 1) apart.1 tt)
-      where
-        by : (b : Bool) → is_quiet s rows ≡ true → IsFine rows (onward s rows tasks (skipped + 1) false) → IsFine rows (cond b (onward s rows tasks (skipped + 1) (false || false)) (record { tasks = Once (ToldLine who order) ∷ tasks; rows = rows; skipped = skipped; unsettled = false }))
-        by true quiet more = more
-        by false quiet more = ((quiet, apart.1), refl)
+        cond_both (is_over s rows (Once (ToldLine who order))) _ _ (IsFine rows) (λ _. passes AnOrder tasks (skipped + 1) apart.1 tt) (λ _. ((quiet, apart.1), refl))
     passes said (Settles left ∷ tasks) skipped apart known =
-        by (is_over s rows (Settles left)) refl (λ quiet. passes Nothing tasks (skipped + 0) apart.1 quiet)
-      where
-        by : (b : Bool) → is_over s rows (Settles left) ≡ b → (is_quiet s rows ≡ true → IsFine rows (onward s rows tasks (skipped + 0) false)) → IsFine rows (cond b (onward s rows tasks (skipped + 0) (false || not (is_quiet s rows))) (record { tasks = Settles left ∷ tasks; rows = rows; skipped = skipped; unsettled = false }))
-        by true over more =
-            let quiet = over_quiet left (let room = apart.0 in omega (arith, room, bound)) over in
-            subst (λ c. IsFine rows (onward s rows tasks (skipped + 0) c)) (sym (uncut (is_quiet s rows) quiet)) (more quiet)
-        by false over more = ((let room = apart.0 in omega (arith, room, bound), apart.1), refl)
+        (let room = apart.0 in settles_by left tasks skipped (omega (arith, room, bound)) apart.1 (passes Nothing tasks (skipped + 0) apart.1))
     passes said (Frees left ∷ tasks) skipped apart known =
-        by (is_over s rows (Frees left)) refl (λ quiet. passes Nothing tasks (skipped + 0) apart.1 quiet)
-      where
-        by : (b : Bool) → is_over s rows (Frees left) ≡ b → (is_quiet s rows ≡ true → IsFine rows (onward s rows tasks (skipped + 0) false)) → IsFine rows (cond b (onward s rows tasks (skipped + 0) (false || not (is_quiet s rows))) (record { tasks = Frees left ∷ tasks; rows = rows; skipped = skipped; unsettled = false }))
-        by true over more =
-            let quiet = over_quiet left (let room = apart.0 in omega (arith, room, bound)) over in
-            subst (λ c. IsFine rows (onward s rows tasks (skipped + 0) c)) (sym (uncut (is_quiet s rows) quiet)) (more quiet)
-        by false over more = ((let room = apart.0 in omega (arith, room, bound), apart.1), refl)
+        (let room = apart.0 in frees_by left tasks skipped (omega (arith, room, bound)) apart.1 (passes Nothing tasks (skipped + 0) apart.1))
     passes said (Once (Settle most) ∷ tasks) skipped apart known = absurd apart
     passes said (Once (Free most workers) ∷ tasks) skipped apart known = absurd apart
     passes said (Once (DeliverLine who k) ∷ tasks) skipped apart known =
-        by (is_over s rows (Once (DeliverLine who k))) (passes said tasks (skipped + 1) apart.1 known)
-      where
-        by : (b : Bool) → IsFine rows (onward s rows tasks (skipped + 1) false) → IsFine rows (cond b (onward s rows tasks (skipped + 1) (false || false)) (record { tasks = Once (DeliverLine who k) ∷ tasks; rows = rows; skipped = skipped; unsettled = false }))
-        by true more = more
-        by false more = ((apart.0, (said, (known, apart.1))), refl)
+        cond_both (is_over s rows (Once (DeliverLine who k))) _ _ (IsFine rows) (λ _. passes said tasks (skipped + 1) apart.1 known) (λ _. ((apart.0, (said, (known, apart.1))), refl))
     passes said (Once (DropLine who k) ∷ tasks) skipped apart known = absurd apart
     passes said (Once (AgainLine mail) ∷ tasks) skipped apart known = absurd apart
     passes said (Once (TickLine who) ∷ tasks) skipped apart known = absurd apart
@@ -98,24 +84,14 @@ module _ {A M O : Type 0} (s : System A M O) (lines : List (Line O)) (most : ℕ
 
     -- a line of deliveries that goes on
     settles_on : (left : ℕ) (tasks : List (Task O)) (skipped : ℕ) → owed rows ≤ left → AreTasksSpaced (still + raise) Nothing tasks → IsFine rows (onward s rows (Settles left ∷ tasks) skipped false)
-    settles_on left tasks skipped room apart = by (is_over s rows (Settles left)) refl (λ quiet. passes Nothing tasks (skipped + 0) apart quiet)
-      where
-        by : (b : Bool) → is_over s rows (Settles left) ≡ b → (is_quiet s rows ≡ true → IsFine rows (onward s rows tasks (skipped + 0) false)) → IsFine rows (cond b (onward s rows tasks (skipped + 0) (false || not (is_quiet s rows))) (record { tasks = Settles left ∷ tasks; rows = rows; skipped = skipped; unsettled = false }))
-        by true over more = let quiet = over_quiet left room over in subst (λ c. IsFine rows (onward s rows tasks (skipped + 0) c)) (sym (uncut (is_quiet s rows) quiet)) (more quiet)
-        by false over more = ((room, apart), refl)
+    settles_on left tasks skipped room apart =
+        settles_by left tasks skipped room apart (passes Nothing tasks (skipped + 0) apart)
 
     frees_on : (left : ℕ) (tasks : List (Task O)) (skipped : ℕ) → owed rows ≤ left → AreTasksSpaced (still + raise) Nothing tasks → IsFine rows (onward s rows (Frees left ∷ tasks) skipped false)
-    frees_on left tasks skipped room apart = by (is_over s rows (Frees left)) refl (λ quiet. passes Nothing tasks (skipped + 0) apart quiet)
-      where
-        by : (b : Bool) → is_over s rows (Frees left) ≡ b → (is_quiet s rows ≡ true → IsFine rows (onward s rows tasks (skipped + 0) false)) → IsFine rows (cond b (onward s rows tasks (skipped + 0) (false || not (is_quiet s rows))) (record { tasks = Frees left ∷ tasks; rows = rows; skipped = skipped; unsettled = false }))
-        by true over more = let quiet = over_quiet left room over in subst (λ c. IsFine rows (onward s rows tasks (skipped + 0) c)) (sym (uncut (is_quiet s rows) quiet)) (more quiet)
-        by false over more = ((room, apart), refl)
+    frees_on left tasks skipped room apart =
+        frees_by left tasks skipped room apart (passes Nothing tasks (skipped + 0) apart)
 
   -- ---- one more row
-
-  unless-some : {Y : Type 0} (b : Bool) (o : Option Y) (y : Y) → cond b None o ≡ Some y → o ≡ Some y
-  unless-some true o y e = cc
-  unless-some false o y e = e
 
   -- what is found of a row: it is in time, no more was delivered and is owed than may be, and the tasks that are left stand
   record IsStep (rows : List (Row M O)) (row : Row M O) (tasks : List (Task O)) (skipped : ℕ) : Type 0 where
@@ -148,15 +124,12 @@ module _ {A M O : Type 0} (s : System A M O) (lines : List (Line O)) (most : ℕ
           let o = raised raise (is_told row.event) (orders rows) (orders (rows ++ row ∷ [])) (count_push (λ (r : Row M O). is_told r.event) rows row (is_told row.event) refl) in
           omega (arith, lower, d, o, sum)
 
-      timely_by : (event : Event O) → event ≡ row.event → IsCalmRow s rows row → ComesInTime s rows event → AreInTime s (rows ++ row ∷ [])
-      timely_by event is calm comes = in_time_row s rows row timely calm (subst (λ (e : Event O). ComesInTime s rows e) is comes)
-
       go_step : (who : ℕ) (tasks : List (Task O)) (skipped : ℕ) → Allows s rows (Once (GoLine who)) row → IsClear s rows → AreTasksSpaced (still + raise) Goes tasks → IsStep rows row (Once (GoLine who) ∷ tasks) skipped
       go_step who tasks skipped may clear spaced =
           let go : Event O = Go in
-          let is : go ≡ row.event = acts-event s rows who go row (unless-some (has_started rows who) (acts s rows who Go) row may) in
-          let t = timely_by Go is (allows_calm s rows (Once (GoLine who)) row tt may) clear in
-          let untold : is_told row.event ≡ false = subst (λ (e : Event O). is_told e ≡ false) is refl in
+          let fact : go ≡ row.event = acts-event s rows who go row (unless-some (has_started rows who) (acts s rows who Go) row may).1 in
+          let t = timely_by s rows row timely Go fact (allows_calm s rows (Once (GoLine who)) row tt may) clear in
+          let untold : is_told row.event ≡ false = subst (λ (e : Event O). is_told e ≡ false) fact refl in
           let lower = measure.lowers rows row lawful t low in
           let none : cond (is_told row.event) raise 0 ≡ 0 = ap (λ b. cond b raise 0) untold in
           let b : owed (rows ++ row ∷ []) ≤ still + raise = omega (arith, lower, none, bound) in
@@ -165,10 +138,10 @@ module _ {A M O : Type 0} (s : System A M O) (lines : List (Line O)) (most : ℕ
 
       told_step : (who : ℕ) (order : O) (tasks : List (Task O)) (skipped : ℕ) → Allows s rows (Once (ToldLine who order)) row → is_quiet s rows ≡ true → AreTasksSpaced (still + raise) AnOrder tasks → IsStep rows row (Once (ToldLine who order) ∷ tasks) skipped
       told_step who order tasks skipped may quiet spaced =
-          let is : Told order ≡ row.event = acts-event s rows who (Told order) row (unless-some (has_crashed rows who) (acts s rows who (Told order)) row may) in
-          let t = timely_by (Told order) is (allows_calm s rows (Once (ToldLine who order)) row tt may) quiet in
+          let fact : Told order ≡ row.event = acts-event s rows who (Told order) row (unless-some (has_crashed rows who) (acts s rows who (Told order)) row may).1 in
+          let t = timely_by s rows row timely (Told order) fact (allows_calm s rows (Once (ToldLine who order)) row tt may) quiet in
           let lower = measure.lowers rows row lawful t low in
-          let more : cond (is_told row.event) raise 0 ≡ raise = subst (λ (e : Event O). cond (is_told e) raise 0 ≡ raise) is refl in
+          let more : cond (is_told row.event) raise 0 ≡ raise = subst (λ (e : Event O). cond (is_told e) raise 0 ≡ raise) fact refl in
           let now = measure.quiet rows before timely low quiet in
           let b : owed (rows ++ row ∷ []) ≤ still + raise = omega (arith, lower, more, now) in
           let sums = sum_row t in

@@ -90,9 +90,9 @@ module _ {A M O : Type 0} (s : System A M O) (all : List (Line O)) (journal : Li
     -- the deliveries of the turn, and the turns that follow
     after_first : (rows more : List (Row M O)) (first : Option (Row M O)) (k : ℕ) (c : Bool) → is_quiet s rows ≡ true → line_row s rows (kick_line turn.kick turn.who) ≡ first
         → journal ≡ (rows ++ as_list first) ++ more → Stands s all (rows ++ as_list first) (Settles turn.most ∷ turn_tasks turns) k c → HasTurns s rows (turn ∷ turns) journal
-    after_first rows more first k c quiet is e stands =
+    after_first rows more first k c quiet fact e stands =
         let end = settle more (rows ++ as_list first) turn.most (turn_tasks turns) k c e stands in
-        let one : IsTurn s rows turn ((rows ++ as_list first) ++ end.deliveries) = record { quiet = quiet; first = first; first_is = is; deliveries = end.deliveries; delivered = end.delivered; after_is = refl } in (
+        let one : IsTurn s rows turn ((rows ++ as_list first) ++ end.deliveries) = record { quiet = quiet; first = first; first_is = fact; deliveries = end.deliveries; delivered = end.delivered; after_is = refl } in (
           (rows ++ as_list first) ++ end.deliveries,
           one,
           again ((rows ++ as_list first) ++ end.deliveries) end.more end.k end.c (quiet_after (rows ++ as_list first) end.deliveries end.delivered) end.journal_is end.stands,
@@ -100,9 +100,9 @@ module _ {A M O : Type 0} (s : System A M O) (all : List (Line O)) (journal : Li
 
     -- a line that is skipped
     skipped_first : (rows more : List (Row M O)) (k : ℕ) (c : Bool) → is_quiet s rows ≡ true → line_row s rows (kick_line turn.kick turn.who) ≡ None → journal ≡ rows ++ more → Stands s all rows (Settles turn.most ∷ turn_tasks turns) k c → HasTurns s rows (turn ∷ turns) journal
-    skipped_first rows more k c quiet is e stands =
+    skipped_first rows more k c quiet fact e stands =
         let none = sym (append-nil rows) in
-        after_first rows more None k c quiet is (e ∙ ap (λ xs. xs ++ more) none) (subst (λ xs. Stands s all xs (Settles turn.most ∷ turn_tasks turns) k c) none stands)
+        after_first rows more None k c quiet fact (e ∙ ap (λ xs. xs ++ more) none) (subst (λ xs. Stands s all xs (Settles turn.most ∷ turn_tasks turns) k c) none stands)
 
     from_line : (rows more : List (Row M O)) (k : ℕ) (c : Bool) (line : Line O) → is_quiet s rows ≡ true → kick_line turn.kick turn.who ≡ line → journal ≡ rows ++ more
         → Stands s all rows (Once line ∷ Settles turn.most ∷ turn_tasks turns) k c → HasTurns s rows (turn ∷ turns) journal

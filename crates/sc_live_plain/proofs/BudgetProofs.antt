@@ -1,5 +1,5 @@
 pub mod MadeScenarios
-pub mod QuietLineEnds
+pub mod PlainLineEnds
 pub mod LastLineEnds
 pub mod JournalBytes
 pub mod LightJournals

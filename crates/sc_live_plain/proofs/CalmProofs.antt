@@ -2,10 +2,13 @@ pub mod QuietFrames
 pub mod KnownGroups
 pub mod CalmRows
 pub mod CalmNodes
+pub mod ChosenGroups
 pub mod CalmClients
 pub mod MoreCalmRequests
 pub mod RequestPhaseNodes
 pub mod RequestPhaseClients
 pub mod RequestsAfterQuiet
+pub mod SoughtRequests
+pub mod NodeRowsLeaveRequests
 pub mod CalmWaitingRequests
 pub mod RequestLines

@@ -2,7 +2,7 @@ pub mod IdleLeaders
 pub mod ExecutedCalls
 pub mod PlainEntries
 pub mod LeadingReplicas
-pub mod Pumps
+pub mod PlainPumps
 pub mod ReadyCalls
 pub mod LeaderExecutions
 pub mod LeaderRequests

@@ -1,4 +1,4 @@
-pub mod RowsProofs
+pub mod PlainRowsProofs
 pub mod LeadersProofs
 pub mod PlainProofs
 pub mod CalmProofs

@@ -7,7 +7,7 @@ pub mod BegunRequestCounts
 pub mod PlainInduction
 pub mod MorePlainRequests
 pub mod PlainBeginnings
-pub mod AnsweredRequests
+pub mod AnsweredPlainRequests
 pub mod WaitingRequestPlaces
 pub mod WaitingRequestJournals
 pub mod PlainKnownGroups

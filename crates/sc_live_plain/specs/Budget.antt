@@ -49,7 +49,7 @@ delivers (Told node order) = false
 delivers (Storm number most) = false
 
 -- the client has a `go` line in the schedule, and a line of deliveries follows it
-pub record IsServed (scenario : Scenario) (client : ℕ) : Type 0 where
+pub record StartsBeforeDeliveries (scenario : Scenario) (client : ℕ) : Type 0 where
   pub before : List SchedLine
   pub after : List SchedLine
   pub lines_are : scenario.lines ≡ before ++ Go client ∷ after
@@ -59,5 +59,5 @@ pub record IsServed (scenario : Scenario) (client : ℕ) : Type 0 where
 abbrev pub AreAnswered : Scenario → List (Row Mail OrderLine) → Type 0
 AreAnswered scenario journal =
     (first : Base) (others : List Base) → scenario.groups ≡ first ∷ others
-    → (asks : Asks) → Among asks scenario.clients → IsServed scenario asks.client
+    → (asks : Asks) → Among asks scenario.clients → StartsBeforeDeliveries scenario asks.client
     → length (kept_replies (route_of first) asks journal) ≡ length asks.ops

@@ -11,7 +11,7 @@ use Rattle.sc_scenario.specs.declared.scenario.scenarios.Scenario.{Scenario}
 use Rattle.sc_live_plain.specs.KnownGroups.{AreRoundRing, KnowsFirst}
 use Rattle.sc_live_plain.specs.CalmNodes.{Setting, IsHome, HasGoneTo, IsSetting, IsCalmMail}
 use Rattle.sc_live_plain.specs.Frames.{Frame}
-use Rattle.sc_live_plain.specs.Potential.{begun_ones}
+use Rattle.sc_live_plain.specs.PlainPotential.{begun_ones}
 use Rattle.sc_live_plain.specs.PlainClients.{IsWaiting, IsResting, IsBegun}
 use Rattle.sc_live_plain.specs.PlainMail.{Requests}
 

@@ -9,14 +9,14 @@ use Rattle.sc_live_plain.specs.Frames.{Frame}
 pub data Mark : Type 0 where
   Asks : (slot : ℕ) → Mark
   Votes : (node slot : ℕ) → Mark
-  Tells : (slot : ℕ) → Mark
+  Teaches : (slot : ℕ) → Mark
   Other : Mark
 
 -- the mark of a body from a node, for the group of this name: Accept asks, Accepted votes, Learn reports, and all else is other
 abbrev pub mark_of : Draw → ℕ → MailBody → Mark
 mark_of name from (Accept group ballot slot command) = if same_draw group name then Asks slot else Other
 mark_of name from (Accepted group ballot slot) = if same_draw group name then Votes from slot else Other
-mark_of name from (Learn group slot command) = if same_draw group name then Tells slot else Other
+mark_of name from (Learn group slot command) = if same_draw group name then Teaches slot else Other
 mark_of name from (Request group client seq op) = Other
 mark_of name from (Answer group seq answer) = Other
 mark_of name from (Prepare group ballot from_slot) = Other
@@ -41,23 +41,23 @@ abbrev pub AreInOrder : ℕ → List Mark → Type 0
 AreInOrder low [] = Unit {0}
 AreInOrder low (Asks slot ∷ marks) = (low ≤ slot) × AreInOrder low marks
 AreInOrder low (Votes node slot ∷ marks) = AreInOrder (max low (suc slot)) marks
-AreInOrder low (Tells slot ∷ marks) = AreInOrder (max low (suc slot)) marks
+AreInOrder low (Teaches slot ∷ marks) = AreInOrder (max low (suc slot)) marks
 AreInOrder low (Other ∷ marks) = AreInOrder low marks
 
 -- the mark names a slot below this one, or none
 abbrev pub IsBelow : ℕ → Mark → Type 0
 IsBelow bound (Asks slot) = slot < bound
 IsBelow bound (Votes node slot) = slot < bound
-IsBelow bound (Tells slot) = slot < bound
+IsBelow bound (Teaches slot) = slot < bound
 IsBelow bound Other = Unit {0}
 
 -- the slots that marks report, in their order
-abbrev pub told : List Mark → List ℕ
-told [] = []
-told (Tells slot ∷ marks) = slot ∷ told marks
-told (Asks slot ∷ marks) = told marks
-told (Votes node slot ∷ marks) = told marks
-told (Other ∷ marks) = told marks
+abbrev pub taught_slots : List Mark → List ℕ
+taught_slots [] = []
+taught_slots (Teaches slot ∷ marks) = slot ∷ taught_slots marks
+taught_slots (Asks slot ∷ marks) = taught_slots marks
+taught_slots (Votes node slot ∷ marks) = taught_slots marks
+taught_slots (Other ∷ marks) = taught_slots marks
 
 -- the view of a group: the next slot of each node, the first slot at which the leader has offered nothing yet, and the voters for the command in flight at a slot
 pub record View : Type 0 where
@@ -69,7 +69,7 @@ pub record View : Type 0 where
 pub record IsLearning (from to : ℕ) (marks : List Mark) : Type 0 where
   pub left : ℕ
   pub reaches : from + left ≡ to
-  pub tells : told marks ≡ numbers_from from left
+  pub tells : taught_slots marks ≡ numbers_from from left
 
 -- the vote of a member for the command in flight at a slot is counted, or it is under way to the leader, or the mail that asks the member for it is under way
 abbrev pub IsVoting : ℕ → ℕ → List ℕ → List Mark → List Mark → Type 0

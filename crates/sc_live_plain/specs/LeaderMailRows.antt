@@ -4,14 +4,14 @@ use Rattle.sc_base.specs.Definitions.{Among, Each, is_member}
 use Rattle.sc_node_table.specs.Values.{Mail}
 use Rattle.sc_node_table.specs.Definitions.{ReplicaState, next, numbers_from}
 use Rattle.sc_live_plain.specs.Frames.{Frame}
-use Rattle.sc_live_plain.specs.LeaderMail.{Mark, Asks, Votes, Tells, Other, View, told}
+use Rattle.sc_live_plain.specs.LeaderMail.{Mark, Asks, Votes, Teaches, Other, View, taught_slots}
 use Rattle.sc_live_plain.specs.LeaderMailInJournals.{voters_in, marks_for}
 
 -- a mark that a leader may send in a row in which it offers at the slots from `from` to below `to`: it asks only for these, and votes and reports only for earlier ones
 abbrev pub IsNew : ℕ → ℕ → Mark → Type 0
 IsNew from to (Asks slot) = (from ≤ slot) × (slot < to)
 IsNew from to (Votes node slot) = slot < from
-IsNew from to (Tells slot) = slot < from
+IsNew from to (Teaches slot) = slot < from
 IsNew from to Other = Unit {0}
 
 -- a mark that is nothing of the group
@@ -39,7 +39,7 @@ pub record Accepts (frame : Frame) (now after : View) (node : ℕ) (taken : Mark
 -- a node that does not lead executes the entry that a Learn brings
 pub record Learns (frame : Frame) (now after : View) (node : ℕ) (taken : Mark) (sent : ℕ → List Mark) : Type 0 where
   pub slot : ℕ
-  pub takes : taken ≡ Tells slot
+  pub takes : taken ≡ Teaches slot
   pub follows : node ≡ frame.lead → ⊥
   pub member : is_member frame.core.members node ≡ true
   pub next : after.next node ≡ now.next node + 1
@@ -51,14 +51,14 @@ pub record Learns (frame : Frame) (now after : View) (node : ℕ) (taken : Mark)
 abbrev pub IsCount : Frame → Mark → Type 0
 IsCount frame (Votes node slot) = is_member (frame.at slot) node ≡ true
 IsCount frame (Asks slot) = ⊥
-IsCount frame (Tells slot) = ⊥
+IsCount frame (Teaches slot) = ⊥
 IsCount frame Other = Unit {0}
 
 -- the mark is no vote for this slot
 abbrev pub IsElsewhere : Mark → ℕ → Type 0
 IsElsewhere (Votes node slot) other = other ≡ slot → ⊥
 IsElsewhere (Asks slot) other = Unit {0}
-IsElsewhere (Tells slot) other = Unit {0}
+IsElsewhere (Teaches slot) other = Unit {0}
 IsElsewhere Other other = Unit {0}
 
 -- what is in flight at a slot was offered in this row: it has no vote yet, and each member of the slot is asked
@@ -82,7 +82,7 @@ pub record Leads (frame : Frame) (now after : View) (node : ℕ) (taken : Mark) 
   pub next : after.next node ≡ now.next node + executed
   pub within : after.next node ≤ now.bound
   pub bound : now.bound ≤ after.bound
-  pub tells : (who : ℕ) → is_member frame.core.members who ≡ true → (who ≡ frame.lead → ⊥) → told (sent who) ≡ numbers_from (now.next node) executed
+  pub tells : (who : ℕ) → is_member frame.core.members who ≡ true → (who ≡ frame.lead → ⊥) → taught_slots (sent who) ≡ numbers_from (now.next node) executed
   pub sends : (who : ℕ) → Each (IsNew now.bound after.bound) (sent who)
   pub offered : (slot : ℕ) → Among (Asks slot) (sent node) → after.voters slot ≡ Some []
   pub flying : (slot : ℕ) (voters : List ℕ) → after.voters slot ≡ Some voters → after.next node ≤ slot

@@ -13,8 +13,8 @@ pub mod KnownGroups
 pub mod CalmNodes
 pub mod CalmRows
 pub mod Frames
-pub mod Laws
-pub mod Potential
+pub mod PlainLaws
+pub mod PlainPotential
 pub mod PlainClients
 pub mod PlainMail
 pub mod PlainNodes

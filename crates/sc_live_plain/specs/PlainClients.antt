@@ -10,7 +10,7 @@ use Rattle.sc_scenario.specs.declared.scenario.scenarios.Asks.{Asks}
 use Rattle.sc_scenario.specs.declared.scenario.scenarios.Scenario.{Scenario}
 use Rattle.sc_meaning.specs.sound.Definitions.{Player, player_table, client_seat, route_of}
 use Rattle.sc_live_plain.specs.Frames.{Frame}
-use Rattle.sc_live_plain.specs.Potential.{begun_ones}
+use Rattle.sc_live_plain.specs.PlainPotential.{begun_ones}
 
 -- what a client knows of a group when it hears of it: the name, and the way to it by where its arc begins and by its members
 abbrev pub way_of : Frame → Draw × Way

@@ -19,14 +19,14 @@ use Rattle.sc_live_plain.specs.PlainClients.{IsBegun}
 -- a node of the scenario after these rows, which is as `IsCalmNode` says
 pub record IsAskingNode (scenario : Scenario) (set : Setting) (rows : List (Row Mail OrderLine)) (me : ℕ) : Type 0 where
   pub node : NodeState
-  pub is : value player_table (node_seat as_nodes scenario.groups scenario.policy me) rows ≡ Node node
+  pub fact : value player_table (node_seat as_nodes scenario.groups scenario.policy me) rows ≡ Node node
   pub me_is : node.me ≡ me
   pub calm : IsCalmNode (IsBegun scenario rows) set node
 
 -- a client of the scenario after these rows, which is as `IsCalmClient` says
 pub record IsAskingClient (scenario : Scenario) (set : Setting) (first : Base) (rows : List (Row Mail OrderLine)) (asks : Asks) : Type 0 where
   pub client : ClientState
-  pub is : value player_table (client_seat (route_of first) asks) rows ≡ Client client
+  pub fact : value player_table (client_seat (route_of first) asks) rows ≡ Client client
   pub calm : IsCalmClient set asks (has_started rows (client_actor asks.client)) client
 
 -- what holds after each row while clients ask alone: of each node, of each client, of all mail that actors have not taken yet, and of each group that stands

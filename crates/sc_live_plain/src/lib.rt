@@ -9,7 +9,7 @@
 #![tactic(auto)]
 
 ghost use Rattle.sc_live_plain.specs.LastLine.{LastLinesEndQuiet};
-ghost use Rattle.sc_live_plain.specs.Laws.{MadeScenariosAreAtBudget, PlainJournalsAreLight, PlainLinesEndQuiet};
+ghost use Rattle.sc_live_plain.specs.PlainLaws.{MadeScenariosAreAtBudget, PlainJournalsAreLight, PlainLinesEndQuiet};
 
 use sc_scenario::valid_scenarios_are_bounded;
 

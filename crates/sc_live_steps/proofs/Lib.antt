@@ -1,5 +1,5 @@
 pub mod PumpProofs
 pub mod FollowingProofs
-pub mod OrdersProofs
-pub mod CalmProofs
+pub mod OrderStepsProofs
+pub mod CalmStepsProofs
 pub mod EntriesProofs

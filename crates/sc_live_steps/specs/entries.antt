@@ -1,1 +1,1 @@
-pub mod LoneEntries
+pub mod StageEntries

@@ -1,6 +1,6 @@
 pub mod CountedEntries
 pub mod PrepareSlots
-pub mod Elections
+pub mod ElectingReplicas
 pub mod ExecutedEntries
 pub mod MailUnderWay
 pub mod TableHints
@@ -9,7 +9,7 @@ pub mod LeaderTables
 pub mod Offers
 pub mod FlightOrder
 pub mod OwnPrepares
-pub mod Rows
-pub mod Tables
-pub mod EntryLearners
+pub mod LeaderRows
+pub mod PaxosTables
+pub mod TaughtMembers
 pub mod Definitions

@@ -1,9 +1,9 @@
 pub mod Parts
-pub mod Rows
+pub mod OrderStageRows
 pub mod StageSteps
 pub mod Scenes
 pub mod Stages
-pub mod Tables
+pub mod OrderTables
 pub mod Entries
 pub mod LoneEntries
 pub mod Definitions

@@ -14,7 +14,7 @@ use Rattle.sc_words.specs.paxos.Votes.{counted}
 use Rattle.sc_node_table.specs.Replica.{ReplicaState, Executed, next, set_at, last_slot}
 use Rattle.sc_node_table.specs.Rows.{learn_row, mailed}
 use Rattle.sc_node_table.specs.Voting.{leads, vote_tallied, voted, accepted_row}
-use Rattle.sc_node.specs.Idle.{is_short, readies_none, is_learnt, IsPassedBy, IsPassedByOne}
+use Rattle.sc_node.specs.PassedInputs.{is_short, readies_none, is_learnt, IsPassedBy, IsPassedByOne}
 use Rattle.sc_node.specs.Places.{StandsAt}
 use Rattle.sc_node_table.specs.Node.{NodeState, replica_of}
 

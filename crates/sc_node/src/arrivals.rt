@@ -4,7 +4,7 @@ ghost use Rattle.std.specs.Prelude.{◌≡◌, ◌≤◌, ◌||◌, ◌==◌, no
 ghost use Rattle.sc_node_table.specs.Slots.{slots_ahead};
 ghost use Rattle.sc_node_table.specs.Replica.{last_slot};
 ghost use Rattle.sc_node_table.specs.Rows.{made_by};
-ghost use Rattle.sc_node.specs.Idle.{IsUnknownPassedBy};
+ghost use Rattle.sc_node.specs.PassedInputs.{IsUnknownPassedBy};
 ghost use Rattle.sc_node_table.specs.Node.{is_before, replica_of, with_new, with_made, with_born, with_children, unknown, may_come};
 
 use crate::absent::absent;

@@ -5,7 +5,7 @@ ghost use Rattle.sc_node_table.specs.Slots.{slots_ahead};
 ghost use Rattle.sc_node_table.specs.Replica.{next, set_at, last_slot};
 ghost use Rattle.sc_node_table.specs.Voting.{leads, readied, voted, accepted_row};
 ghost use Rattle.sc_node_table.specs.Rows.{learn_row};
-ghost use Rattle.sc_node.specs.Idle.{readies_none, is_learnt};
+ghost use Rattle.sc_node.specs.PassedInputs.{readies_none, is_learnt};
 
 use crate::execute::execute;
 use sc_base::{Ballot, Members, OutOfMemory, Sequence};

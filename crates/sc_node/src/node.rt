@@ -7,7 +7,7 @@ ghost use Rattle.sc_node_table.specs.Replica.{ReplicaState, name_of};
 ghost use Rattle.sc_node_table.specs.Node.{is_before, are_in_order, born_replicas, born_node, replica_of, taken_by, routed, on_mail, with_children, on_tick, node_table, may_come};
 ghost use Rattle.sc_node.specs.Places.{StandsAt};
 ghost use Rattle.sc_node.specs.Ticking.{ticked_at};
-ghost use Rattle.sc_node.specs.Idle.{IsPassedByOne, IsMailPassedBy, IsInputPassedBy};
+ghost use Rattle.sc_node.specs.PassedInputs.{IsPassedByOne, IsMailPassedBy, IsInputPassedBy};
 
 use crate::absent::{group_in, may_come};
 use crate::arrivals::is_before;

@@ -2,8 +2,8 @@
 ghost use Rattle.std.specs.Prelude.{◌≡◌, ◌++◌, true, IfOk, OnOk, IsOk};
 ghost use Rattle.sc_node_table.specs.Node.{may_come};
 ghost use Rattle.sc_node_table.specs.Rows.{mailed, stepped, names_left};
-ghost use Rattle.sc_node.specs.Given.{is_of_transaction, may_take};
-ghost use Rattle.sc_node.specs.Idle.{IsPassedBy};
+ghost use Rattle.sc_node.specs.GivenInputs.{is_of_transaction, may_take};
+ghost use Rattle.sc_node.specs.PassedInputs.{IsPassedBy};
 
 use crate::counts::{on_accepted, on_learn};
 use crate::orders::on_order;

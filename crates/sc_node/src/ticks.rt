@@ -8,7 +8,7 @@ ghost use Rattle.sc_node_table.specs.Acts.{has_act};
 ghost use Rattle.sc_node_table.specs.Election.{elected};
 ghost use Rattle.sc_node_table.specs.Replica.{members, settled};
 ghost use Rattle.sc_node_parts.specs.transactions.Quiet.{coordinates};
-ghost use Rattle.sc_node.specs.Idle.{IsIdleTick};
+ghost use Rattle.sc_node.specs.PassedInputs.{IsIdleTick};
 ghost use Rattle.sc_node_table.specs.Rows.{tick_row};
 
 use crate::wishes::wish;

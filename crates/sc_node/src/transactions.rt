@@ -3,7 +3,7 @@
 ghost use Rattle.std.specs.Prelude.{◌≡◌, [], ◌&&◌, ◌||◌, false, OnOk, IsOk, Some, None};
 ghost use Rattle.sc_words.specs.declared.commands.votes.Past.TheVariants.{Yes, Ended};
 ghost use Rattle.sc_node_table.specs.Transactions.{offered_by, offer_row, watched_by, watch_row, vote_queued, vote_row, watch_queued, watch_met, watched_row, elsewhere_row, outcome_row, standing_vote, awaits_vote, awaits_watch, is_bound, noted_outcome};
-ghost use Rattle.sc_node.specs.Idle.{asks_outcome, watcher_asks};
+ghost use Rattle.sc_node.specs.PassedInputs.{asks_outcome, watcher_asks};
 
 use sc_base::{Boxed, Draw, Dup, OutOfMemory, Sequence};
 use sc_mail::Mail;

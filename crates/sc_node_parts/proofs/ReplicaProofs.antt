@@ -1,4 +1,4 @@
-pub mod Silence
+pub mod AppendedMail
 pub mod Requests
 pub mod Places
 pub mod SlotMaps

@@ -14,7 +14,7 @@ use Rattle.sc_words.specs.paxos.Leaders.{must, must_without}
 use Rattle.sc_node_table.specs.Mails.{answered}
 use Rattle.sc_node_table.specs.Replica.{ReplicaState, Place, may_offer, taken_at, under_way, is_idle}
 use Rattle.sc_node_table.specs.Pump.{Found, is_act, waits, turned_down, next_queued, from_backlog, from_acts, from_queues, found_by, found_for, offered, pumped_from}
-use Rattle.sc_node_parts.proofs.ReplicaProofs.Silence.{answered-before, sent_all-before}
+use Rattle.sc_node_parts.proofs.ReplicaProofs.AppendedMail.{answered-before, sent_all-before}
 
 -- ---- mails are only appended
 

@@ -6,7 +6,7 @@ use Rattle.sc_words.specs.declared.commands.commands.Command.{Command}
 use Rattle.sc_words.specs.declared.commands.commands.Command.TheVariants.{Noop, Call, Join, Leave, Split, Begin, Prepared, RecordVote, GiveUp, Finish, Watched, RecordWatch}
 use Rattle.sc_node_table.specs.Queues.{queued_number, without_request, request_before, put_back}
 use Rattle.sc_node_table.specs.Replica.{ReplicaState}
-use Rattle.sc_node_replica.specs.Idle.{KeepsQueues}
+use Rattle.sc_node_replica.specs.IdleInputs.{KeepsQueues}
 
 -- one more is not the same
 pub cons_self : {X : Type 0} (x : X) (xs : List X) → x ∷ xs ≡ xs → ⊥

@@ -22,7 +22,7 @@ use Rattle.sc_node_table.specs.Rows.{uncounted, asked_again, taught, last_entry_
 use Rattle.sc_node_replica.specs.Again.{asked_for, asked_at}
 use Rattle.sc_node_parts.specs.replica.Requests.{is_request}
 use Rattle.sc_node_parts.specs.replica.Heads.{head_of, head_waits}
-use Rattle.sc_node_parts.proofs.ReplicaProofs.Silence.{one_more, answered-others, answered_all-before, dismissed_all-before, sent_all-before, sent_all-none, sent_others-alone, order_reported-unreported, filter-none}
+use Rattle.sc_node_parts.proofs.ReplicaProofs.AppendedMail.{one_more, answered-others, answered_all-before, dismissed_all-before, sent_all-before, sent_all-none, sent_others-alone, order_reported-unreported, filter-none}
 use Rattle.sc_node_replica.proofs.Backlog.{next_queued-answered}
 use Rattle.sc_node_replica.proofs.Idling.{next_queued-before}
 use Rattle.sc_node_replica.proofs.Rounds.{left_from, answered-step, asked-cons, asked-step, taught-step}

@@ -1,5 +1,5 @@
-pub mod Given
+pub mod RoundMail
 pub mod Again
 pub mod Bare
 pub mod Steps
-pub mod Idle
+pub mod IdleInputs

@@ -7,7 +7,7 @@ ghost use Rattle.sc_group_table.specs.machine.Machine.{applied};
 ghost use Rattle.sc_node_table.specs.Slots.{slots_ahead};
 ghost use Rattle.sc_node_table.specs.Replica.{next, members, last_slot};
 ghost use Rattle.sc_node_parts.specs.replica.Requests.{is_request};
-ghost use Rattle.sc_node_replica.specs.Idle.{KeepsQueues};
+ghost use Rattle.sc_node_replica.specs.IdleInputs.{KeepsQueues};
 ghost use Rattle.sc_node_table.specs.Execute.{entered, answer_of, answered_or_put_back, effect_reported, learnt_to, welcomed, slot_lost, landed, left_gone, left, is_among, looked, has_room, next_ready};
 
 use crate::replica::{LAST_SLOT, Replica};
@@ -256,9 +256,9 @@ impl Replica {
     }
 
     /// Stops a replica that runs, where its group is gone or its node is no longer a member:
-    /// clients with a call in flight, ready or queued are answered so, and the desk is told of each
-    /// queued order. Does nothing for a replica that does not run. Mails are appended to those that
-    /// are there. After `Err(OutOfMemory)` the replica may only be dropped.
+    /// clients with a request in flight, ready or queued are answered so, and the desk gets a result
+    /// of each queued order. Does nothing for a replica that does not run. Mails are appended to those
+    /// that are there. After `Err(OutOfMemory)` the replica may only be dropped.
     #[tactic(auto, unfolding(sc_node_table::specs::Execute::left))]
     pub fn leave(&mut self, out: &mut Sequence<Mail>) -> Result<(), OutOfMemory>
         ensures row { OnOk result ((self.new, out.new) ≡ left (self.old, out.old)) }

@@ -5,7 +5,7 @@ ghost use Rattle.sc_node_table.specs.Slots.{slots_ahead};
 ghost use Rattle.sc_node_table.specs.Replica.{last_slot, next};
 ghost use Rattle.sc_node_table.specs.Election.{stopped};
 ghost use Rattle.sc_node_table.specs.Install.{install_to, asked_to_promise, welcomed_all, named, jumped};
-ghost use Rattle.sc_node_replica.specs.Idle.{ignores};
+ghost use Rattle.sc_node_replica.specs.IdleInputs.{ignores};
 ghost use Rattle.sc_node_table.specs.Rows.{looked_up, took_over, install_row, made_by};
 
 use crate::replica::{LAST_SLOT, Replica};

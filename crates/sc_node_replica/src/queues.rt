@@ -1,7 +1,7 @@
 //! A command that lost its slot goes back to its queue.
 ghost use Rattle.std.specs.Prelude.{◌≡◌, OnOk, IsOk};
 ghost use Rattle.sc_node_table.specs.Queues.{put_back};
-ghost use Rattle.sc_node_replica.specs.Idle.{KeepsQueues};
+ghost use Rattle.sc_node_replica.specs.IdleInputs.{KeepsQueues};
 
 use crate::replica::Replica;
 use sc_base::OutOfMemory;

@@ -10,8 +10,8 @@ ghost use Rattle.sc_node_table.specs.Mails.{sent};
 ghost use Rattle.sc_node_replica.specs.Again.{asked_at, repeated};
 ghost use Rattle.sc_node_table.specs.Replica.{name_of, next, members, flying, is_idle};
 ghost use Rattle.sc_node_table.specs.Rows.{refused_at, queued, requested, request_row, asked_again, last_entry_sent, mailed};
-ghost use Rattle.sc_node_replica.specs.Given.{is_of_round};
-ghost use Rattle.sc_node_replica.specs.Idle.{IsRoundPassedBy};
+ghost use Rattle.sc_node_replica.specs.RoundMail.{is_of_round};
+ghost use Rattle.sc_node_replica.specs.IdleInputs.{IsRoundPassedBy};
 
 use crate::replica::Replica;
 use sc_base::{Members, Op, OutOfMemory, Sequence};

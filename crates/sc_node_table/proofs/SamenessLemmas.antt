@@ -22,35 +22,35 @@ use Rattle.sc_words.specs.declared.commands.votes.Past.{Past}
 use Rattle.sc_words.specs.declared.commands.votes.Past.TheVariants as Voted
 use Rattle.sc_words.specs.declared.commands.votes.Vote.{Vote}
 use Rattle.sc_words.specs.declared.commands.votes.Vote.TheVariants as Says
-use Rattle.sc_node_table.specs.Definitions.{same_numbers, same_op, same_arc, same_link, same_route, same_pair, same_pairs, same_client, same_clients, same_body, same_offer, same_watch, same_no, same_frozen, same_vote, same_past, same_gift, same_outcome, same_command, TellsCommands}
+use Rattle.sc_node_table.specs.Definitions.{same_numbers, same_op, same_arc, same_link, same_route, same_pair, same_pairs, same_client, same_clients, same_body, same_offer, same_watch, same_no, same_frozen, same_vote, same_past, same_gift, same_outcome, same_command, DecidesCommands}
 
 -- a test that is true exactly where two values are equal
-abbrev Tells : {X : Type 0} → (X → X → Bool) → Type 0
-Tells {X} same = (a b : X) → Decides (same a b) (a ≡ b)
+abbrev DecidesEquality : {X : Type 0} → (X → X → Bool) → Type 0
+DecidesEquality {X} same = (a b : X) → Decides (same a b) (a ≡ b)
 
 -- by what its parts tell
 by_parts : {P Q : Type 0} (r : Bool) → Decides r P → (P → Q) → (Q → P) → Decides r Q
 by_parts r d f g = (λ t. f (d.0 t), λ q. d.1 (g q))
 
 -- by its two directions
-both : {X : Type 0} (same : X → X → Bool) → ((a b : X) → same a b ≡ true → a ≡ b) → ((a : X) → same a a ≡ true) → Tells same
+both : {X : Type 0} (same : X → X → Bool) → ((a b : X) → same a b ≡ true → a ≡ b) → ((a : X) → same a a ≡ true) → DecidesEquality same
 both same read itself = λ a b. (read a b, λ e. subst (λ c. same a c ≡ true) e (itself a))
 
 no_way : {P : Type 0} → false ≡ true → P
 no_way e = absurd (true≢false (sym e))
 
-numbers : Tells same_numbers
+numbers : DecidesEquality same_numbers
 numbers a b = pointwise_decides Decides-eqb a b
 
-draws : Tells same_draw
+draws : DecidesEquality same_draw
 draws a b = by_parts (same_draw a b) (Decides-and _ _ (Decides-eqb a.node b.node) (Decides-eqb a.count b.count))
     (λ q i. record { node = q.0 i; count = q.1 i }) (λ e. (ap (λ x. x.node) e, ap (λ x. x.count) e))
 
-arcs : Tells same_arc
+arcs : DecidesEquality same_arc
 arcs a b = by_parts (same_arc a b) (Decides-and _ _ (Decides-eqb a.lo b.lo) (Decides-eqb a.len b.len))
     (λ q i. record { lo = q.0 i; len = q.1 i }) (λ e. (ap (λ x. x.lo) e, ap (λ x. x.len) e))
 
-links : Tells same_link
+links : DecidesEquality same_link
 links a b = by_parts (same_link a b) (Decides-and _ _ (draws a.group b.group) (numbers a.members b.members))
     (λ q i. record { group = q.0 i; members = q.1 i }) (λ e. (ap (λ x. x.group) e, ap (λ x. x.members) e))
 
@@ -67,22 +67,22 @@ no_itself Gone = refl
 no_itself Apart = refl
 no_itself (TooMany n) = (Decides-eqb n n).1 refl
 
-nos : Tells same_no
+nos : DecidesEquality same_no
 nos = both same_no no_read no_itself
 
-routes : Tells same_route
+routes : DecidesEquality same_route
 routes a b = by_parts (same_route a b) (Decides-and _ _ (draws a.group b.group) (Decides-and _ _ (Decides-eqb a.lo b.lo) (numbers a.members b.members)))
     (λ q i. record { group = q.0 i; lo = q.1.0 i; members = q.1.1 i }) (λ e. (ap (λ x. x.group) e, (ap (λ x. x.lo) e, ap (λ x. x.members) e)))
 
 -- ---- what clients asked for
 
-pair : Tells same_pair
+pair : DecidesEquality same_pair
 pair a b = by_parts (same_pair a b) (Decides-and _ _ (numbers a.0 b.0) (numbers a.1 b.1)) (λ q i. (q.0 i, q.1 i)) (λ e. (ap (λ x. x.0) e, ap (λ x. x.1) e))
 
-pairs : Tells same_pairs
+pairs : DecidesEquality same_pairs
 pairs a b = pointwise_decides pair a b
 
-found : {X : Type 0} (same : X → X → Bool) → Tells same → Tells (option_eq same)
+found : {X : Type 0} (same : X → X → Bool) → DecidesEquality same → DecidesEquality (option_eq same)
 found {X} same tells = both (option_eq same) read itself
   where
     read : (a b : Option X) → option_eq same a b ≡ true → a ≡ b
@@ -95,14 +95,14 @@ found {X} same tells = both (option_eq same) read itself
     itself None = refl
     itself (Some x) = (tells x x).1 refl
 
-client : Tells same_client
+client : DecidesEquality same_client
 client a b =
     by_parts (same_client a b)
     (Decides-and _ _ (Decides-eqb a.0 b.0) (Decides-and _ _ (Decides-eqb a.1.seq b.1.seq) (found same_numbers numbers a.1.reply.old b.1.reply.old)))
     (λ q i. (q.0 i, record { seq = q.1.0 i; reply = record { old = q.1.1 i } }))
     (λ e. (ap (λ x. x.0) e, (ap (λ x. x.1.seq) e, ap (λ x. x.1.reply.old) e)))
 
-clients : Tells same_clients
+clients : DecidesEquality same_clients
 clients a b = pointwise_decides client a b
 
 key_and_value : (k l v w : List ℕ) → Decides (same_numbers k l && same_numbers v w) ((k ≡ l) × (v ≡ w))
@@ -126,7 +126,7 @@ op_itself (Del k) = (numbers k k).1 refl
 op_itself (Add k v) = (key_and_value k k v v).1 (refl, refl)
 op_itself (Cas k e v) = (three k k e e v v).1 (refl, (refl, refl))
 
-ops : Tells same_op
+ops : DecidesEquality same_op
 ops = both same_op op_read op_itself
 
 -- ---- what transactions say
@@ -144,10 +144,10 @@ body_itself (Has.Repart n) = (Decides-eqb n n).1 refl
 body_itself (Has.Migrate n) = (Decides-eqb n n).1 refl
 body_itself (Has.Split n c) = (Decides-and _ _ (Decides-eqb n n) (draws c c)).1 (refl, refl)
 
-bodies : Tells same_body
+bodies : DecidesEquality same_body
 bodies = both same_body body_read body_itself
 
-offers : Tells same_offer
+offers : DecidesEquality same_offer
 offers a b =
     by_parts (same_offer a b)
     (Decides-and _ _ (draws a.coord b.coord) (Decides-and _ _ (draws a.part b.part) (Decides-and _ _ (arcs a.arc b.arc)
@@ -155,7 +155,7 @@ offers a b =
     (λ q i. record { coord = q.0 i; part = q.1.0 i; arc = q.1.1.0 i; members = q.1.1.1.0 i; body = q.1.1.1.1.0 i; by = q.1.1.1.1.1 i })
     (λ e. (ap (λ x. x.coord) e, (ap (λ x. x.part) e, (ap (λ x. x.arc) e, (ap (λ x. x.members) e, (ap (λ x. x.body) e, ap (λ x. x.by) e))))))
 
-watches : Tells same_watch
+watches : DecidesEquality same_watch
 watches a b =
     by_parts (same_watch a b)
     (Decides-and _ _ (draws a.coord b.coord) (Decides-and _ _ (numbers a.members b.members) (Decides-and _ _ (draws a.part b.part)
@@ -163,7 +163,7 @@ watches a b =
     (λ q i. record { coord = q.0 i; members = q.1.0 i; part = q.1.1.0 i; old = q.1.1.1.0 i; next = q.1.1.1.1.0 i; by = q.1.1.1.1.1 i })
     (λ e. (ap (λ x. x.coord) e, (ap (λ x. x.members) e, (ap (λ x. x.part) e, (ap (λ x. x.old) e, (ap (λ x. x.next) e, ap (λ x. x.by) e))))))
 
-frozens : Tells same_frozen
+frozens : DecidesEquality same_frozen
 frozens a b =
     by_parts (same_frozen a b)
     (Decides-and _ _ (arcs a.arc b.arc) (Decides-and _ _ (numbers a.members b.members) (Decides-and _ _ (links a.succ b.succ)
@@ -180,7 +180,7 @@ vote_itself : (a : Vote) → same_vote a a ≡ true
 vote_itself (Says.Yes f) = (frozens f f).1 refl
 vote_itself (Says.No n) = (nos n n).1 refl
 
-votes : Tells same_vote
+votes : DecidesEquality same_vote
 votes = both same_vote vote_read vote_itself
 
 past_read : (a b : Past) → same_past a b ≡ true → a ≡ b
@@ -194,10 +194,10 @@ past_itself Voted.Yes = refl
 past_itself (Voted.No n) = (nos n n).1 refl
 past_itself Voted.Ended = refl
 
-pasts : Tells same_past
+pasts : DecidesEquality same_past
 pasts = both same_past past_read past_itself
 
-gifts : Tells same_gift
+gifts : DecidesEquality same_gift
 gifts a b = by_parts (same_gift a b) (Decides-and _ _ (pairs a.pairs b.pairs) (clients a.clients b.clients))
     (λ q i. record { pairs = q.0 i; clients = q.1 i }) (λ e. (ap (λ x. x.pairs) e, ap (λ x. x.clients) e))
 
@@ -219,7 +219,7 @@ outcome_itself (Moved n f) = (moved n n f f).1 (refl, refl)
 outcome_itself (Migrated n) = (Decides-eqb n n).1 refl
 outcome_itself Divided = refl
 
-outcomes : Tells same_outcome
+outcomes : DecidesEquality same_outcome
 outcomes = both same_outcome outcome_read outcome_itself
 
 -- ---- commands
@@ -233,10 +233,10 @@ twos a b n m = Decides-and _ _ (Decides-eqb a b) (Decides-eqb n m)
 splits : (a b n m : ℕ) (c d : Draw) → Decides ((a == b) && (same_draw c d && (n == m))) ((a ≡ b) × ((c ≡ d) × (n ≡ m)))
 splits a b n m c d = Decides-and _ _ (Decides-eqb a b) (Decides-and _ _ (draws c d) (Decides-eqb n m))
 
-of_draw : {X : Type 0} (same : X → X → Bool) → Tells same → (t u : Draw) (a b : X) → Decides (same_draw t u && same a b) ((t ≡ u) × (a ≡ b))
+of_draw : {X : Type 0} (same : X → X → Bool) → DecidesEquality same → (t u : Draw) (a b : X) → Decides (same_draw t u && same a b) ((t ≡ u) × (a ≡ b))
 of_draw same tells t u a b = Decides-and _ _ (draws t u) (tells a b)
 
-by_node : {X : Type 0} (same : X → X → Bool) → Tells same → (t u : Draw) (a b : X) (n m : ℕ) → Decides (same_draw t u && (same a b && (n == m))) ((t ≡ u) × ((a ≡ b) × (n ≡ m)))
+by_node : {X : Type 0} (same : X → X → Bool) → DecidesEquality same → (t u : Draw) (a b : X) (n m : ℕ) → Decides (same_draw t u && (same a b && (n == m))) ((t ≡ u) × ((a ≡ b) × (n ≡ m)))
 by_node same tells t u a b n m = Decides-and _ _ (draws t u) (Decides-and _ _ (tells a b) (Decides-eqb n m))
 
 command_read : (a b : Command) → same_command a b ≡ true → a ≡ b
@@ -269,5 +269,5 @@ command_itself (Watched t a) = (of_draw same_watch watches t t a a).1 (refl, ref
 command_itself (RecordWatch t a n) = (by_node same_past pasts t t a a n n).1 (refl, (refl, refl))
 
 -- two commands are the same exactly where they are equal
-pub tells_commands : TellsCommands
-tells_commands = both same_command command_read command_itself
+pub decides_commands : DecidesCommands
+decides_commands = both same_command command_read command_itself

@@ -26,7 +26,7 @@ pub use Rattle.sc_node_table.specs.Replica.{ReplicaState, Place, Executed, child
 unfoldable pub use Rattle.sc_node_table.specs.Replica.{forgotten}
 pub use Rattle.sc_node_table.specs.Rows.{request_refusal, refused_at, ask_answered, most_taught, uncounted}
 unfoldable pub use Rattle.sc_node_table.specs.Rows.{learn_row, queued, requested, request_row, mailed, made_by, stepped, ask_row, taught, install_row, took_over, looked_up, tick_row, asked_again, last_entry_sent}
-pub use Rattle.sc_node_table.specs.Sameness.{same_command, same_numbers, same_op, same_arc, same_link, same_route, same_pair, same_pairs, same_client, same_clients, same_body, same_offer, same_watch, same_no, same_frozen, same_vote, same_past, same_gift, same_outcome, TellsCommands}
+pub use Rattle.sc_node_table.specs.Sameness.{same_command, same_numbers, same_op, same_arc, same_link, same_route, same_pair, same_pairs, same_client, same_clients, same_body, same_offer, same_watch, same_no, same_frozen, same_vote, same_past, same_gift, same_outcome, DecidesCommands}
 pub use Rattle.sc_node_table.specs.Slots.{without_slot, numbers_from, slots_ahead, at_slot, with_slot, rest_of}
 pub use Rattle.sc_node_table.specs.Spoken.{before_of, asked_on, vote_sent, watch_sent, aborted_to, aborted_watcher, given_up_by, vote_answered, released_to, watch_answered_by, before_in, begun_result, spoken_number, result_reported, begun_asks, heard_from, outcome_result, decided_result}
 unfoldable pub use Rattle.sc_node_table.specs.Spoken.{spoken, spoken_mails, begun_reported, went_on}

@@ -141,5 +141,5 @@ same_command (RecordWatch t a n) (RecordWatch u b m) = same_draw t u && (same_pa
 same_command a b = false
 
 -- the test of two commands is true exactly where they are equal
-abbrev pub TellsCommands : Type 0
-TellsCommands = (a b : Command) → Decides (same_command a b) (a ≡ b)
+abbrev pub DecidesCommands : Type 0
+DecidesCommands = (a b : Command) → Decides (same_command a b) (a ≡ b)

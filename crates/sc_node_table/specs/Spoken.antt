@@ -15,7 +15,7 @@ use Rattle.sc_words.specs.declared.commands.effects.Effect.{Effect}
 use Rattle.sc_words.specs.commands.Definitions.{result_of, refused_result, decided_in, cast_in, is_changed, is_alone}
 use Rattle.sc_words.specs.declared.commands.links.Link.{Link}
 use Rattle.sc_words.specs.declared.commands.orders.OrderResult.{OrderResult}
-use Rattle.sc_words.specs.declared.commands.orders.OrderResult.TheVariants as Tells
+use Rattle.sc_words.specs.declared.commands.orders.OrderResult.TheVariants as Results
 use Rattle.sc_words.specs.declared.commands.votes.Heard.{Heard}
 use Rattle.sc_words.specs.declared.commands.votes.Outcome.{Outcome}
 use Rattle.sc_words.specs.declared.commands.votes.Outcome.TheVariants as Is
@@ -66,11 +66,11 @@ before_of core = before_in core.lock core
 
 -- the result of an order, by the outcome of its transaction
 abbrev pub outcome_result : Outcome → OrderResult
-outcome_result Is.Abort = Tells.Aborted
-outcome_result (Is.Merged into) = Tells.Committed
-outcome_result (Is.Moved at gift) = Tells.Committed
-outcome_result (Is.Migrated node) = Tells.Committed
-outcome_result Is.Divided = Tells.Committed
+outcome_result Is.Abort = Results.Aborted
+outcome_result (Is.Merged into) = Results.Committed
+outcome_result (Is.Moved at gift) = Results.Committed
+outcome_result (Is.Migrated node) = Results.Committed
+outcome_result Is.Divided = Results.Committed
 
 -- the result of an order, where the entry has decided its transaction
 abbrev pub decided_result : Effect → Option OrderResult

@@ -4,7 +4,7 @@
 
 ghost use Rattle.sc_node_table.specs.Election.{AsksTheOpenSets};
 ghost use Rattle.sc_node_table.specs.Pump.{StaysSettled};
-ghost use Rattle.sc_node_table.specs.Sameness.{TellsCommands};
+ghost use Rattle.sc_node_table.specs.Sameness.{DecidesCommands};
 
 use sc_base::Sequence;
 use sc_mail::Mail;
@@ -56,7 +56,7 @@ pub struct Before {
 
 /// States that the table's test of two commands is true exactly where they are equal.
 pub fn commands_are_told_apart()
-    ensures { TellsCommands }
+    ensures { DecidesCommands }
 {}
 
 /// States that what a settled replica offers in the pump leaves it settled, so that it is enough

@@ -2,5 +2,5 @@ mod Plays
 mod Readings
 mod ReportedOrders
 mod Shown
-pub mod Told
+pub mod ConfirmedFiles
 mod WithinBudget

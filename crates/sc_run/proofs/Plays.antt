@@ -11,7 +11,7 @@ use Rattle.sc_actor.specs.Counted.{journal_bytes}
 use Rattle.sc_actor.specs.Mail.{mails}
 use Rattle.sc_actor.proofs.BoundLemmas.{journal_counts}
 use Rattle.sc_actor.proofs.WalkLemmas.{lawful-snoc}
-use Rattle.sc_texts.specs.chance.Words.{two_words}
+use Rattle.sc_texts.specs.chance.KeyStream.{two_words}
 use Rattle.sc_actor.specs.Walk.{IsLawful, IsWhole, skipped, unsettled, is_quiet}
 use Rattle.sc_actor.specs.Counted.{IsFull}
 use Rattle.sc_thread_work.specs.declared.shell.shells.Shell.{Shell}

@@ -8,19 +8,19 @@ use Rattle.sc_actor.proofs.Lemmas.{mails-snoc}
 use Rattle.sc_scenario.specs.declared.scenario.scenarios.Scenario.{Scenario}
 use Rattle.sc_meaning.specs.sound.Players.{as_nodes}
 use Rattle.sc_law_refusal.specs.refusal.Journals.{RefusesWithCause}
-use Rattle.sc_law_refusal.specs.results.Definitions.{IfTold, TellAs, HasHappened}
+use Rattle.sc_law_refusal.specs.results.Definitions.{IfReported, ReportAs, HasHappened}
 use Rattle.sc_world.specs.Summary.{reported_in_mail, reported_of}
 use Rattle.sc_run.specs.ReportedOrders.{IsReportedFirst, LinesHaveHappened}
 
 module _ (Fact : ℕ → OrderResult → Type 0) (number : ℕ) (result : OrderResult) where
-  in_mail : (body : MailBody) → reported_in_mail number body ≡ Some result → IfTold Fact body → Fact number result
+  in_mail : (body : MailBody) → reported_in_mail number body ≡ Some result → IfReported Fact body → Fact number result
   in_mail (Told order told) e fact =
       cond_both (eqb order number) (Some told) None (λ (o : Option OrderResult). o ≡ Some result → Fact number result)
       (λ t f. (let same : told ≡ result = cc in subst (λ n. Fact n result) (eqb-true order number t) (subst (λ r. Fact order r) same fact))) (λ _ f. cc) e
   in_mail (Request group client seq op) e fact = cc
   in_mail _ e fact = cc
 
-  in_mails : (sent : List Mail) → reported_of number sent ≡ Some result → TellAs Fact sent → Fact number result
+  in_mails : (sent : List Mail) → reported_of number sent ≡ Some result → ReportAs Fact sent → Fact number result
   in_mails [] e facts = cc
   in_mails (mail ∷ more) e facts = by (reported_in_mail number mail.body) refl e (λ g. in_mails more g facts.1)
     where

@@ -4,7 +4,7 @@ use Rattle.sc_actor.proofs.WalkLemmas.{lawful-prefix}
 use Rattle.sc_actor.specs.Walk.{IsLawful}
 use Rattle.sc_actor.specs.declared.rows.Row.{Row}
 use Rattle.sc_base.specs.Arc.{IsArc}
-use Rattle.sc_texts.specs.chance.Words.{two_words}
+use Rattle.sc_texts.specs.chance.KeyStream.{two_words}
 use Rattle.sc_words.specs.declared.commands.orders.OrderLine.{OrderLine}
 use Rattle.sc_mail.specs.declared.bodies.Mail.{Mail}
 use Rattle.sc_world_entries.specs.scans.Laws.{EntriesCountLogs, ScansShow}

@@ -7,7 +7,7 @@ use Rattle.sc_words.specs.declared.commands.orders.OrderLine.{OrderLine}
 use Rattle.sc_mail.specs.declared.bodies.Mail.{Mail}
 use Rattle.sc_actor.specs.declared.rows.Row.{Row}
 use Rattle.sc_actor.specs.Walk.{unsettled}
-use Rattle.sc_texts.specs.chance.Words.{two_words}
+use Rattle.sc_texts.specs.chance.KeyStream.{two_words}
 use Rattle.sc_meaning.specs.sound.Players.{system_of, schedule, as_nodes}
 use Rattle.sc_scenario.specs.scenario.Grammar.{verdict_of}
 use Rattle.sc_scenario.specs.scenario.Made.{made_scenario}
@@ -20,7 +20,7 @@ use Rattle.sc_live_plain.specs.Budget.{IsAtBudget, AreAnswered}
 use Rattle.sc_live_plain.specs.CalmBudget.{calm_budget_of, IsCalm, IsCalmAtBudget}
 use Rattle.sc_live_plain.proofs.Lemmas.{roomy_scenarios_are_calm}
 use Rattle.sc_live_plain.specs.LastLine.{LastLinesAnswer}
-use Rattle.sc_live_plain.specs.Laws.{PlainLinesEndQuiet, PlainRequestsAreAnswered, PlainJournalsAreLight}
+use Rattle.sc_live_plain.specs.PlainLaws.{PlainLinesEndQuiet, PlainRequestsAreAnswered, PlainJournalsAreLight}
 use Rattle.sc_live_answers.specs.AnsweredRequests.{CalmLinesSettle, CalmRequestsAreAnswered, SettledRequestsAreAnswered}
 use Rattle.sc_live_answers.specs.ReportedOrders.{AreOrdersReported, SettledOrdersAreReported}
 use Rattle.sc_live_healed.specs.HealedStores.{HealedStoresAnswer}

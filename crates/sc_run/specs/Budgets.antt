@@ -10,7 +10,7 @@ use Rattle.sc_meaning.specs.sound.Players.{system_of, schedule, Lawful, Whole, a
 use Rattle.sc_live_plain.specs.Budget.{IsAtBudget, AreAnswered}
 use Rattle.sc_live_plain.specs.CalmBudget.{IsCalmAtBudget}
 use Rattle.sc_live_plain.specs.LastLine.{LastLinesAnswer}
-use Rattle.sc_live_plain.specs.Laws.{PlainJournalsAreLight}
+use Rattle.sc_live_plain.specs.PlainLaws.{PlainJournalsAreLight}
 use Rattle.sc_live_answers.specs.AnsweredRequests.{SettledRequestsAreAnswered}
 use Rattle.sc_live_answers.specs.ReportedOrders.{SettledOrdersAreReported}
 use Rattle.sc_live_healed.specs.HealedStores.{HealedStoresAnswer}

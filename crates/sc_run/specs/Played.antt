@@ -13,7 +13,7 @@ use Rattle.sc_law_refusal.specs.refusal.Journals.{RefusesWithCause}
 use Rattle.sc_meaning.specs.sound.Players.{system_of, schedule, Lawful, Whole, parties, Player, as_nodes}
 use Rattle.sc_actor.specs.declared.schedules.Played.{Played}
 use Rattle.sc_actor.specs.declared.schedules.Played.TheVariants.{Ended, Full, OutOfMemory}
-use Rattle.sc_texts.specs.chance.Words.{two_words}
+use Rattle.sc_texts.specs.chance.KeyStream.{two_words}
 use Rattle.sc_live_plain.specs.Budget.{IsAtBudget, AreAnswered}
 use Rattle.sc_live_plain.specs.CalmBudget.{IsCalm}
 use Rattle.sc_live_plain.specs.LastLine.{EndsAtBudget}

@@ -20,7 +20,7 @@ use Rattle.sc_meaning.specs.sound.Soundness.{IsSoundThroughout}
 use Rattle.sc_law_refusal.specs.refusal.Journals.{RefusesWithCause}
 use Rattle.sc_run.specs.ReportedOrders.{LinesHaveHappened}
 use Rattle.sc_meaning.specs.sound.Players.{system_of, schedule, Lawful, Whole, parties, as_nodes}
-use Rattle.sc_world.specs.Replays.{IsBadRow}
+use Rattle.sc_world.specs.ReplayErrors.{IsBadRow}
 use Rattle.sc_world.specs.Summary.{summary_of}
 use Rattle.sc_live_plain.specs.Budget.{IsAtBudget, AreAnswered}
 use Rattle.sc_live_plain.specs.CalmBudget.{IsCalm}
@@ -42,7 +42,7 @@ use Rattle.sc_cli.specs.Errors.{error_text, IsBadText}
 use Rattle.sc_cli.specs.Inputs.{ReadsFile, ReadsScenario, ReadsText}
 use Rattle.sc_cli.specs.declared.said.Said.{Said}
 use Rattle.sc_cli.specs.declared.said.Said.TheVariants.{Ended, Filled, Usage, BadScenario, ReadError, Lawful as Yes, Unlawful as No}
-use Rattle.sc_texts.specs.chance.Words.{two_words}
+use Rattle.sc_texts.specs.chance.KeyStream.{two_words}
 use Rattle.sc_texts.specs.declared.lines.reasons.Reason.{Reason}
 
 -- the usage line, the text for arguments outside their grammar

@@ -1,9 +1,9 @@
 //! Whether stored rows are a lawful journal.
 ghost use Rattle.std.specs.Prelude.{◌<◌, ◌^◌, length, IfOk, MatchOption};
 ghost use Rattle.sc_actor.specs.Mail.{mails};
-ghost use Rattle.sc_texts.specs.chance.Words.{two_words};
+ghost use Rattle.sc_texts.specs.chance.KeyStream.{two_words};
 ghost use Rattle.sc_meaning.specs.sound.Players.{Lawful, as_nodes};
-ghost use Rattle.sc_world.specs.Replays.{IsBadRow};
+ghost use Rattle.sc_world.specs.ReplayErrors.{IsBadRow};
 ghost use Rattle.sc_scenario.specs.scenario.Valid.{IsValid};
 ghost use Rattle.sc_meaning.specs.sound.Soundness.{IsSoundThroughout};
 ghost use Rattle.sc_law_refusal.specs.refusal.Journals.{RefusesWithCause};

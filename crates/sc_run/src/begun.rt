@@ -1,7 +1,7 @@
 //! The beginning of a run.
 ghost use Rattle.std.specs.Prelude.{◌≡◌, ◌≤◌, ◌^◌, [], IfOk};
 ghost use Rattle.sc_thread_ports.specs.exchange.Ports.{joined_ports};
-ghost use Rattle.sc_thread_drive.specs.Working.{HasOpened};
+ghost use Rattle.sc_thread_drive.specs.CompanyRows.{HasOpened};
 ghost use Rattle.sc_scenario.specs.scenario.Valid.{IsValid};
 ghost use Rattle.sc_meaning.specs.sound.Players.{births, as_nodes};
 

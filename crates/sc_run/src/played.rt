@@ -2,7 +2,7 @@
 ghost use Rattle.std.specs.Prelude.{◌≢◌, map};
 ghost use Rattle.sc_actor.specs.declared.schedules.Played.TheVariants.{OutOfMemory};
 ghost use Rattle.sc_thread_ports.specs.exchange.Ports.{seen};
-ghost use Rattle.sc_thread_drive.specs.Working.{HasOpened, StaysWhole};
+ghost use Rattle.sc_thread_drive.specs.CompanyRows.{HasOpened, StaysWhole};
 ghost use Rattle.sc_scenario.specs.scenario.Valid.{IsValid};
 ghost use Rattle.sc_meaning.specs.sound.Players.{births, as_nodes};
 ghost use Rattle.sc_run.specs.Played.{IsPlayed};

@@ -3,7 +3,7 @@ use Rattle.std.proofs.Common.{◌≡◌, ℕ, ◌+◌, ◌*◌, ◌%◌, ◌^◌
 use Rattle.std.proofs.Math.Nat.{mul-le-mul}
 use Rattle.std.proofs.lemmas.Nat.{mod_low}
 use Rattle.sc_base.specs.declared.ops.Op.{Op}
-use Rattle.sc_texts.specs.chance.Words.{ChanceStep, after_step, two_words}
+use Rattle.sc_texts.specs.chance.KeyStream.{ChanceStep, after_step, two_words}
 use Rattle.sc_scenario.specs.scenario.Made.{made_op, made_ops, made_clients}
 use Rattle.sc_scenario.specs.declared.scenario.scenarios.Asks.{Asks}
 use Rattle.sc_scenario.proofs.ScenarioProofs.Made.{ops_next, clients_next}

@@ -3,6 +3,8 @@
 #![tactic(auto)]
 
 #[cfg(test)]
+mod decided_tests;
+#[cfg(test)]
 mod gates;
 #[cfg(test)]
 mod hostile_tests;
@@ -20,7 +22,5 @@ mod scan_tests;
 mod storm_tests;
 #[cfg(test)]
 mod thread_tests;
-#[cfg(test)]
-mod told_tests;
 #[cfg(test)]
 mod transaction_tests;

@@ -5,10 +5,10 @@ ghost use Rattle.sc_scenario.specs.scenario.Valid.{IsValid};
 ghost use Rattle.sc_meaning.specs.sound.Players.{as_nodes};
 ghost use Rattle.sc_meaning.specs.sound.Soundness.{IsSoundThroughout};
 
+use crate::decided_tests::{ExpectedGroup, has_groups};
 use crate::gates::Open;
 use crate::run_tests::{ACCEPT_THRICE, CUT_SHORT, CUT_SHORT_REPORT, FIRST, TWO_LEADERS};
 use crate::storm_tests::{has_cover, has_legal};
-use crate::told_tests::{Told, has_groups};
 use sc_actor::{Event, Journal, Played, Row, are_few};
 use sc_base::{Draw, Op, Sequence};
 use sc_mail::Mail;
@@ -212,15 +212,15 @@ fn are_text(lines: &[ReportLine], text: &[u8]) -> bool {
 }
 
 // Returns whether the report of a summary has these lines.
-fn is_told(rt: &impl Abort, alloc: Global, told: &Summary, report: &[u8]) -> bool {
-    let lines = lines(alloc, told).expect(rt, "memory");
+fn has_lines(rt: &impl Abort, alloc: Global, reported: &Summary, report: &[u8]) -> bool {
+    let lines = lines(alloc, reported).expect(rt, "memory");
     let is_so = are_text(lines.as_slice(), report);
     forget(lines);
     is_so
 }
 
 // Returns the summary that a replay makes of a journal.
-fn told_by(
+fn summary_by(
     rt: &impl Abort,
     alloc: Global,
     scenario: &Scenario,
@@ -229,9 +229,9 @@ fn told_by(
     requires { IsValid scenario.now }
 {
     let world = replayed(rt, alloc, scenario, journal);
-    let told = summary(alloc, scenario, &world).expect(rt, "memory");
+    let reported = summary(alloc, scenario, &world).expect(rt, "memory");
     forget(world);
-    told
+    reported
 }
 
 // Returns whether this is the report of a run's rows.
@@ -243,9 +243,9 @@ fn reports<R: Abort + Threads + Wait + Sync>(
 ) -> bool {
     let scenario = scenario_of(rt, alloc, input);
     let journal = played(rt, alloc, &scenario);
-    let told = told_by(rt, alloc, &scenario, &journal);
-    let is_so = is_told(rt, alloc, &told, report);
-    forget(told);
+    let reported = summary_by(rt, alloc, &scenario, &journal);
+    let is_so = has_lines(rt, alloc, &reported, report);
+    forget(reported);
     forget(journal);
     forget(scenario);
     is_so
@@ -372,7 +372,7 @@ pub enum Question<'a> {
     /// The number of nodes that are left, of clients, and of clients that await an answer.
     Left([u32; 3]),
     /// The groups, and the number of requests that took effect.
-    Groups(&'a [Told], usize),
+    Groups(&'a [ExpectedGroup], usize),
     /// The ring covers, and the history is legal.
     Sound,
 }
@@ -388,7 +388,7 @@ fn is_answer(
         Question::Log(group, numbers) => has_log(rt, alloc, scenario, world, (group, numbers)),
         Question::History(numbers) => has_entries(rt, alloc, scenario, world, numbers),
         Question::Left(counts) => left_of(world.parties()) == counts,
-        Question::Groups(tolds, count) => has_groups(rt, alloc, world, tolds, count),
+        Question::Groups(expected, count) => has_groups(rt, alloc, world, expected, count),
         Question::Sound => has_cover(rt, alloc, world) && has_legal(rt, alloc, world),
     }
 }
@@ -410,7 +410,7 @@ pub fn answers(
 }
 
 /// Returns whether that holds of the world of a run.
-pub fn tells<R: Abort + Threads + Wait + Sync>(
+pub fn holds_of_run<R: Abort + Threads + Wait + Sync>(
     rt: &R,
     alloc: Global,
     input: &[u8],
@@ -431,12 +431,12 @@ fn log_of(node: u16, numbers: &[u32]) -> Question<'_> {
 
 #[test]
 fn a_put_and_a_get_are_decided_in_order(rt: HostRuntime) {
-    let log = tells(&rt, rt.alloc(), FIRST, log_of(0, &[1, 2]));
-    let history = tells(&rt, rt.alloc(), FIRST, Question::History(&[1, 2]));
+    let log = holds_of_run(&rt, rt.alloc(), FIRST, log_of(0, &[1, 2]));
+    let history = holds_of_run(&rt, rt.alloc(), FIRST, Question::History(&[1, 2]));
     assert!(rt; log && history);
 }
 
 #[test]
 fn a_replay_leaves_each_node_and_client_where_its_rows_do(rt: HostRuntime) {
-    assert!(rt; tells(&rt, rt.alloc(), CUT_SHORT, Question::Left([1, 1, 1])));
+    assert!(rt; holds_of_run(&rt, rt.alloc(), CUT_SHORT, Question::Left([1, 1, 1])));
 }

@@ -247,7 +247,7 @@ fn scans_are_printed_as_worked(rt: HostRuntime) {
 }
 
 #[test]
-fn words_that_spell_no_scan_and_faults_are_told(rt: HostRuntime) {
+fn words_that_spell_no_scan_and_errors_are_reported(rt: HostRuntime) {
     check_all(&rt, rt.alloc(), REFUSED);
 }
 

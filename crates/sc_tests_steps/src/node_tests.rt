@@ -1,7 +1,7 @@
 //! A node of one group steps as its replica does.
 ghost use Rattle.std.specs.Prelude.{◌≡◌, true, IfSome};
 ghost use Rattle.sc_node_table.specs.Node.{may_come};
-ghost use Rattle.sc_node.specs.Given.{may_take};
+ghost use Rattle.sc_node.specs.GivenInputs.{may_take};
 
 use crate::samples::{accept, accepted, copy, get, group, request};
 use sc_actor::Input;

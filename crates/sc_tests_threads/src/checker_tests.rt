@@ -166,7 +166,7 @@ fn is_left(left: &Replayed<Player>, wanted: Left) -> bool {
     }
 }
 
-fn is_told(verdict: &Verdict<Player>, wanted: Option<Left>) -> bool {
+fn is_verdict(verdict: &Verdict<Player>, wanted: Option<Left>) -> bool {
     match (verdict, wanted) {
         (Verdict::Lawful(left), Some(wanted)) => is_left(left, wanted),
         (Verdict::BadRow { .. }, None) => true,
@@ -186,7 +186,7 @@ fn leave(
     let seats = pair(rt, alloc);
     assert!(rt; are_apart(&seats) && are_few(rows.as_slice()));
     let verdict = replay(alloc, seats, lines, rows.as_slice()).expect(rt, "memory");
-    let is_so = is_told(&verdict, wanted);
+    let is_so = is_verdict(&verdict, wanted);
     forget(verdict);
     forget(rows);
     is_so

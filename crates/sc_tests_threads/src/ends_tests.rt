@@ -3,7 +3,7 @@ ghost use Rattle.std.specs.Prelude.{◌≡◌, [], List};
 ghost use Rattle.sc_thread_ports.specs.exchange.Ports.{given, joined_ports};
 ghost use Rattle.sc_thread_workers.specs.Crews.{AllOf, crew_numbers};
 ghost use Rattle.sc_actor.specs.declared.actors.Seat.{Seat};
-ghost use Rattle.sc_thread_drive.specs.Working.{HasOpened, StaysWhole};
+ghost use Rattle.sc_thread_drive.specs.CompanyRows.{HasOpened, StaysWhole};
 
 use crate::notes::Note;
 use crate::players::{Open, Player, go, seats};

@@ -74,7 +74,7 @@ fn picked<R: Wait + Abort>(rt: &R, net: &mut Port<Note, u32>, word: u32) -> u32
 
 // Returns 1 where the mail was lost or repeated, 0 where it may not be, and 9 where the row is
 // refused.
-fn told(done: &Result<bool, Unposted<Note, u32>>) -> u32 {
+fn digit_of(done: &Result<bool, Unposted<Note, u32>>) -> u32 {
     match done {
         Ok(true) => 1,
         Ok(false) => 0,
@@ -87,9 +87,9 @@ fn repeats<R: Wait>(rt: &R, net: &mut Port<Note, u32>, number: u32) -> u32
     ensures { Stays net.old net.new }
 {
     let done = net.again(rt, number);
-    let told = told(&done);
+    let digit = digit_of(&done);
     forget(done);
-    told
+    digit
 }
 
 fn loses<R: Wait>(rt: &R, net: &mut Port<Note, u32>, number: u32) -> u32
@@ -97,9 +97,9 @@ fn loses<R: Wait>(rt: &R, net: &mut Port<Note, u32>, number: u32) -> u32
     ensures { Stays net.old net.new }
 {
     let done = net.lose(rt, number);
-    let told = told(&done);
+    let digit = digit_of(&done);
     forget(done);
-    told
+    digit
 }
 
 // Delivers the mail at this place, sends a note to each of these receivers, and returns the number

@@ -195,12 +195,12 @@ fn digits_of(spots: &[Spot]) -> u64 {
 // Returns the receiver and the size of the mail with this number.
 fn mail_of(rt: &impl Abort, alloc: Global, ledger: &Notes, number: u32) -> Option<(u32, u64)> {
     let found = ledger.mail(alloc, number).expect(rt, "memory");
-    let told = match &found {
+    let sent = match &found {
         Some(note) => Some((note.to, note.size)),
         None => None,
     };
     forget(found);
-    told
+    sent
 }
 
 // Returns how many mails were sent, and the copy for one of these actors that a word picks, as the

@@ -214,7 +214,7 @@ fn digits_of(entries: &[(u8, u32)], who: u32) -> u32 {
 }
 
 // Returns the number of entries of a log, and those made under the numbers 1 to 4.
-fn told(log: &Log) -> (usize, [u32; 4]) {
+fn counted(log: &Log) -> (usize, [u32; 4]) {
     let entries = log.entries.as_slice();
     let digits = [
         digits_of(entries, 1),
@@ -238,9 +238,9 @@ fn two_write<R: Threads + Wait + Abort + Sync>(rt: &R, alloc: Global, parts: (Pa
 #[test]
 fn two_threads_append_through_one_turn(rt: HostRuntime) {
     let log = two_write(&rt, rt.alloc(), ADD);
-    let told = told(&log);
+    let counts = counted(&log);
     forget(log);
-    assert!(rt; told == (6, [123, 123, 0, 0]));
+    assert!(rt; counts == (6, [123, 123, 0, 0]));
 }
 
 // Lets four seats append in four threads.
@@ -300,9 +300,9 @@ fn four_write<R: Threads + Wait + Abort + Sync>(rt: &R, alloc: Global) -> Log {
 #[test]
 fn four_threads_append_through_one_turn(rt: HostRuntime) {
     let log = four_write(&rt, rt.alloc());
-    let told = told(&log);
+    let counts = counted(&log);
     forget(log);
-    assert!(rt; told == (12, [123, 123, 123, 123]));
+    assert!(rt; counts == (12, [123, 123, 123, 123]));
 }
 
 // Lets two seats of one thread meet between their entries.
@@ -348,7 +348,7 @@ fn woken<R: Threads + Wait + Abort + Clock + Sync>(rt: &R, alloc: Global) -> Log
 #[test]
 fn leaving_wakes_the_seat_that_sleeps(rt: HostRuntime) {
     let log = woken(&rt, rt.alloc());
-    let told = told(&log);
+    let counts = counted(&log);
     forget(log);
-    assert!(rt; told == (1, [0, 2, 0, 0]));
+    assert!(rt; counts == (1, [0, 2, 0, 0]));
 }

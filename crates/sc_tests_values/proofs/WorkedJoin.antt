@@ -8,7 +8,7 @@ use Rattle.sc_words.specs.declared.commands.orders.OrderLine.{OrderLine}
 use Rattle.sc_words.specs.declared.commands.orders.OrderResult.TheVariants.{Done}
 use Rattle.sc_mail.specs.declared.bodies.AnswerBody.TheVariants.{Value}
 use Rattle.sc_mail.specs.declared.bodies.Mail.{Mail}
-use Rattle.sc_mail.specs.declared.bodies.MailBody.TheVariants.{Request, Answer, Accept, Accepted, Learn, Install, Told as Tells}
+use Rattle.sc_mail.specs.declared.bodies.MailBody.TheVariants.{Request, Answer, Accept, Accepted, Learn, Install, Told as ToldMail}
 use Rattle.sc_actor.specs.Walk.{unsettled}
 use Rattle.sc_actor.specs.declared.rows.Row.{Row}
 use Rattle.sc_actor.specs.declared.rows.Event.TheVariants.{Deliver, Go, Told}
@@ -38,7 +38,7 @@ joined_base = record alone { core = record alone.core { members = 1 ∷ 2 ∷ []
 
 -- the row that executes the order's entry, and reports it
 abbrev third : Row Mail OrderLine
-third = row 1 (Deliver 2) (record { from = 1; to = 0; body = Tells 1 Done } ∷ mail 1 2 (Install lone_name 1 joined_base ((1 ∷ []) ∷ (1 ∷ []) ∷ (1 ∷ []) ∷ (1 ∷ 2 ∷ []) ∷ [])))
+third = row 1 (Deliver 2) (record { from = 1; to = 0; body = ToldMail 1 Done } ∷ mail 1 2 (Install lone_name 1 joined_base ((1 ∷ []) ∷ (1 ∷ []) ∷ (1 ∷ []) ∷ (1 ∷ 2 ∷ []) ∷ [])))
 
 -- the rows: the order is offered, accepted and carried out, which the third row reports; then each request is, and the new member learns it
 rows : List (Row Mail OrderLine)
@@ -83,7 +83,7 @@ answered first others groups_are one a is =
 -- the order's result is reported: done
 done : IsReported (births as_nodes joined) rows 1
 unfolding rows
-done = record { result = Done; told = record { mail = record { from = 1; to = 0; body = Tells 1 Done }; among = inr (inr (inl refl)); body = refl }; cause = λ e. cc }
+done = record { result = Done; told = record { mail = record { from = 1; to = 0; body = ToldMail 1 Done }; among = inr (inr (inl refl)); body = refl }; cause = λ e. cc }
 
 reported : AreOrdersReported joined rows
 unfolding ordered lines_of

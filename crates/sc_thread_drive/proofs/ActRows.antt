@@ -25,15 +25,15 @@ use Rattle.sc_thread_work.specs.declared.shell.turns.Turn.TheVariants.{Did, Empt
 use Rattle.sc_thread_work.specs.shell.Shells.{Happens, Takes, IsReplay, Replays, state, row_at, Fetches, Finds}
 use Rattle.sc_thread_work.proofs.ShellProofs.Taking.{input_steady}
 use Rattle.sc_thread_workers.specs.Crews.{Still, AllStill, AllOf, IsAhead}
-use Rattle.sc_thread_workers.specs.Ends.{IsGathered}
-use Rattle.sc_thread_workers.proofs.Lists.{get_any}
+use Rattle.sc_thread_workers.specs.RoundEnds.{IsGathered}
+use Rattle.sc_thread_workers.proofs.ChangedLists.{get_any}
 use Rattle.sc_thread_workers.proofs.Attending.{prefix_snoc, count_split}
 use Rattle.sc_thread_drive.specs.Companies.{IsCompany}
 use Rattle.sc_thread_drive.specs.Acts.{RowAdded, RowPasses, HasHalted, AfterEvent, KthIs, AfterTurn}
 use Rattle.sc_thread_drive.proofs.RowCounts.{whole_prefix}
 use Rattle.sc_thread_drive.proofs.OneActed.{nothing_seen, row_seen, seen_before, shell_later, company_after}
 use Rattle.std.proofs.lemmas.List.{get_or-map, length-map}
-use Rattle.sc_thread_ports.proofs.TurnProofs.Lists.{starts_trans}
+use Rattle.sc_thread_ports.proofs.TurnProofs.ListPrefixes.{starts_trans}
 
 -- the number at a place of the births is that of its shell
 module _ {A M O : Type 0} {g : Ghosts A M O} {h : MailGhosts M} where

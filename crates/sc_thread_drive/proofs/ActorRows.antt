@@ -24,7 +24,7 @@ use Rattle.sc_thread_drive.specs.Acts.{HasHalted, AfterEvent, AfterTurn}
 use Rattle.sc_thread_drive.specs.Stepping.{IsPlace, IsNowhere, Stepped, unless_crashed}
 use Rattle.sc_thread_drive.proofs.Crashes.{both_out}
 use Rattle.sc_thread_drive.proofs.SystemWords.{sys, acts_at, crashed_at, waiting_at, waiting_none, acts_none, waiting_crashed}
-use Rattle.sc_thread_workers.proofs.Lists.{one_of}
+use Rattle.sc_thread_workers.proofs.ChangedLists.{one_of}
 
 module _ {A M O : Type 0} {g : Ghosts A M O} {h : MailGhosts M} where
   -- no shell has the number

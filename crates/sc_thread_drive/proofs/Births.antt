@@ -13,7 +13,7 @@ use Rattle.sc_thread_work.specs.declared.shell.shells.Shell.{Shell}
 use Rattle.sc_thread_work.specs.shell.Shells.{Replays}
 use Rattle.sc_thread_work.proofs.ShellProofs.Replaying.{replay_born}
 use Rattle.sc_thread_workers.specs.Crews.{AllStill, crew_numbers, rows_made}
-use Rattle.sc_thread_workers.specs.Ends.{IsGathered}
+use Rattle.sc_thread_workers.specs.RoundEnds.{IsGathered}
 use Rattle.sc_thread_workers.proofs.Crews.{still_all_go, still_sound, still_rows}
 use Rattle.sc_thread_workers.proofs.Serving.{numbers_go}
 use Rattle.sc_thread_drive.specs.Numbers.{is_in, apart}

@@ -13,11 +13,11 @@ use Rattle.sc_thread_ports.specs.exchange.BareRows.{rows_of}
 use Rattle.sc_thread_ports.specs.exchange.Ports.{seen, made, given, joined_ports, SameExchange, IsTrue}
 use Rattle.sc_thread_work.specs.declared.shell.shells.Shell.{Shell}
 use Rattle.sc_thread_workers.specs.Crews.{AllOver, crew_numbers}
-use Rattle.sc_thread_workers.proofs.Lists.{one_of}
+use Rattle.sc_thread_workers.proofs.ChangedLists.{one_of}
 use Rattle.sc_thread_workers.proofs.Attending.{count_split}
 use Rattle.sc_thread_drive.specs.Numbers.{is_in}
 use Rattle.sc_thread_drive.proofs.RowCounts.{not_in}
-use Rattle.sc_thread_ports.proofs.TurnProofs.Lists.{starts_trans}
+use Rattle.sc_thread_ports.proofs.TurnProofs.ListPrefixes.{starts_trans}
 
 module _ {M O : Type 0} where
   -- a list that begins with another and has no more rows of any number is that one

@@ -15,7 +15,7 @@ use Rattle.sc_thread_ports.specs.exchange.BareRows.{rows_of}
 use Rattle.sc_thread_ports.specs.exchange.Ports.{seen, made, Looked, IsTrue}
 use Rattle.sc_thread_work.specs.declared.shell.shells.Shell.{Shell}
 use Rattle.sc_thread_workers.specs.Crews.{AllGo, AllOver, AllStill, AllSound, crew_numbers}
-use Rattle.sc_thread_workers.specs.Ends.{any_waits, IsGathered}
+use Rattle.sc_thread_workers.specs.RoundEnds.{any_waits, IsGathered}
 use Rattle.sc_thread_workers.proofs.Crews.{still_all_go, still_sound, still_rows}
 use Rattle.sc_thread_workers.proofs.Serving.{numbers_go, count_later, list_same, waits_at, is_some_is}
 use Rattle.sc_thread_drive.specs.Numbers.{is_in, apart}
@@ -25,7 +25,7 @@ use Rattle.sc_thread_drive.proofs.SystemWords.{sys, waiting_at}
 use Rattle.sc_actor.proofs.PendingLemmas.{some_waits, first_is}
 use Rattle.sc_thread_drive.proofs.FreeRows.{in_at, flip_in}
 use Rattle.std.proofs.lemmas.List.{nil_from_length}
-use Rattle.sc_thread_workers.proofs.Lists.{one_of}
+use Rattle.sc_thread_workers.proofs.ChangedLists.{one_of}
 use Rattle.sc_thread_ports.proofs.ExchangeProofs.Knowing.{own_length}
 
 module _ {M O : Type 0} {h : MailGhosts M} where

@@ -30,7 +30,7 @@ use Rattle.sc_thread_drive.proofs.SystemWords.{sys}
 use Rattle.sc_thread_drive.proofs.LowestMail.{wider}
 use Rattle.sc_thread_drive.proofs.OneActed.{count_seen, count_company}
 use Rattle.sc_thread_drive.proofs.RowCounts.{flip, whole_prefix}
-use Rattle.sc_thread_drive.proofs.Seats.{cut_at}
+use Rattle.sc_thread_drive.proofs.SeatsAtStart.{cut_at}
 
 -- the first of the prefix and then of the rest
 module _ {X : Type 0} (test : X → Bool) where

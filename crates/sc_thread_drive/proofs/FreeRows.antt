@@ -31,7 +31,7 @@ use Rattle.sc_thread_drive.proofs.RowCounts.{not_in}
 use Rattle.sc_thread_drive.proofs.OneActed.{count_seen, count_company}
 use Rattle.sc_thread_drive.proofs.ActRows.{birth_number}
 use Rattle.sc_thread_drive.proofs.SystemWords.{sys, acts_at, waiting_at, gone_push}
-use Rattle.sc_thread_workers.proofs.Lists.{one_of}
+use Rattle.sc_thread_workers.proofs.ChangedLists.{one_of}
 
 -- a number that is in a list
 pub flip_in : (n : ℕ) (ws : List ℕ) → list_any (λ a. eqb a n) ws ≡ true → is_in n ws ≡ true

@@ -20,7 +20,7 @@ use Rattle.sc_thread_work.specs.declared.shell.shells.Shell.{Shell}
 use Rattle.sc_thread_workers.specs.declared.answers.Rounds.TheVariants.{Quiet, Limit, Full}
 use Rattle.sc_thread_workers.specs.Crews.{AllGo, AllOver, AllStill, AllSound, crew_numbers, rows_made}
 use Rattle.sc_thread_workers.specs.Services.{AllServe}
-use Rattle.sc_thread_workers.specs.Ends.{IsEnd, IsGathered}
+use Rattle.sc_thread_workers.specs.RoundEnds.{IsEnd, IsGathered}
 use Rattle.sc_thread_drive.specs.declared.company.Score.{Score}
 use Rattle.sc_thread_drive.specs.Numbers.{is_in}
 use Rattle.sc_thread_drive.specs.Goings.{HasReached, Goes, Fills}
@@ -29,7 +29,7 @@ use Rattle.sc_thread_drive.proofs.SystemWords.{acts_at, waiting_at}
 use Rattle.sc_actor.proofs.PendingLemmas.{some_waits}
 use Rattle.sc_thread_drive.proofs.FreeRows.{more_count, free_walk, gone_same}
 use Rattle.sc_thread_drive.proofs.Companies.{true_before, company_go, company_still, gathered_same, quiet_after, cut_after}
-use Rattle.sc_thread_workers.proofs.Lists.{one_of}
+use Rattle.sc_thread_workers.proofs.ChangedLists.{one_of}
 use Rattle.std.proofs.Math.Bool.{or-false, or-true}
 
 module _ {A M O : Type 0} {g : Ghosts A M O} {h : MailGhosts M} where

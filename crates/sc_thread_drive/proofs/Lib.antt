@@ -11,15 +11,15 @@ pub mod NetworkRows
 pub mod NetworkKept
 pub mod LowestMail
 pub mod SettleSteps
-pub mod Kept
+pub mod GatheredExchange
 pub mod Births
 pub mod WholeSchedules
-pub mod Seats
+pub mod SeatsAtStart
 pub mod Closed
 pub mod Crashes
 pub mod FirstCopies
 pub mod StormSteps
-pub mod Working
+pub mod CompanyActs
 pub mod Settled
 pub mod Singles
 mod OneMet

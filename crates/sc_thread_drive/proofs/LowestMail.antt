@@ -15,14 +15,14 @@ use Rattle.sc_thread_ledger.specs.Pending.{upto, kth_pending}
 use Rattle.sc_thread_ports.specs.declared.exchange.ports.Port.{Port}
 use Rattle.sc_thread_ports.specs.exchange.Ports.{seen}
 use Rattle.sc_thread_work.specs.declared.shell.shells.Shell.{Shell}
-use Rattle.sc_thread_workers.specs.Ends.{IsFirst}
+use Rattle.sc_thread_workers.specs.RoundEnds.{IsFirst}
 use Rattle.sc_thread_drive.specs.Companies.{IsCompany}
 use Rattle.sc_thread_drive.specs.Stepping.{IsPlace}
 use Rattle.sc_thread_drive.specs.Lowest.{Lowest, FindsLowest, IsReceiverAt}
 use Rattle.sc_thread_drive.proofs.SystemWords.{sys, upto_has, births_have, births_long}
 use Rattle.sc_thread_drive.proofs.ActRows.{birth_number}
 use Rattle.sc_thread_drive.proofs.FreeRows.{in_at, flip_in}
-use Rattle.sc_thread_workers.proofs.Lists.{one_of}
+use Rattle.sc_thread_workers.proofs.ChangedLists.{one_of}
 
 module _ {A M O : Type 0} {g : Ghosts A M O} {h : MailGhosts M} where
   module _ (words : ℕ → ℕ → ℕ × ℕ) (births : List (Seat A)) (net : Port M O h) (ss : List (Shell A M O g h)) (c : IsCompany births net ss) (rows : List (Row M O)) where

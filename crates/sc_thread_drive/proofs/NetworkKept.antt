@@ -8,13 +8,13 @@ use Rattle.sc_thread_ports.specs.declared.exchange.ports.Port.{Port}
 use Rattle.sc_thread_ports.specs.exchange.Ports.{Looked}
 use Rattle.sc_thread_work.specs.declared.shell.shells.Shell.{Shell}
 use Rattle.sc_thread_workers.specs.Crews.{AreStill, IsCrew, AllOf}
-use Rattle.sc_thread_workers.specs.Ends.{IsGathered}
+use Rattle.sc_thread_workers.specs.RoundEnds.{IsGathered}
 use Rattle.sc_thread_workers.proofs.Crews.{all_of_later}
 use Rattle.sc_thread_ledger.specs.declared.errors.PostError.{PostError}
 use Rattle.sc_thread_ledger.specs.declared.errors.PostError.TheVariants.{JournalFull, OutOfMemory}
 use Rattle.sc_thread_drive.specs.Changing.{Changes}
 use Rattle.sc_thread_drive.specs.Goings.{StaysSo}
-use Rattle.sc_thread_drive.proofs.Kept.{kept_gathered, kept_then, on_gathered, all_of_stays}
+use Rattle.sc_thread_drive.proofs.GatheredExchange.{kept_gathered, kept_then, on_gathered, all_of_stays}
 
 module _ {A M O : Type 0} {g : Ghosts A M O} {h : MailGhosts M} where
   -- the shells are of the exchange as before

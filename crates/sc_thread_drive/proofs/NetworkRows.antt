@@ -20,8 +20,8 @@ use Rattle.sc_thread_ports.specs.exchange.Turns.{change}
 use Rattle.sc_thread_ports.specs.exchange.Ports.{seen, made, Stays, Looked, Appended, ChangedBy, IsTrue, MayNotChange}
 use Rattle.sc_thread_work.specs.declared.shell.shells.Shell.{Shell}
 use Rattle.sc_thread_workers.specs.Crews.{AllStill, crew_numbers}
-use Rattle.sc_thread_workers.specs.Ends.{IsGathered}
-use Rattle.sc_thread_workers.proofs.Lists.{one_of}
+use Rattle.sc_thread_workers.specs.RoundEnds.{IsGathered}
+use Rattle.sc_thread_workers.proofs.ChangedLists.{one_of}
 use Rattle.sc_thread_workers.proofs.Crews.{still_all_go, still_sound, still_rows}
 use Rattle.sc_thread_workers.proofs.Serving.{numbers_go}
 use Rattle.sc_thread_ledger.specs.declared.errors.PostError.TheVariants.{JournalFull, OutOfMemory}
@@ -40,7 +40,7 @@ use Rattle.sc_thread_ports.specs.declared.exchange.fates.Fate.TheVariants.{Lost,
 use Rattle.sc_thread_drive.specs.Changing.{Changes}
 use Rattle.sc_thread_ledger.specs.declared.errors.PostError.{PostError}
 use Rattle.sc_thread_ports.proofs.ExchangeProofs.Knowing.{looked_trans, stays_trans}
-use Rattle.sc_thread_ports.proofs.TurnProofs.Lists.{starts_trans}
+use Rattle.sc_thread_ports.proofs.TurnProofs.ListPrefixes.{starts_trans}
 
 -- a mail that is pending for an actor is pending
 pending_found : {M O : Type 0} (receiver : M → ℕ) (actors : ℕ) (rows : List (Row M O)) (who k number : ℕ) → who ≢ 0 → kth_pending receiver actors rows who k ≡ Some number → is_pending receiver actors rows number ≡ true

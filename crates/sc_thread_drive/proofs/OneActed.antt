@@ -13,8 +13,8 @@ use Rattle.sc_thread_ports.specs.exchange.Ports.{seen, made, given, Stays, Looke
 use Rattle.sc_thread_work.specs.declared.shell.shells.Shell.{Shell}
 use Rattle.sc_thread_work.specs.shell.Shells.{IsReplay, Replays}
 use Rattle.sc_thread_workers.specs.Crews.{AllOver, AllSound, Sound, Still, AllStill, IsAhead, crew_numbers, rows_made}
-use Rattle.sc_thread_workers.specs.Ends.{IsGathered}
-use Rattle.sc_thread_workers.proofs.Lists.{sum_set, get_any}
+use Rattle.sc_thread_workers.specs.RoundEnds.{IsGathered}
+use Rattle.sc_thread_workers.proofs.ChangedLists.{sum_set, get_any}
 use Rattle.sc_thread_workers.proofs.Crews.{still_rows, still_all_go}
 use Rattle.sc_thread_workers.proofs.Serving.{numbers_go}
 use Rattle.sc_thread_drive.specs.Numbers.{is_in, apart}
@@ -22,7 +22,7 @@ use Rattle.sc_thread_drive.specs.Companies.{IsCompany}
 use Rattle.sc_thread_drive.proofs.RowCounts.{count_rows, all_in, not_in, sum_map, sum_each, whole_prefix}
 use Rattle.std.proofs.lemmas.Bool.{or_parts}
 use Rattle.std.proofs.lemmas.List.Sums.{sum_by-cons}
-use Rattle.sc_thread_ports.proofs.TurnProofs.Lists.{starts_trans}
+use Rattle.sc_thread_ports.proofs.TurnProofs.ListPrefixes.{starts_trans}
 
 module _ {A M O : Type 0} {g : Ghosts A M O} {h : MailGhosts M} where
   -- the network's port has seen the network's rows, and those of the shells

@@ -10,7 +10,7 @@ use Rattle.sc_thread_ports.specs.exchange.Ports.{Looked}
 use Rattle.sc_thread_work.specs.declared.shell.shells.Shell.{Shell}
 use Rattle.sc_thread_workers.specs.Crews.{AllMet, AllOver, AreStill, HasMet, Met, Still}
 use Rattle.sc_thread_workers.proofs.Crews.{has_later, still_same}
-use Rattle.sc_thread_workers.proofs.Lists.{get_any}
+use Rattle.sc_thread_workers.proofs.ChangedLists.{get_any}
 use Rattle.sc_thread_drive.specs.Gatherings.{OthersMet}
 
 module _ {A M O : Type 0} {g : Ghosts A M O} {h : MailGhosts M} where

@@ -8,8 +8,8 @@ use Rattle.sc_thread_drive.specs.declared.company.Company.{Company}
 use Rattle.sc_thread_drive.specs.declared.company.Score.{Score}
 use Rattle.sc_thread_drive.specs.Goings.{Goes}
 use Rattle.sc_thread_drive.specs.Lowest.{FindsLowest}
-use Rattle.sc_thread_drive.specs.Working.{ActedByTurn, AreTogether, HasFound, HasRested, HasSettledOne, LineEnded, LineRefused}
-use Rattle.sc_thread_drive.proofs.Kept.{kept_then, on_same, on_then, together_on}
+use Rattle.sc_thread_drive.specs.CompanyRows.{ActedByTurn, AreTogether, HasFound, HasRested, HasSettledOne, LineEnded, LineRefused}
+use Rattle.sc_thread_drive.proofs.GatheredExchange.{kept_then, on_same, on_then, together_on}
 use Rattle.sc_thread_drive.proofs.SettleSteps.{fills_then, goes_rest, goes_then, settles_cut, settles_did, settles_full, settles_quiet}
 
 module _ {A M O : Type 0} {g : Ghosts A M O} {h : MailGhosts M} where

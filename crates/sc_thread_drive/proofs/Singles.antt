@@ -15,7 +15,7 @@ use Rattle.sc_thread_ledger.specs.declared.errors.PostError.TheVariants.{Journal
 use Rattle.sc_thread_drive.specs.Goings.{Goes, IsCalm}
 use Rattle.sc_thread_drive.specs.Numbers.{is_in}
 use Rattle.sc_thread_drive.specs.Storming.{IsStormLine}
-use Rattle.sc_thread_drive.specs.Working.{HasRested, LineEnded, LineRefused, RowEnded, RowEnds, RowRefused}
+use Rattle.sc_thread_drive.specs.CompanyRows.{HasRested, LineEnded, LineRefused, RowEnded, RowEnds, RowRefused}
 use Rattle.sc_thread_drive.proofs.Settled.{line_refused_then, line_rested, line_then}
 use Rattle.sc_thread_drive.proofs.SingleSteps.{fills_full, go_pushed, go_steps, goes_go, goes_made, goes_skipped}
 use Rattle.sc_thread_drive.proofs.StormSteps.{storms_full, storms_made, storms_skipped}

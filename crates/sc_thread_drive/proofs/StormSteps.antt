@@ -22,7 +22,7 @@ use Rattle.sc_thread_pool.specs.declared.storm.deeds.Deed.TheVariants.{Drop, Aga
 use Rattle.sc_thread_pool.specs.storm.Deeds.{deed_of, deed_line}
 use Rattle.sc_thread_pool.specs.storm.Laws.{AreWithin, MakesItsRow}
 use Rattle.sc_thread_work.specs.declared.shell.shells.Shell.{Shell}
-use Rattle.sc_thread_workers.proofs.Lists.{one_of}
+use Rattle.sc_thread_workers.proofs.ChangedLists.{one_of}
 use Rattle.sc_thread_drive.specs.declared.company.Score.{Score}
 use Rattle.sc_thread_ledger.specs.declared.errors.PostError.TheVariants.{JournalFull}
 use Rattle.sc_thread_drive.specs.Companies.{IsCompany}

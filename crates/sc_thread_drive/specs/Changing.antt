@@ -9,7 +9,7 @@ use Rattle.sc_thread_ports.specs.exchange.Turns.{may_change, change}
 use Rattle.sc_thread_ports.specs.exchange.Ports.{seen, Looked, ChangedBy, MayNotChange}
 use Rattle.sc_thread_work.specs.declared.shell.shells.Shell.{Shell}
 use Rattle.sc_thread_workers.specs.Crews.{AreStill}
-use Rattle.sc_thread_workers.specs.Ends.{IsGathered}
+use Rattle.sc_thread_workers.specs.RoundEnds.{IsGathered}
 use Rattle.sc_thread_ledger.specs.declared.errors.PostError.{PostError}
 use Rattle.sc_thread_ledger.specs.declared.errors.PostError.TheVariants.{JournalFull, OutOfMemory}
 

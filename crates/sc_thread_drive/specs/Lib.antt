@@ -7,6 +7,6 @@ pub mod Goings
 pub mod Changing
 pub mod Lowest
 pub mod Storming
-pub mod Ends
-pub mod Working
+pub mod ExchangeStarts
+pub mod CompanyRows
 pub mod Gatherings

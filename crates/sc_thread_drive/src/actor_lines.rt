@@ -4,7 +4,7 @@ ghost use Rattle.sc_actor.specs.System.{acts};
 ghost use Rattle.sc_actor.specs.Walk.{line_row};
 ghost use Rattle.sc_thread_work.specs.shell.Answers.{MayHappen};
 ghost use Rattle.sc_thread_drive.specs.Stepping.{IsPlace, IsNowhere, unless_crashed};
-ghost use Rattle.sc_thread_drive.specs.Working.{AreTogether, MayTakeEvent, RowEnds};
+ghost use Rattle.sc_thread_drive.specs.CompanyRows.{AreTogether, MayTakeEvent, RowEnds};
 
 use crate::acts::{act_by_turn, act_on_event};
 use crate::company::{Company, row_made};
@@ -50,7 +50,7 @@ pub(crate) fn happen<A: Actor, R: Wait>(
 
 /// Lets an order be given to an actor, unless it has crashed or has no shell. Returns whether a row
 /// was made.
-pub(crate) fn tell<A: Actor, R: Wait>(
+pub(crate) fn give_order<A: Actor, R: Wait>(
     rt: &R,
     alloc: Global,
     company: &mut Company<A>,

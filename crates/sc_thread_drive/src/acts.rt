@@ -3,9 +3,9 @@ ghost use Rattle.std.specs.Prelude.{◌<◌, length};
 ghost use Rattle.sc_thread_ports.specs.exchange.Ports.{SameExchange};
 ghost use Rattle.sc_thread_work.specs.shell.Answers.{MayHappen};
 ghost use Rattle.sc_thread_work.specs.shell.Shells.{port_of};
-ghost use Rattle.sc_thread_workers.specs.Ends.{IsFirst};
+ghost use Rattle.sc_thread_workers.specs.RoundEnds.{IsFirst};
 ghost use Rattle.sc_thread_drive.specs.Acts.{MetAndHappened, MetAndTook};
-ghost use Rattle.sc_thread_drive.specs.Working.{ActedByTurn, ActedOnEvent, AreTogether};
+ghost use Rattle.sc_thread_drive.specs.CompanyRows.{ActedByTurn, ActedOnEvent, AreTogether};
 
 use crate::company::Company;
 use crate::gathering::gather_after;

@@ -2,7 +2,7 @@
 ghost use Rattle.std.specs.Prelude.{[], ◌∷◌, OnOk};
 ghost use Rattle.sc_actor.specs.Walk.{Frees};
 ghost use Rattle.sc_thread_drive.specs.Rows.{OnFull};
-ghost use Rattle.sc_thread_drive.specs.Working.{AreTogether, LineEnded, LineRefused};
+ghost use Rattle.sc_thread_drive.specs.CompanyRows.{AreTogether, LineEnded, LineRefused};
 
 use crate::company::Company;
 use crate::ways::freed;

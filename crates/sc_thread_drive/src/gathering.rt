@@ -3,7 +3,7 @@
 ghost use Rattle.std.specs.Prelude.{◌<◌, length};
 ghost use Rattle.sc_thread_ports.specs.exchange.Ports.{IsTrue, IsAddressed};
 ghost use Rattle.sc_thread_workers.specs.Crews.{AllMet, AllOf, AreStill};
-ghost use Rattle.sc_thread_workers.specs.Ends.{IsFirst, IsGathered};
+ghost use Rattle.sc_thread_workers.specs.RoundEnds.{IsFirst, IsGathered};
 ghost use Rattle.sc_thread_drive.specs.Gatherings.{OthersMet};
 
 use sc_actor::Actor;

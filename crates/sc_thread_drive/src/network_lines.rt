@@ -3,7 +3,7 @@ ghost use Rattle.std.specs.Prelude.{◌≡◌};
 ghost use Rattle.sc_actor.specs.Walk.{line_row};
 ghost use Rattle.sc_thread_workers.specs.Crews.{IsCrew};
 ghost use Rattle.sc_thread_drive.specs.Changing.{Changes};
-ghost use Rattle.sc_thread_drive.specs.Working.{AreTogether, NetworkActed, RowEnds};
+ghost use Rattle.sc_thread_drive.specs.CompanyRows.{AreTogether, NetworkActed, RowEnds};
 
 use crate::actor_lines::place_of;
 use crate::company::Company;

@@ -3,10 +3,10 @@ ghost use Rattle.std.specs.Prelude.{◌≡◌, ◌≢◌, ℕ, [], List, OnOk};
 ghost use Rattle.sc_actor.specs.declared.actors.Seat.{Seat};
 ghost use Rattle.sc_actor.specs.declared.schedules.Played.TheVariants.{OutOfMemory};
 ghost use Rattle.sc_actor.specs.Walk.{tasks_of};
-ghost use Rattle.sc_texts.specs.chance.Words.{two_words};
+ghost use Rattle.sc_texts.specs.chance.KeyStream.{two_words};
 ghost use Rattle.sc_thread_drive.specs.Goings.{SparesGoers};
 ghost use Rattle.sc_thread_drive.specs.Rows.{OnFull};
-ghost use Rattle.sc_thread_drive.specs.Working.{AreTogether, HasOpened, IsDriven, IsStaffed, LineEnded, LineRefused, MayTakeEvent, StaysWhole};
+ghost use Rattle.sc_thread_drive.specs.CompanyRows.{AreTogether, HasOpened, IsDriven, IsStaffed, LineEnded, LineRefused, MayTakeEvent, StaysWhole};
 
 use crate::company::Company;
 use crate::free_lines::run_free;

@@ -1,11 +1,11 @@
 //! A `settle` line: many deliveries, each of the lowest-numbered pending mail of all actors.
 ghost use Rattle.std.specs.Prelude.{◌≡◌, ℕ, ◌<◌, [], ◌∷◌, IfOk, IsOk, OnOk, Some};
 ghost use Rattle.sc_actor.specs.Walk.{Settles};
-ghost use Rattle.sc_thread_workers.specs.Ends.{IsFirst};
+ghost use Rattle.sc_thread_workers.specs.RoundEnds.{IsFirst};
 ghost use Rattle.sc_thread_drive.specs.Lowest.{FindsLowest, IsFirstPlaced};
 ghost use Rattle.sc_thread_drive.specs.Rows.{OnFull};
 ghost use Rattle.sc_thread_drive.specs.Stepping.{IsNowhere};
-ghost use Rattle.sc_thread_drive.specs.Working.{AreTogether, HasFound, HasSettledOne, IsStaffed, LineEnded, LineRefused};
+ghost use Rattle.sc_thread_drive.specs.CompanyRows.{AreTogether, HasFound, HasSettledOne, IsStaffed, LineEnded, LineRefused};
 
 use crate::actor_lines::place_of;
 use crate::acts::act_by_turn;

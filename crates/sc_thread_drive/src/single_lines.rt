@@ -4,9 +4,9 @@ ghost use Rattle.sc_actor.specs.Walk.{Once, line_row};
 ghost use Rattle.sc_thread_drive.specs.Numbers.{is_in};
 ghost use Rattle.sc_thread_drive.specs.Goings.{IsCalm};
 ghost use Rattle.sc_thread_drive.specs.Rows.{OnFull};
-ghost use Rattle.sc_thread_drive.specs.Working.{AreTogether, LineEnded, LineRefused, MayTakeEvent, RowEnds};
+ghost use Rattle.sc_thread_drive.specs.CompanyRows.{AreTogether, LineEnded, LineRefused, MayTakeEvent, RowEnds};
 
-use crate::actor_lines::{deliver, go, happen, tell};
+use crate::actor_lines::{deliver, give_order, go, happen};
 use crate::company::{Company, Score};
 use crate::network_lines::{again, lose};
 use sc_actor::{Actor, Event, Gate, Line};
@@ -47,7 +47,7 @@ pub(crate) fn step_line<A: Actor, G: Gate, R: Wait>(
         Line::Again { mail } => again(rt, company, *mail),
         Line::Tick { who } => happen(rt, alloc, company, *who, Event::Tick),
         Line::Crash { who } => happen(rt, alloc, company, *who, Event::Crash),
-        Line::Told { who, order } => tell(rt, alloc, company, *who, order),
+        Line::Told { who, order } => give_order(rt, alloc, company, *who, order),
         _ => unreachable!(),
     }
 }

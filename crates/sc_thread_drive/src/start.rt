@@ -1,8 +1,8 @@
 //! The beginning of an exchange.
 ghost use Rattle.std.specs.Prelude.{◌≡◌, ◌<◌, ◌≤◌, ◌^◌, [], true, All, Contains, IfOk};
 ghost use Rattle.sc_thread_ports.specs.exchange.Ports.{given, joined_ports};
-ghost use Rattle.sc_thread_drive.specs.Working.{HasOpened};
-ghost use Rattle.sc_thread_drive.specs.Ends.{Seated};
+ghost use Rattle.sc_thread_drive.specs.CompanyRows.{HasOpened};
+ghost use Rattle.sc_thread_drive.specs.ExchangeStarts.{Seated};
 ghost use Rattle.sc_actor.specs.System.{are_apart};
 
 use crate::company::{Company, Score};

@@ -1,12 +1,12 @@
 //! A `storm` line: steps of one row each, which words draw.
 ghost use Rattle.std.specs.Prelude.{◌≡◌, [], ◌∷◌, option_and_then, IfOk, IfSome, IsOk, OnOk};
 ghost use Rattle.sc_actor.specs.Walk.{Storms, line_row, storm_steps};
-ghost use Rattle.sc_texts.specs.chance.Words.{two_words, after_step};
+ghost use Rattle.sc_texts.specs.chance.KeyStream.{two_words, after_step};
 ghost use Rattle.sc_thread_workers.specs.Crews.{crew_numbers};
 ghost use Rattle.sc_thread_drive.specs.Goings.{IsCalm};
 ghost use Rattle.sc_thread_drive.specs.Storming.{IsStormLine};
 ghost use Rattle.sc_thread_drive.specs.Rows.{OnFull};
-ghost use Rattle.sc_thread_drive.specs.Working.{AreTogether, HasRested, LineEnded, LineRefused, RowEnds};
+ghost use Rattle.sc_thread_drive.specs.CompanyRows.{AreTogether, HasRested, LineEnded, LineRefused, RowEnds};
 
 use crate::company::Company;
 use crate::gathering::gather_again;

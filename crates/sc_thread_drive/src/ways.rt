@@ -1,7 +1,7 @@
 //! The ways to work a `free` line.
 ghost use Rattle.std.specs.Prelude.{◌≤◌, Some, IfOk, OnOk};
 ghost use Rattle.sc_thread_workers.specs.Crews.{AreLater, IsCrew, crew_numbers};
-ghost use Rattle.sc_thread_workers.specs.Ends.{IsEnd, IfHeld};
+ghost use Rattle.sc_thread_workers.specs.RoundEnds.{IsEnd, IfHeld};
 
 use sc_actor::{Actor, Gate};
 use sc_base::OutOfMemory;

@@ -8,7 +8,7 @@ use Rattle.std.proofs.lemmas.Option.{slice_get_past}
 use Rattle.sc_actor.specs.Definitions.{mails, numbered}
 use Rattle.sc_thread_ledger.specs.Definitions.{homes_from, firsts_from}
 use Rattle.sc_actor.proofs.Lemmas.{get_at}
-use Rattle.sc_thread_ledger.proofs.Rows.{get_first, get_second}
+use Rattle.sc_thread_ledger.proofs.MailPlaces.{get_first, get_second}
 
 get_same : (c n i : ℕ) (xs : List ℕ) → i < c → get_or (replicate c n ++ xs) i 0 ≡ n
 get_same zero n i xs lt = absurd (omega arith)

@@ -1,6 +1,6 @@
 pub mod Kept
 pub mod Open
-pub mod Rows
+pub mod MailPlaces
 pub mod Spotting
 pub mod Entries
 pub mod Holding

@@ -5,5 +5,5 @@ pub mod Knowing
 pub mod Fetching
 pub mod Addressing
 pub mod Halting
-pub mod Seats
+pub mod SeatsAfterTurns
 pub mod Lemmas

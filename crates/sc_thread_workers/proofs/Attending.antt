@@ -25,12 +25,12 @@ use Rattle.sc_thread_work.specs.shell.Shells.{Takes, IsReplay, KeepsReplay, stat
 use Rattle.sc_thread_work.proofs.ShellProofs.Replaying.{numbered_more, replay_over}
 use Rattle.sc_thread_workers.specs.Crews.{GoesByDeliveries, AllGo, Took, MadeRows, Worked, AllWorked, AllOf, AllOver, IsOver, IsAhead, AllAhead, AllStill}
 use Rattle.sc_thread_workers.specs.Services.{IsService, Serves, AllServe}
-use Rattle.sc_thread_workers.specs.Ends.{IsGathered}
+use Rattle.sc_thread_workers.specs.RoundEnds.{IsGathered}
 use Rattle.sc_thread_workers.proofs.Serving.{count_later, list_same, net_same}
-use Rattle.sc_thread_workers.proofs.Working.{row_did, took_later, rows_go, went_of}
+use Rattle.sc_thread_workers.proofs.ShellTurns.{row_did, took_later, rows_go, went_of}
 use Rattle.sc_thread_ports.proofs.ExchangeProofs.Done.{rows_of-append}
 use Rattle.sc_thread_ports.proofs.ExchangeProofs.Knowing.{own_length}
-use Rattle.sc_thread_ports.proofs.TurnProofs.Lists.{starts_trans}
+use Rattle.sc_thread_ports.proofs.TurnProofs.ListPrefixes.{starts_trans}
 
 -- lists
 module _ {X : Type 0} where

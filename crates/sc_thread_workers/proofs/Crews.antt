@@ -17,9 +17,9 @@ use Rattle.sc_actor.specs.Mail.{is_delivery}
 use Rattle.sc_actor.specs.Replay.{value}
 use Rattle.sc_thread_work.specs.shell.Shells.{State, Takes, state, KeepsReplay, Replays, ReplaysOver}
 use Rattle.sc_thread_workers.specs.Crews.{Delivers, is_did, refusal_in, GoesByDeliveries, AllGo, Took, AllTook, Passed, Sound, AllSound, AllOf, AllMet, HasMet, IsAhead, IsOver, rows_made, Still, AllStill, AreStill, AreLater, HasRefusal, did, refusal}
-use Rattle.sc_thread_workers.proofs.Lists.{sum_with, sum_zero, sum_short}
+use Rattle.sc_thread_workers.proofs.ChangedLists.{sum_with, sum_zero, sum_short}
 use Rattle.sc_thread_ports.proofs.ExchangeProofs.Knowing.{looked_trans, stays_trans}
-use Rattle.sc_thread_ports.proofs.TurnProofs.Lists.{starts_trans}
+use Rattle.sc_thread_ports.proofs.TurnProofs.ListPrefixes.{starts_trans}
 
 module _ {M O : Type 0} where
   deliveries_append : (xs ys : List (Row M O)) → AllByRecursion (λ (r : Row M O). is_delivery r.event ≡ true) xs → AllByRecursion (λ (r : Row M O). is_delivery r.event ≡ true) ys → AllByRecursion (λ (r : Row M O). is_delivery r.event ≡ true) (xs ++ ys)

@@ -19,7 +19,7 @@ use Rattle.sc_thread_workers.specs.declared.answers.Way.TheVariants.{Runs, Queue
 use Rattle.sc_thread_workers.specs.declared.answers.Rounds.TheVariants.{Quiet, Limit, Full, OutOfMemory}
 use Rattle.sc_thread_workers.specs.Crews.{rows_made, AllSound, AreStill, HaveVouched}
 use Rattle.sc_thread_workers.specs.Services.{AllServe}
-use Rattle.sc_thread_workers.specs.Ends.{any_waits, IsFirst, HasRefusedShell, IsEnd, StepEnd, RefusedEnd, IsGathered, IfCalm, IfHeld, IfKept}
+use Rattle.sc_thread_workers.specs.RoundEnds.{any_waits, IsFirst, HasRefusedShell, IsEnd, StepEnd, RefusedEnd, IsGathered, IfCalm, IfHeld, IfKept}
 
 any_map : {A : Type 0} (f : A → Bool) (xs : List A) → list_any (λ (b : Bool). b) (map f xs) ≡ list_any f xs
 any_map f [] = refl

@@ -1,6 +1,6 @@
-pub mod Lists
+pub mod ChangedLists
 pub mod Crews
-pub mod Working
+pub mod ShellTurns
 pub mod Serving
 pub mod Stopping
 pub mod Attending
@@ -9,5 +9,5 @@ pub mod Ending
 pub mod Joining
 pub mod Phasing
 pub mod Sending
-pub mod Holding
+pub mod HeldShells
 pub mod Cutting

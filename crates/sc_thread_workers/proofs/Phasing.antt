@@ -12,7 +12,7 @@ use Rattle.sc_thread_workers.specs.declared.phases.Served.{Served}
 use Rattle.sc_thread_workers.specs.Crews.{Took, MadeRows, Worked, Sound, AllSound, HasRefusal, HasPlayed, rows_made}
 use Rattle.sc_thread_workers.specs.Phases.{IsServed, AllServed, shells_of, rows_of_all}
 use Rattle.sc_thread_workers.proofs.Crews.{refused_unsound}
-use Rattle.sc_thread_workers.proofs.Working.{rows_sound, worked_rows}
+use Rattle.sc_thread_workers.proofs.ShellTurns.{rows_sound, worked_rows}
 
 suc_times : (n k : ℕ) → suc n * k ≡ k + n * k
 suc_times n k = grind arith

@@ -23,11 +23,11 @@ use Rattle.sc_thread_work.specs.declared.shell.turns.Turn.TheVariants.{Full}
 use Rattle.sc_thread_work.specs.shell.Shells.{Takes, IsReplay, state, row_at}
 use Rattle.sc_thread_work.proofs.ShellProofs.Replaying.{numbered_more, replay_over}
 use Rattle.sc_thread_workers.specs.Crews.{GoesByDeliveries, AllGo, AllWorked, AllSound, AllStill, AllOf, AllOver, AllAhead, HasRefusal, Still, IsOver}
-use Rattle.sc_thread_workers.specs.Ends.{IsRefusedShell, HasRefusedShell}
+use Rattle.sc_thread_workers.specs.RoundEnds.{IsRefusedShell, HasRefusedShell}
 use Rattle.sc_thread_workers.proofs.Crews.{goes_trans}
-use Rattle.sc_thread_workers.proofs.Working.{worked_full}
+use Rattle.sc_thread_workers.proofs.ShellTurns.{worked_full}
 use Rattle.sc_thread_workers.proofs.Serving.{net_same}
-use Rattle.sc_thread_ports.proofs.TurnProofs.Lists.{starts_trans}
+use Rattle.sc_thread_ports.proofs.TurnProofs.ListPrefixes.{starts_trans}
 
 -- a longer journal counts no less
 counts_more : {M O : Type 0} (weighs : M → ℕ) (xs ys : List (Row M O)) → StartsWith xs ys → journal_bytes weighs ys ≤ journal_bytes weighs xs

@@ -19,11 +19,11 @@ use Rattle.sc_thread_work.specs.declared.shell.turns.Turn.{Turn}
 use Rattle.sc_thread_work.specs.declared.shell.turns.Turn.TheVariants.{Did, Empty, Full, Spent, OutOfMemory}
 use Rattle.sc_thread_work.specs.shell.Shells.{Takes, state}
 use Rattle.sc_thread_workers.specs.Crews.{GoesByDeliveries, AllGo, Took, AllTook, Sound, AllSound, AllOf, HasMet, AllMet, AllOver, IsAhead, AllAhead, Still, AllStill, crew_numbers, rows_made}
-use Rattle.sc_thread_workers.specs.Ends.{CanBegin}
-use Rattle.sc_thread_workers.proofs.Lists.{sum_same}
+use Rattle.sc_thread_workers.specs.RoundEnds.{CanBegin}
+use Rattle.sc_thread_workers.proofs.ChangedLists.{sum_same}
 use Rattle.sc_thread_ports.proofs.ExchangeProofs.Done.{rows_of-append}
 use Rattle.sc_thread_ports.proofs.ExchangeProofs.Knowing.{own_length}
-use Rattle.sc_thread_ports.proofs.TurnProofs.Lists.{starts_trans}
+use Rattle.sc_thread_ports.proofs.TurnProofs.ListPrefixes.{starts_trans}
 
 module _ {M O : Type 0} where
   count_append : (n : ℕ) (xs ys : List (Row M O)) → length (rows_of n (xs ++ ys)) ≡ length (rows_of n xs) + length (rows_of n ys)

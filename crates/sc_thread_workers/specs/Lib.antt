@@ -1,5 +1,5 @@
 pub mod Crews
-pub mod Ends
+pub mod RoundEnds
 pub mod Services
 pub mod Phases
 pub mod Runs

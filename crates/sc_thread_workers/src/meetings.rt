@@ -2,7 +2,7 @@
 ghost use Rattle.std.specs.Prelude.{◌≡◌, [], IfOk, IsOk};
 ghost use Rattle.sc_thread_ports.specs.exchange.Ports.{SameExchange};
 ghost use Rattle.sc_thread_work.specs.shell.Shells.{port_of};
-ghost use Rattle.sc_thread_workers.specs.Ends.{IsGathered, IsFirst};
+ghost use Rattle.sc_thread_workers.specs.RoundEnds.{IsGathered, IsFirst};
 ghost use Rattle.sc_thread_workers.specs.Crews.{AllOf, AllMet, AreStill, HaveMet, HaveVouched, HasMet, Met, VouchedFor, crew_numbers};
 
 use sc_actor::Actor;

@@ -2,7 +2,7 @@
 ghost use Rattle.std.specs.Prelude.{◌≡◌, ◌≢◌, ℕ, ◌<◌, ◌≤◌, ◌+◌, ◌*◌, [], length, All, None, Some, IfSome, vec_len};
 ghost use Rattle.std.specs.Thread.{IsSync};
 ghost use Rattle.sc_thread_work.specs.lend.Offices.{IsHelperOf, IsLenderOf, lent_by};
-ghost use Rattle.sc_thread_workers.specs.Ends.{IsEnd, StepEnd, RefusedEnd, IsGathered, CanBegin, IfCalm, IfHeld, IfKept};
+ghost use Rattle.sc_thread_workers.specs.RoundEnds.{IsEnd, StepEnd, RefusedEnd, IsGathered, CanBegin, IfCalm, IfHeld, IfKept};
 ghost use Rattle.sc_thread_workers.specs.Crews.{AllOf, AllSound, AreLater, AreStill, HasPlayed, IsCrew, crew_numbers, rows_made};
 ghost use Rattle.sc_thread_workers.specs.Holders.{PhasesHaveOneHolder};
 ghost use Rattle.sc_thread_workers.specs.Services.{AllServe};
@@ -324,7 +324,7 @@ fn hands_for(way: Way, workers: u32, limit: u32, many: usize) -> usize
 /// of them. Where fewer deliveries are left than there are shells, the shells take their turns one
 /// after the other. In each phase a shell whose actor is among the shells once has one holder.
 /// Where memory runs out, a phase may lose shells, and runs lose none.
-#[tactic(auto, using(crate::proofs::Holding::one_holder_each))]
+#[tactic(auto, using(crate::proofs::HeldShells::one_holder_each))]
 pub fn rounds_by<A: Actor, G: Gate, R: Threads + Wait + Sync>(
     rt: &R,
     alloc: Global,

@@ -1,5 +1,5 @@
 pub mod Clients
 pub mod History
 pub mod IdealStore
-pub mod Laws
+pub mod StoreLaws
 pub mod Definitions

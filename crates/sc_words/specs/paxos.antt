@@ -2,7 +2,7 @@ pub mod Accepting
 pub mod Acceptors
 pub mod Ballots
 pub mod Choice
-pub mod Laws
+pub mod BallotLaws
 pub mod Leaders
 pub mod Logs
 pub mod Preparing

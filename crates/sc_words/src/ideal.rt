@@ -1,7 +1,7 @@
 //! The specification of the store, of its histories and of its client tables: definitions and
 //! laws, no logic.
 ghost use Rattle.sc_words.specs.ideal.History.{Legal, example_entries};
-ghost use Rattle.sc_words.specs.ideal.Laws.{ServesApart, MapPartsJoin, JoinedByNumber, JoinedInAnyOrder};
+ghost use Rattle.sc_words.specs.ideal.StoreLaws.{ServesApart, MapPartsJoin, JoinedByNumber, JoinedInAnyOrder};
 
 use sc_base::{Dup, Op, OutOfMemory, Reply};
 use std::alloc::Global;

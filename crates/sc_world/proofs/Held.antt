@@ -4,7 +4,7 @@ use Rattle.sc_words.specs.declared.commands.orders.OrderLine.{OrderLine}
 use Rattle.sc_mail.specs.declared.bodies.Mail.{Mail}
 use Rattle.sc_actor.specs.declared.rows.Row.{Row}
 use Rattle.sc_actor.specs.Mail.{mails}
-use Rattle.sc_texts.specs.chance.Words.{two_words}
+use Rattle.sc_texts.specs.chance.KeyStream.{two_words}
 use Rattle.sc_world_replay.specs.declared.judging.Replayed.{Replayed}
 use Rattle.sc_world_replay.specs.Replays.{Leaves}
 use Rattle.sc_scenario.specs.declared.scenario.scenarios.Scenario.{Scenario}

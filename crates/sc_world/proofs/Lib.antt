@@ -1,6 +1,6 @@
 mod Prefixes
 mod Held
-mod Kept
+mod KeptMap
 mod Lines
 mod Names
 mod Numbers

@@ -1,4 +1,4 @@
 pub mod Plays
-pub mod Replays
+pub mod ReplayErrors
 pub mod Summary
 pub mod Worlds

@@ -22,7 +22,7 @@ use Rattle.sc_meaning.specs.sound.Summary.{asked_by}
 use Rattle.sc_meaning.specs.declared.entries.Cut.{Cut}
 use Rattle.sc_meaning.specs.entries.Worlds.{StoreWorld, named_group}
 use Rattle.sc_meaning.specs.sound.GroupsOf.{world_at}
-use Rattle.sc_texts.specs.chance.Words.{two_words}
+use Rattle.sc_texts.specs.chance.KeyStream.{two_words}
 
 -- the result that a mail reports of the order with a number, if it reports one
 abbrev pub reported_in_mail : ℕ → MailBody → Option OrderResult

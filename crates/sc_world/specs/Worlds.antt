@@ -9,7 +9,7 @@ use Rattle.sc_scenario.specs.declared.scenario.scenarios.Scenario.{Scenario}
 use Rattle.sc_meaning.specs.sound.Players.{system_of, schedule, Lawful, parties, Player, as_nodes}
 use Rattle.sc_meaning.specs.sound.Soundness.{IsSoundThroughout}
 use Rattle.sc_law_refusal.specs.refusal.Journals.{RefusesWithCause}
-use Rattle.sc_texts.specs.chance.Words.{two_words}
+use Rattle.sc_texts.specs.chance.KeyStream.{two_words}
 
 -- a scenario, and rows of it
 pub record Standing : Type 0 where

@@ -28,60 +28,60 @@ pub(crate) fn order_count(lines: &[SchedLine]) -> usize
 }
 
 // Keeps a result of an order, if it is the first of that order.
-fn keep(told: &mut [Option<OrderResult>], order: u32, word: OrderResult)
-    ensures len { length told.new ≡ length told.old }
-    ensures kept { (k : ℕ) → k < length told.old → get_or told.new k None ≡
-        either (get_or told.old k None) (if order == k + 1 then Some word else None) }
+fn keep(recorded: &mut [Option<OrderResult>], order: u32, word: OrderResult)
+    ensures len { length recorded.new ≡ length recorded.old }
+    ensures kept { (k : ℕ) → k < length recorded.old → get_or recorded.new k None ≡
+        either (get_or recorded.old k None) (if order == k + 1 then Some word else None) }
 {
     if order == 0 {
         return;
     }
     let place = (order - 1) as usize;
-    if place >= told.len() || told[place].is_some() {
+    if place >= recorded.len() || recorded[place].is_some() {
         return;
     }
-    told[place] = Some(word);
+    recorded[place] = Some(word);
 }
 
-fn note(told: &mut [Option<OrderResult>], body: &MailBody)
-    ensures len { length told.new ≡ length told.old }
-    ensures kept { (k : ℕ) → k < length told.old → get_or told.new k None ≡
-        either (get_or told.old k None) (reported_in_mail (k + 1) body.now) }
+fn note(recorded: &mut [Option<OrderResult>], body: &MailBody)
+    ensures len { length recorded.new ≡ length recorded.old }
+    ensures kept { (k : ℕ) → k < length recorded.old → get_or recorded.new k None ≡
+        either (get_or recorded.old k None) (reported_in_mail (k + 1) body.now) }
 {
     if let MailBody::Told { order, result } = body {
-        keep(told, *order, *result);
+        keep(recorded, *order, *result);
     }
 }
 
-fn note_all(told: &mut [Option<OrderResult>], sent: &[Mail])
-    ensures len { length told.new ≡ length told.old }
-    ensures kept { (k : ℕ) → k < length told.old → get_or told.new k None ≡
-        either (get_or told.old k None) (reported_of (k + 1) sent.now) }
+fn note_all(recorded: &mut [Option<OrderResult>], sent: &[Mail])
+    ensures len { length recorded.new ≡ length recorded.old }
+    ensures kept { (k : ℕ) → k < length recorded.old → get_or recorded.new k None ≡
+        either (get_or recorded.old k None) (reported_of (k + 1) sent.now) }
 {
     for mail in sent {
-        note(told, &mail.body);
+        note(recorded, &mail.body);
     }
 }
 
-fn note_rows(told: &mut [Option<OrderResult>], rows: &[Row<Mail, OrderLine>])
-    ensures len { length told.new ≡ length told.old }
-    ensures kept { (k : ℕ) → k < length told.old → get_or told.new k None ≡
-        either (get_or told.old k None) (reported_of (k + 1) (mails rows.now)) }
+fn note_rows(recorded: &mut [Option<OrderResult>], rows: &[Row<Mail, OrderLine>])
+    ensures len { length recorded.new ≡ length recorded.old }
+    ensures kept { (k : ℕ) → k < length recorded.old → get_or recorded.new k None ≡
+        either (get_or recorded.old k None) (reported_of (k + 1) (mails rows.now)) }
 {
     for row in rows {
-        note_all(told, row.sent.as_slice());
+        note_all(recorded, row.sent.as_slice());
     }
 }
 
 // Returns a list of `count` orders without a result.
 fn unreported(alloc: Global, count: usize) -> Result<Vec<Option<OrderResult>>, OutOfMemory>
-    ensures { IfOk result (λ told. told.items ≡ replicate count None) }
+    ensures { IfOk result (λ recorded. recorded.items ≡ replicate count None) }
 {
-    let mut told = Vec::new(alloc);
+    let mut recorded = Vec::new(alloc);
     for _number in 0..count {
-        told.push(None)?;
+        recorded.push(None)?;
     }
-    Ok(told)
+    Ok(recorded)
 }
 
 /// Returns the result of each order, from 1 to `count`: that of the first mail which reports one.
@@ -91,9 +91,9 @@ pub(crate) fn reported_orders(
     count: usize,
     rows: &[Row<Mail, OrderLine>],
 ) -> Result<Sequence<Option<OrderResult>>, OutOfMemory>
-    ensures { IfOk result (λ told. told ≡ reported_orders count (mails rows.now)) }
+    ensures { IfOk result (λ recorded. recorded ≡ reported_orders count (mails rows.now)) }
 {
-    let mut told = unreported(alloc, count)?;
-    note_rows(&mut told, rows);
-    Ok(Sequence::from_vec(told))
+    let mut recorded = unreported(alloc, count)?;
+    note_rows(&mut recorded, rows);
+    Ok(Sequence::from_vec(recorded))
 }

@@ -5,9 +5,9 @@ ghost use Rattle.sc_actor.specs.Mail.{mails};
 ghost use Rattle.sc_scenario.specs.scenario.Valid.{IsValid};
 ghost use Rattle.sc_world_replay.specs.Replays.{IsReplayed};
 ghost use Rattle.sc_meaning.specs.sound.Players.{system_of, schedule, as_nodes};
-ghost use Rattle.sc_world.specs.Replays.{IsReplayError};
+ghost use Rattle.sc_world.specs.ReplayErrors.{IsReplayError};
 ghost use Rattle.sc_world.specs.Worlds.{StandsFor};
-ghost use Rattle.sc_texts.specs.chance.Words.{two_words};
+ghost use Rattle.sc_texts.specs.chance.KeyStream.{two_words};
 
 use crate::counting::parties_of;
 use crate::laws::valid_scenarios_can_play;

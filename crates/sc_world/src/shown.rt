@@ -59,32 +59,32 @@ pub fn decided_log(
 /// coordinators change them. The ring covers: each position lies in the arc of exactly one range.
 /// The only error is out of memory.
 pub fn decided_ring(alloc: Global, world: &World<'_>) -> Result<Vec<Cut>, OutOfMemory>
-    ensures told { IfOk result (λ ring. ring.items ≡
+    ensures recorded { IfOk result (λ ring. ring.items ≡
         ring_at as_nodes world.now.scenario.groups world.now.rows) }
     ensures covers { IfOk result (λ ring. Covers ring.items) }
 {
-    let told = store_world(
+    let recorded = store_world(
         alloc,
         world.scenario.groups.as_slice(),
         world.rows.as_slice(),
     )?;
-    let (ring, _history) = told.into_parts();
+    let (ring, _history) = recorded.into_parts();
     Ok(ring)
 }
 
 /// Returns the history of a journal: row by row the requests decided there that took effect, in any
 /// group. The history is legal. The only error is out of memory.
 pub fn history(alloc: Global, world: &World<'_>) -> Result<Vec<Entry>, OutOfMemory>
-    ensures told { IfOk result (λ entries. entries.items ≡
+    ensures recorded { IfOk result (λ entries. entries.items ≡
         history_at as_nodes world.now.scenario.groups world.now.rows) }
     ensures legal { IfOk result (λ entries. Legal entries.items) }
 {
-    let told = store_world(
+    let recorded = store_world(
         alloc,
         world.scenario.groups.as_slice(),
         world.rows.as_slice(),
     )?;
-    let (_ring, history) = told.into_parts();
+    let (_ring, history) = recorded.into_parts();
     Ok(history)
 }
 
@@ -94,10 +94,10 @@ pub fn effective(alloc: Global, world: &World<'_>, group: Draw) -> Result<Option
     ensures { IfOk result (λ base. base ≡ option_map base_of
         (effective (world_at as_nodes world.now.scenario.groups world.now.rows) group)) }
 {
-    let told = store_world(
+    let recorded = store_world(
         alloc,
         world.scenario.groups.as_slice(),
         world.rows.as_slice(),
     )?;
-    told.effective(group)
+    recorded.effective(group)
 }

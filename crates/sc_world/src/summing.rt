@@ -8,7 +8,7 @@ ghost use Rattle.sc_meaning.specs.sound.Players.{system_of, schedule, parties, a
 ghost use Rattle.sc_meaning.specs.sound.GroupsOf.{entries_at, world_at};
 ghost use Rattle.sc_meaning.specs.sound.Soundness.{IsSoundThroughout};
 ghost use Rattle.sc_world.specs.Summary.{cut_route, place_in, placed, ring_lines, summary_of};
-ghost use Rattle.sc_texts.specs.chance.Words.{two_words};
+ghost use Rattle.sc_texts.specs.chance.KeyStream.{two_words};
 
 use crate::counting::{all_asked, deliveries, mail_count};
 use crate::orders::{order_count, reported_orders};
@@ -109,7 +109,7 @@ pub fn sum_up(
     requires sound { IsSoundThroughout as_nodes scenario.now journal.now }
     requires few_rows { length journal.now < 2 ^ 31 }
     requires few_mails { length (mails journal.now) < 2 ^ 31 }
-    ensures { IfOk result (λ told. told ≡ summary_of scenario.now journal.now) }
+    ensures { IfOk result (λ recorded. recorded ≡ summary_of scenario.now journal.now) }
 {
     let rows = journal.as_slice();
     Ok(Summary {
@@ -134,7 +134,7 @@ pub fn summary(
     world: &World<'_>,
 ) -> Result<Summary, OutOfMemory>
     requires { world.now.scenario ≡ scenario.now }
-    ensures { IfOk result (λ told. told ≡ summary_of scenario.now world.now.rows) }
+    ensures { IfOk result (λ recorded. recorded ≡ summary_of scenario.now world.now.rows) }
 {
     sum_up(
         alloc,

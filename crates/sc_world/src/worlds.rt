@@ -3,7 +3,7 @@ ghost use Rattle.std.specs.Prelude.{◌≡◌};
 ghost use Rattle.sc_meaning.specs.sound.Players.{parties, as_nodes, Lawful};
 ghost use Rattle.sc_meaning.specs.sound.Soundness.{IsSoundThroughout};
 ghost use Rattle.sc_law_refusal.specs.refusal.Journals.{RefusesWithCause};
-ghost use Rattle.sc_texts.specs.chance.Words.{two_words};
+ghost use Rattle.sc_texts.specs.chance.KeyStream.{two_words};
 
 use crate::party::Party;
 use sc_actor::Journal;

@@ -1,2 +1,2 @@
 mod Circle
-mod Pairs
+mod EntryNumbers

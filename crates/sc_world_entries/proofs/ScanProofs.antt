@@ -1,6 +1,6 @@
-pub mod Circle
+pub mod ArcDistances
 pub mod Paged
-pub mod Pairs
+pub mod PairsInArcs
 pub mod Rising
-pub mod Telling
+pub mod ScanMeaning
 pub mod Walks

@@ -3,4 +3,4 @@ pub mod Changes
 pub mod Executing
 pub mod KeptTransactions
 pub mod Naming
-pub mod Telling
+pub mod FirstEntries

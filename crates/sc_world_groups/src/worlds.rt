@@ -7,7 +7,7 @@ ghost use Rattle.sc_group_table.specs.machine.Machine.{applied};
 ghost use Rattle.sc_group_table.specs.machine.Logs.{entry_of};
 ghost use Rattle.sc_meaning.specs.entries.Effective.{is_commit, effective, effective_by, after_outcome};
 ghost use Rattle.sc_meaning.specs.entries.Rings.{HaveArcs, ring_after};
-ghost use Rattle.sc_meaning.specs.entries.Worlds.{CoverThroughout, first_world, named_group, told, with_result, world_of};
+ghost use Rattle.sc_meaning.specs.entries.Worlds.{CoverThroughout, first_world, named_group, recorded, with_result, world_of};
 ghost use Rattle.sc_world_groups.specs.Effects.{effect_in};
 ghost use Rattle.sc_world_groups.specs.Places.{IsFirstNamed};
 ghost use Rattle.sc_world_groups.specs.declared.errors.EntryError.TheVariants.{NoArc};
@@ -118,8 +118,8 @@ impl StoreWorld {
     /// cut that is no arc; then the world may only be dropped. It never fails where the entry's
     /// group was not created.
     pub fn add_entry(&mut self, entry: &LogEntry) -> Result<(), EntryError>
-        ensures told { MatchResult result (λ _. self.new ≡ told self.old entry.now)
-            (λ error. error ≡ NoArc → HaveArcs (told self.old entry.now).ring → ⊥) }
+        ensures recorded { MatchResult result (λ _. self.new ≡ recorded self.old entry.now)
+            (λ error. error ≡ NoArc → HaveArcs (recorded self.old entry.now).ring → ⊥) }
         ensures none { named_group entry.now.group self.old.groups ≡ None → IsOk result }
     {
         match self.take(entry) {
@@ -132,10 +132,10 @@ impl StoreWorld {
     /// out of memory, and where the entry would leave a cut that is no arc; then the world may only
     /// be dropped. It never fails where the entry's group was not created.
     pub fn take(&mut self, entry: &LogEntry) -> Result<Option<Effect>, EntryError>
-        ensures told { MatchResult result
-            (λ effect. (self.new ≡ told self.old entry.now) ×
+        ensures recorded { MatchResult result
+            (λ effect. (self.new ≡ recorded self.old entry.now) ×
             (effect ≡ effect_in self.old entry.now))
-            (λ error. error ≡ NoArc → HaveArcs (told self.old entry.now).ring → ⊥) }
+            (λ error. error ≡ NoArc → HaveArcs (recorded self.old entry.now).ring → ⊥) }
         ensures none { named_group entry.now.group self.old.groups ≡ None → IsOk result }
     {
         match place_of(self.groups.as_slice(), entry.group) {

@@ -69,38 +69,38 @@ pub grown : (h : List (Step Command)) (base : Base) (kept : ℕ → List Accepta
     → log2 ≡ log ++ command ∷ [] → members2 ≡ members ++ behind.core.members ∷ [] → state2 ≡ (applied state command).0
     → ((group : Group) → behind ≡ state_after group (take (length log + 1 - as_nodes.slots) log) → behind2 ≡ state_after group (take (length log2 + 1 - as_nodes.slots) log2))
     → MatchesAccepted h base kept log2 members2 state2 behind2
-grown h base kept log members state behind command log2 members2 state2 behind2 told next log_is members_are state_is behind_is =
+grown h base kept log members state behind command log2 members2 state2 behind2 recorded next log_is members_are state_is behind_is =
     let rule : Rule Command = rule_of as_nodes base in
     let longer : length log2 ≡ length log + 1 = ap length log_is ∙ length_push log command in
-    let here : behind.core.members ≡ members_of rule log (length log + 1) = ap (λ (group : Group). group.core.members) told.behind_is in
+    let here : behind.core.members ≡ members_of rule log (length log + 1) = ap (λ (group : Group). group.core.members) recorded.behind_is in
     let so_far : (k : ℕ) → k ≤ length log → members_of rule log2 (k + 1) ≡ members_of rule log (k + 1) =
     λ k le. ap (λ (xs : List Command). members_of rule xs (k + 1)) log_is ∙ members_so_far rule log (command ∷ []) k le in
     record {
-      found = told.found;
-      accepted = told.accepted;
-      indexed = told.indexed;
-      chosen = subst (IsChosenSoFar rule h) (sym log_is) (chosen_more rule h log command told.chosen next);
-      as_many = ap length members_are ∙ length_push members behind.core.members ∙ ap (λ (n : ℕ). n + 1) told.as_many ∙ sym longer;
+      found = recorded.found;
+      accepted = recorded.accepted;
+      indexed = recorded.indexed;
+      chosen = subst (IsChosenSoFar rule h) (sym log_is) (chosen_more rule h log command recorded.chosen next);
+      as_many = ap length members_are ∙ length_push members behind.core.members ∙ ap (λ (n : ℕ). n + 1) recorded.as_many ∙ sym longer;
       members_are = λ k lt. ap (λ (ms : List (List ℕ)). slice_get ms k) members_are ∙ elim (last_or_before k (length log) (omega (arith, lt, longer))) [
-        | inl before ↦ pushed_before members behind.core.members k (omega (arith, before, told.as_many)) ∙ told.members_are k before ∙ ap Some (sym (so_far k (omega (arith, before))))
+        | inl before ↦ pushed_before members behind.core.members k (omega (arith, before, recorded.as_many)) ∙ recorded.members_are k before ∙ ap Some (sym (so_far k (omega (arith, before))))
         | inr last ↦
-            pushed_last members behind.core.members k (omega (arith, last, told.as_many)) ∙ ap Some here
+            pushed_last members behind.core.members k (omega (arith, last, recorded.as_many)) ∙ ap Some here
             ∙ ap (λ (n : ℕ). Some (members_of rule log (n + 1))) (sym last) ∙ ap Some (sym (so_far k (omega (arith, last))))
       ];
-      state_is = state_is ∙ ap (λ (group : Group). (applied group command).0) told.state_is ∙ sym (state_push (group_of base) log command) ∙ ap (state_after (group_of base)) (sym log_is);
-      behind_is = behind_is (group_of base) told.behind_is;
+      state_is = state_is ∙ ap (λ (group : Group). (applied group command).0) recorded.state_is ∙ sym (state_push (group_of base) log command) ∙ ap (state_after (group_of base)) (sym log_is);
+      behind_is = behind_is (group_of base) recorded.behind_is;
     }
 
 -- what is chosen next, by the members so far behind and the acceptances of the next slot
 pub next_is : (h : List (Step Command)) (base : Base) (kept : ℕ → List Acceptance) (log : List Command) (members : List (List ℕ)) (state behind : Group) (slot : ℕ) (at : List Acceptance) (members2 : List ℕ)
     → MatchesAccepted h base kept log members state behind → slot ≡ length log + 1 → at ≡ kept slot → members2 ≡ behind.core.members
     → chosen_at (members_of (rule_of as_nodes base) log (length log + 1)) h (length log + 1) ≡ chosen_at members2 (steps_of at) slot
-next_is h base kept log members state behind slot at members2 told slot_is at_is members_are =
-    let here : members_of (rule_of as_nodes base) log (length log + 1) ≡ members2 = ap (λ (group : Group). group.core.members) (sym told.behind_is) ∙ sym members_are in
+next_is h base kept log members state behind slot at members2 recorded slot_is at_is members_are =
+    let here : members_of (rule_of as_nodes base) log (length log + 1) ≡ members2 = ap (λ (group : Group). group.core.members) (sym recorded.behind_is) ∙ sym members_are in
     ap (λ (ms : List ℕ). chosen_at ms h (length log + 1)) here ∙ ap (chosen_at members2 h) (sym slot_is)
-    ∙ ap (λ (steps : List (Step Command)). chosen_at members2 steps slot) (sym told.accepted)
-    ∙ chosen_here members2 slot told.found
-    ∙ ap (λ (xs : List Acceptance). chosen_at members2 (steps_of xs) slot) (sym (told.indexed slot) ∙ sym at_is)
+    ∙ ap (λ (steps : List (Step Command)). chosen_at members2 steps slot) (sym recorded.accepted)
+    ∙ chosen_here members2 slot recorded.found
+    ∙ ap (λ (xs : List Acceptance). chosen_at members2 (steps_of xs) slot) (sym (recorded.indexed slot) ∙ sym at_is)
 
 -- what is chosen at a slot, by the acceptances of it
 pub slot_is : (members : List ℕ) (kept : ℕ → List Acceptance) (slot : ℕ) (found at : List Acceptance) → IsIndexed kept found → at ≡ kept slot
@@ -113,18 +113,18 @@ slot_is members kept slot found at indexed at_is =
 -- it leaves the log as it is, if each entry is still chosen
 pub one_more : (h : List (Step Command)) (base : Base) (kept kept2 : ℕ → List Acceptance) (log : List Command) (members : List (List ℕ)) (state behind : Group) (acceptance : Acceptance)
     → ((found : List Acceptance) → IsIndexed kept found → IsIndexed kept2 (found ++ acceptance ∷ []))
-    → (told : MatchesAccepted h base kept log members state behind)
+    → (recorded : MatchesAccepted h base kept log members state behind)
     → ((k : ℕ) (v : Command) → acceptance.slot ≡ k + 1 → slice_get log k ≡ Some v → chosen_at (members_of (rule_of as_nodes base) log (k + 1)) (step_of acceptance ∷ h) (k + 1) ≡ Some v)
     → MatchesAccepted (step_of acceptance ∷ h) base kept2 log members state behind
-one_more h base kept kept2 log members state behind acceptance index told still = record {
-  found = told.found ++ acceptance ∷ [];
-  accepted = steps_of-last told.found acceptance ∙ ap (λ (steps : List (Step Command)). step_of acceptance ∷ steps) told.accepted;
-  indexed = index told.found told.indexed;
-  chosen = chosen_still (rule_of as_nodes base) acceptance.node acceptance.ballot acceptance.slot acceptance.command h log still told.chosen;
-  as_many = told.as_many;
-  members_are = told.members_are;
-  state_is = told.state_is;
-  behind_is = told.behind_is;
+one_more h base kept kept2 log members state behind acceptance index recorded still = record {
+  found = recorded.found ++ acceptance ∷ [];
+  accepted = steps_of-last recorded.found acceptance ∙ ap (λ (steps : List (Step Command)). step_of acceptance ∷ steps) recorded.accepted;
+  indexed = index recorded.found recorded.indexed;
+  chosen = chosen_still (rule_of as_nodes base) acceptance.node acceptance.ballot acceptance.slot acceptance.command h log still recorded.chosen;
+  as_many = recorded.as_many;
+  members_are = recorded.members_are;
+  state_is = recorded.state_is;
+  behind_is = recorded.behind_is;
 }
 
 -- ---- what is kept at first
@@ -145,16 +145,16 @@ matches_none h base kept found state behind accepted indexed state_is behind_is 
 -- the entry at its slot is still chosen, where what is kept says so
 pub still_chosen : (h : List (Step Command)) (base : Base) (kept kept2 : ℕ → List Acceptance) (log : List Command) (members : List (List ℕ)) (state behind : Group) (acceptance : Acceptance)
     → ((found : List Acceptance) → IsIndexed kept found → IsIndexed kept2 (found ++ acceptance ∷ []))
-    → (told : MatchesAccepted h base kept log members state behind)
+    → (recorded : MatchesAccepted h base kept log members state behind)
     → ((found : List Acceptance) (ms : List ℕ) → IsIndexed kept2 found → slice_get members (acceptance.slot - 1) ≡ Some ms → chosen_at ms (steps_of found) acceptance.slot ≡ slice_get log (acceptance.slot - 1))
     → (k : ℕ) (v : Command) → acceptance.slot ≡ k + 1 → slice_get log k ≡ Some v → chosen_at (members_of (rule_of as_nodes base) log (k + 1)) (step_of acceptance ∷ h) (k + 1) ≡ Some v
-still_chosen h base kept kept2 log members state behind acceptance index told check k v at is =
+still_chosen h base kept kept2 log members state behind acceptance index recorded check k v at is =
     let place : acceptance.slot - 1 ≡ k = omega (arith, at) in
     let ms : List ℕ = members_of (rule_of as_nodes base) log (k + 1) in
-    let found : List Acceptance = told.found ++ acceptance ∷ [] in
-    let steps : steps_of found ≡ step_of acceptance ∷ h = steps_of-last told.found acceptance ∙ ap (λ (s : List (Step Command)). step_of acceptance ∷ s) told.accepted in
+    let found : List Acceptance = recorded.found ++ acceptance ∷ [] in
+    let steps : steps_of found ≡ step_of acceptance ∷ h = steps_of-last recorded.found acceptance ∙ ap (λ (s : List (Step Command)). step_of acceptance ∷ s) recorded.accepted in
     ap (λ (s : List (Step Command)). chosen_at ms s (k + 1)) (sym steps) ∙ ap (chosen_at ms (steps_of found)) (sym at)
-    ∙ check found ms (index told.found told.indexed) (ap (slice_get members) place ∙ told.members_are k (slice_get_within log k v is))
+    ∙ check found ms (index recorded.found recorded.indexed) (ap (slice_get members) place ∙ recorded.members_are k (slice_get_within log k v is))
     ∙ ap (slice_get log) place ∙ is
 
 -- no entry is recorded yet

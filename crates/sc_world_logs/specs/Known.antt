@@ -65,6 +65,6 @@ Adds accepted rows after = (group : Draw) → accepts group after ≡ steps_by g
 
 -- what is kept of a group after one row more is what the rows show of it, and its log creates the same children as before
 pub record StaysKnown (rows after : List (Row Mail OrderLine)) (known later : Known) : Type 0 where
-  pub is : IsKnown after later
+  pub fact : IsKnown after later
   pub base_is : later.base ≡ known.base
   pub children_are : children_of (group_of later.base) later.log.items ≡ children_of (group_of known.base) known.log.items

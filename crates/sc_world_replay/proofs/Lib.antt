@@ -1,5 +1,5 @@
 pub mod Opens
-pub mod Kept
+pub mod KeptStage
 pub mod Seats
 pub mod ActionLemmas
 pub mod Steps

@@ -4,7 +4,7 @@ ghost use Rattle.sc_actor.specs.Mail.{mails};
 ghost use Rattle.sc_actor.specs.declared.rows.Row.{Row};
 ghost use Rattle.sc_actor.specs.System.{numbers_of};
 ghost use Rattle.sc_actor.specs.Walk.{Once, Storms, storm_steps, tasks_of};
-ghost use Rattle.sc_texts.specs.chance.Words.{two_words};
+ghost use Rattle.sc_texts.specs.chance.KeyStream.{two_words};
 ghost use Rattle.sc_world_replay.specs.Checks.{IsTaking, DidWithRow, Misses, IsChecked};
 ghost use Rattle.sc_world_replay.specs.Actions.{can_act, chosen_action, line_action, storm_action};
 ghost use Rattle.sc_world_replay.specs.Moves.{rules_of, many};

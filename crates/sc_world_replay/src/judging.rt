@@ -3,7 +3,7 @@ ghost use Rattle.std.specs.Prelude.{◌≡◌, ◌<◌, ◌^◌, ◌↔◌, [], 
 ghost use Rattle.sc_actor.specs.Mail.{mails, pending};
 ghost use Rattle.sc_actor.specs.System.{are_apart, system, numbers_of, kth};
 ghost use Rattle.sc_actor.specs.Walk.{IsLawful};
-ghost use Rattle.sc_texts.specs.chance.Words.{two_words};
+ghost use Rattle.sc_texts.specs.chance.KeyStream.{two_words};
 ghost use Rattle.sc_world_replay.specs.Replays.{IsReplayed, says_lawful};
 ghost use Rattle.sc_world_replay.specs.Stages.{IsUpToDate};
 

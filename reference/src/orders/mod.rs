@@ -2,13 +2,13 @@
 //! random runs.
 
 mod causes;
+mod happened;
 mod marks;
 mod patience;
 mod queue;
 mod results;
 mod rows;
 mod run;
-mod told;
 
 pub use causes::*;
 pub use marks::*;

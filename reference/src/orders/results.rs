@@ -1,9 +1,9 @@
 //! What is reported of one order in all, and which nodes have put it back.
 
 use super::causes::words;
+use super::happened::{put_back, reported};
 use super::marks::Marks;
 use super::rows::Step;
-use super::told::{put_back, reported};
 use crate::values::*;
 use std::collections::{BTreeMap, BTreeSet};
 

@@ -1,10 +1,10 @@
 //! The rows of a run, one after another, with the node before and after each.
 
+use super::happened;
 use super::marks::Marks;
 use super::patience::Patience;
 use super::queue::Queue;
 use super::results::Results;
-use super::told;
 use crate::decided::Decided;
 use crate::mail::*;
 use crate::node::Node;
@@ -83,7 +83,7 @@ impl<'a> Checker<'a> {
         };
         if let (Some(before), Some(after)) = (&before, after) {
             let step = Step { row, delivered, before, after };
-            told::look(&step, &self.asked, &self.decided, &mut self.marks);
+            happened::look(&step, &self.asked, &self.decided, &mut self.marks);
             self.results.look(&step, &mut self.marks);
             self.queue.note(&step, &self.decided);
             self.patience.look(&step, &self.decided, &mut self.marks);

@@ -28,7 +28,7 @@ use Rattle.sc_meaning.specs.declared.entries.LogEntry.{LogEntry}
 use Rattle.sc_meaning.specs.declared.entries.Transaction.{Transaction}
 use Rattle.sc_meaning.specs.entries.Decisions.{decision}
 use Rattle.sc_meaning.specs.entries.Effective.{after_outcome, effective, effective_by, is_commit, is_open}
-use Rattle.sc_meaning.specs.entries.Worlds.{StoreWorld, after_command, named_group, told, with_group, with_result}
+use Rattle.sc_meaning.specs.entries.Worlds.{StoreWorld, after_command, named_group, recorded, with_group, with_result}
 use Rattle.sc_meaning.proofs.EntriesProofs.Names.{draw_cases, found_name, other_name}
 use Rattle.sc_group_table.specs.machine.Finishes.{finished, watch_ended}
 use Rattle.sc_group_table.specs.machine.Group.{Group}
@@ -197,7 +197,7 @@ module _ (world : StoreWorld) (name : Draw) (client seq : ℕ) (op : Op) where
 
 -- after a call that was done, pairs are counted
 pub follows_done : (world : StoreWorld) (entry : LogEntry) (client seq : ℕ) (op : Op) (reply : Reply) → entry.command ≡ Call client seq op → Some (Done reply) ≡ effect_in world entry
-    → ring_groups_in (told world entry) ≡ map (recounted entry.group op reply.old) (ring_groups_in world)
+    → ring_groups_in (recorded world entry) ≡ map (recounted entry.group op reply.old) (ring_groups_in world)
 follows_done world entry client seq op reply call is =
     let found : Option Group = named_group entry.group world.groups in
     ap (λ command. ring_groups_in (after_command world found command)) call
@@ -205,7 +205,7 @@ follows_done world entry client seq op reply call is =
 
 -- after another, nothing changes of what is said of the ring
 pub follows_not : (world : StoreWorld) (entry : LogEntry) (client seq : ℕ) (op : Op) → entry.command ≡ Call client seq op → ((reply : Reply) → effect_in world entry ≡ Some (Done reply) → ⊥)
-    → ring_groups_in (told world entry) ≡ ring_groups_in world
+    → ring_groups_in (recorded world entry) ≡ ring_groups_in world
 follows_not world entry client seq op call nothing =
     let found : Option Group = named_group entry.group world.groups in
     ap (λ command. ring_groups_in (after_command world found command)) call

@@ -9,7 +9,7 @@ use Rattle.sc_explain.specs.facts.Facts.{entry_line}
 use Rattle.sc_explain.specs.declared.facts.facts.RingGroup.{RingGroup}
 use Rattle.sc_meaning.specs.declared.entries.LogEntry.{LogEntry}
 use Rattle.sc_meaning.specs.entries.Rings.{HaveArcs}
-use Rattle.sc_meaning.specs.entries.Worlds.{StoreWorld, told, world_after}
+use Rattle.sc_meaning.specs.entries.Worlds.{StoreWorld, recorded, world_after}
 use Rattle.sc_meaning.proofs.EntriesProofs.Pushes.{world_append}
 use Rattle.sc_world_groups.specs.Effects.{effect_in}
 use Rattle.sc_explain.specs.rows.Explained.{entry_lines, ring_groups_in, row_lines}
@@ -19,18 +19,18 @@ use Rattle.sc_explain.specs.rows.Said.{HasTaken, HaveArcsThroughout, lines_by}
 entry_lines-push : (row : ℕ) (world : StoreWorld) (entries : List LogEntry) (entry : LogEntry)
     → entry_lines row world (entries ++ entry ∷ []) ≡ entry_lines row world entries ++ entry_line row entry (effect_in (world_after world entries) entry) ∷ []
 entry_lines-push row world [] entry = refl
-entry_lines-push row world (e ∷ entries) entry = ap (λ ls. entry_line row e (effect_in world e) ∷ ls) (entry_lines-push row (told world e) entries entry)
+entry_lines-push row world (e ∷ entries) entry = ap (λ ls. entry_line row e (effect_in world e) ∷ ls) (entry_lines-push row (recorded world e) entries entry)
 
 -- one entry more
 pub taken_next : (row : ℕ) (before : StoreWorld) (entries : List LogEntry) (i : ℕ) (entry : LogEntry) (groups : List RingGroup) (after later : StoreWorld) (lines more : List (List ℕ)) (kept followed : List RingGroup)
-    → i < length entries → entry ≡ get_or entries i entry → HasTaken row before (take i entries) groups after lines kept → later ≡ told after entry
+    → i < length entries → entry ≡ get_or entries i entry → HasTaken row before (take i entries) groups after lines kept → later ≡ recorded after entry
     → more ≡ lines ++ entry_line row entry (effect_in after entry) ∷ [] → (kept ≡ ring_groups_in after → followed ≡ ring_groups_in later)
     → HasTaken row before (take (i + 1) entries) groups later more followed
 taken_next row before entries i entry groups after later lines more kept followed lt is taken told_is more_is follows =
     let one : i + 1 ≡ suc i = omega arith in
     let prefix : take (i + 1) entries ≡ take i entries ++ entry ∷ [] = ap (λ (n : ℕ). take n entries) one ∙ take-suc entries i entry lt ∙ ap (λ (e : LogEntry). take i entries ++ e ∷ []) (sym is) in
     record {
-      world = told_is ∙ ap (λ w. told w entry) taken.world ∙ sym (ap (world_after before) prefix ∙ world_append before (take i entries) (entry ∷ []));
+      world = told_is ∙ ap (λ w. recorded w entry) taken.world ∙ sym (ap (world_after before) prefix ∙ world_append before (take i entries) (entry ∷ []));
       lines_are =
           more_is ∙ ap (λ ls. ls ++ entry_line row entry (effect_in after entry) ∷ []) taken.lines_are
           ∙ ap (λ w. entry_lines row before (take i entries) ++ entry_line row entry (effect_in w entry) ∷ []) taken.world
@@ -40,11 +40,11 @@ taken_next row before entries i entry groups after later lines more kept followe
 
 -- an entry that leaves no arc is none of entries that leave arcs throughout
 pub no_error : (row : ℕ) (before : StoreWorld) (entries : List LogEntry) (i : ℕ) (entry : LogEntry) (groups : List RingGroup) (after : StoreWorld) (lines : List (List ℕ)) (kept : List RingGroup)
-    → i < length entries → entry ≡ get_or entries i entry → HasTaken row before (take i entries) groups after lines kept → HaveArcsThroughout before entries → HaveArcs (told after entry).ring
+    → i < length entries → entry ≡ get_or entries i entry → HasTaken row before (take i entries) groups after lines kept → HaveArcsThroughout before entries → HaveArcs (recorded after entry).ring
 no_error row before entries i entry groups after lines kept lt is taken arcs =
     let prefix : take (suc i) entries ≡ take i entries ++ entry ∷ [] = take-suc entries i entry lt ∙ ap (λ (e : LogEntry). take i entries ++ e ∷ []) (sym is) in
-    let made : world_after before (take (suc i) entries) ≡ told after entry =
-    ap (world_after before) prefix ∙ world_append before (take i entries) (entry ∷ []) ∙ ap (λ w. told w entry) (sym taken.world) in
+    let made : world_after before (take (suc i) entries) ≡ recorded after entry =
+    ap (world_after before) prefix ∙ world_append before (take i entries) (entry ∷ []) ∙ ap (λ w. recorded w entry) (sym taken.world) in
     subst (λ (w : StoreWorld). HaveArcs w.ring) made (arcs (take (suc i) entries) (drop (suc i) entries) (sym (take-append-drop (suc i) entries)))
 
 -- ---- the rows that decide

@@ -12,7 +12,7 @@ use Rattle.sc_explain.specs.declared.facts.facts.RingGroup.{RingGroup}
 use Rattle.sc_meaning.specs.declared.entries.Cut.{Cut}
 use Rattle.sc_meaning.specs.declared.entries.LogEntry.{LogEntry}
 use Rattle.sc_meaning.specs.entries.Effective.{effective}
-use Rattle.sc_meaning.specs.entries.Worlds.{StoreWorld, first_world, told}
+use Rattle.sc_meaning.specs.entries.Worlds.{StoreWorld, first_world, recorded}
 use Rattle.sc_group_table.specs.machine.Group.{Group}
 use Rattle.sc_mail.specs.declared.bodies.Mail.{Mail}
 use Rattle.sc_meaning.specs.sound.GroupsOf.{entries_by_row, world_at}
@@ -48,7 +48,7 @@ birth_of_group row group = birth_line row group.core.id group.core.members
 -- the lines of entries, each with its effect on its group as the group was before the entry
 abbrev pub entry_lines : ℕ → StoreWorld → List LogEntry → List (List ℕ)
 entry_lines row world [] = []
-entry_lines row world (entry ∷ entries) = entry_line row entry (effect_in world entry) ∷ entry_lines row (told world entry) entries
+entry_lines row world (entry ∷ entries) = entry_line row entry (effect_in world entry) ∷ entry_lines row (recorded world entry) entries
 
 -- the line of the ring, where it is another than before
 abbrev pub ring_lines : ℕ → List Cut → List Cut → List (List ℕ)

@@ -4,7 +4,7 @@ ghost use Rattle.std.specs.Prelude.{◌≡◌, ◌++◌, IfOk, OnOk};
 ghost use Rattle.std.specs.Option.{option_map, option_to_list};
 ghost use Rattle.sc_explain.specs.facts.Facts.{ring_group_of};
 ghost use Rattle.sc_meaning.specs.entries.Effective.{effective};
-ghost use Rattle.sc_meaning.specs.entries.Worlds.{StoreWorld, told};
+ghost use Rattle.sc_meaning.specs.entries.Worlds.{StoreWorld, recorded};
 ghost use Rattle.sc_group_table.specs.machine.Group.{Group, base_of};
 ghost use Rattle.sc_world_groups.specs.Effects.{effect_in};
 ghost use Rattle.sc_explain.specs.rows.Explained.{records_in, ring_groups_in};
@@ -91,7 +91,7 @@ pub(crate) fn follow(
     entry: &LogEntry,
     effect: &Option<Effect>,
 ) -> Result<Vec<RingGroup>, OutOfMemory>
-    ensures { IfOk result (λ after. (before : StoreWorld) → world.now ≡ told before entry.now →
+    ensures { IfOk result (λ after. (before : StoreWorld) → world.now ≡ recorded before entry.now →
         effect.now ≡ effect_in before entry.now → groups.items ≡ ring_groups_in before →
         after.items ≡ ring_groups_in world.now) }
 {

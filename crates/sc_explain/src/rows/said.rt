@@ -56,13 +56,13 @@ pub(crate) fn said_of(
         (λ said. groups.items ≡ ring_groups_in world.now → IsSaidOf world.now said) }
 {
     let born = world.groups();
-    let told = world.history();
+    let recorded = world.history();
     let records = records_in(alloc, world)?;
     let cuts = world.ring();
     let ring = Vec::from_slice(alloc, cuts)?;
     Ok(Said {
         births: born.len(),
-        history: told.len(),
+        history: recorded.len(),
         records,
         groups,
         ring,
@@ -115,8 +115,8 @@ pub(crate) fn add_row(
     let births = behind(born, before.births);
     add_births(alloc, lines, row, births)?;
     add_all(lines, entries)?;
-    let told = world.history();
-    let history = behind(told, before.history);
+    let recorded = world.history();
+    let history = behind(recorded, before.history);
     add_history(alloc, lines, row, history)?;
     let records = new_records(alloc, before, after)?;
     let said_records = records.as_slice();

@@ -4,7 +4,7 @@ ghost use Rattle.sc_explain.specs.rows.Said.{HasTaken, HaveArcsThroughout};
 ghost use Rattle.sc_world_groups.specs.declared.errors.EntryError.TheVariants.{NoArc};
 ghost use Rattle.sc_explain.specs.facts.Facts.{entry_line};
 ghost use Rattle.sc_meaning.specs.entries.Rings.{HaveArcs};
-ghost use Rattle.sc_meaning.specs.entries.Worlds.{StoreWorld, told};
+ghost use Rattle.sc_meaning.specs.entries.Worlds.{StoreWorld, recorded};
 ghost use Rattle.sc_world_groups.specs.Effects.{effect_in};
 ghost use Rattle.sc_explain.specs.rows.Explained.{ring_groups_in};
 
@@ -35,7 +35,7 @@ fn after_entry(
 ) -> Result<Taken, EntryError>
     ensures { MatchResult result (λ more.
         (more.lines.items ≡ taken.lines.items ++ entry_line row entry.now effect.now ∷ []) ×
-        ((before : StoreWorld) → world.now ≡ told before entry.now →
+        ((before : StoreWorld) → world.now ≡ recorded before entry.now →
         effect.now ≡ effect_in before entry.now →
         taken.groups.items ≡ ring_groups_in before →
         more.groups.items ≡ ring_groups_in world.now))
@@ -56,12 +56,12 @@ fn take_one(
     taken: Taken,
     entry: &LogEntry,
 ) -> Result<Taken, EntryError>
-    ensures { MatchResult result (λ more. (world.new ≡ told world.old entry.now) ×
+    ensures { MatchResult result (λ more. (world.new ≡ recorded world.old entry.now) ×
         (more.lines.items ≡
         taken.lines.items ++ entry_line row entry.now (effect_in world.old entry.now) ∷ []) ×
         (taken.groups.items ≡ ring_groups_in world.old →
         more.groups.items ≡ ring_groups_in world.new))
-        (λ error. error ≡ NoArc → HaveArcs (told world.old entry.now).ring → ⊥) }
+        (λ error. error ≡ NoArc → HaveArcs (recorded world.old entry.now).ring → ⊥) }
 {
     match world.take(entry) {
         Ok(effect) => after_entry(alloc, row, world, taken, entry, &effect),

@@ -65,7 +65,7 @@ module _ (request : RequestOf) (world : StoreWorld) (name : Draw) (group : Group
 
   others : (other : Draw) → (other ≡ mine → ⊥) → (other ≡ theirs → ⊥) → has_arc other after.ring ≡ has_arc other world.ring → holdings_in after other ≡ holdings_in world other
   others other ne not has = elsewhere world name group found c result id_is unborn other ne has
-      (λ g is. ap (λ ts. held_by ts g) transactions_are ∙ others_after world group tx frozen own party outcome other g not is)
+      (λ g fact. ap (λ ts. held_by ts g) transactions_are ∙ others_after world group tx frozen own party outcome other g not fact)
 
   tables : HasKnownTable world after mine result.0 → (other : Draw) (g : Group) → named_group other after.groups ≡ Some g → HasKnownTable world after other g
   tables = tables_from world name group found c result id_is unborn
@@ -75,12 +75,12 @@ module _ (request : RequestOf) (world : StoreWorld) (name : Draw) (group : Group
 
   -- ---- a merge
 
-  module _ (into : Route) (is : outcome ≡ Merged into) (holds_both : holding_of planned ≡ with_next (holding_of group) (holding_of party.next)) where
+  module _ (into : Route) (fact : outcome ≡ Merged into) (holds_both : holding_of planned ≡ with_next (holding_of group) (holding_of party.next)) where
     abbrev others_ring : List Cut
     others_ring = filter (λ cut. not (is_cut_of theirs cut)) world.ring
 
     merged_ring : after.ring ≡ recut mine (joined party.own_cut.0 party.next_cut.0) others_ring
-    merged_ring = ring_are ∙ ap (λ o. ring_decided (Some o) mine theirs world.ring) is ∙ ap (λ o. ring_merged o mine theirs world.ring) both_cuts
+    merged_ring = ring_are ∙ ap (λ o. ring_decided (Some o) mine theirs world.ring) fact ∙ ap (λ o. ring_merged o mine theirs world.ring) both_cuts
 
     merged_has : (other : Draw) → (other ≡ theirs → ⊥) → has_arc other after.ring ≡ has_arc other world.ring
     merged_has other ne = ap (has_arc other) merged_ring ∙ has_recut other mine (joined party.own_cut.0 party.next_cut.0) others_ring ∙ taken_out other theirs world.ring ne
@@ -94,7 +94,7 @@ module _ (request : RequestOf) (world : StoreWorld) (name : Draw) (group : Group
     pub merge_goes : Goes request world name group found c (decided planned tx outcome)
     merge_goes = record {
       move = JoinedTo mine theirs;
-      may = record { holding = holding_of group; is = mine_before; other = holding_of party.next; next_is = theirs_before; apart = party.apart; fits = party.meet };
+      may = record { holding = holding_of group; fact = mine_before; other = holding_of party.next; next_is = theirs_before; apart = party.apart; fits = party.meet };
       holds = λ other. elim (draw_cases other theirs) [
         | inl e ↦ ap (holdings_in after) e ∙ held_none after theirs theirs_gone ∙ sym (second_here mine theirs (both_holdings with_next (holdings_in world mine) (holdings_in world theirs)) (None) (holdings_in world) other e)
         | inr not ↦ elim (draw_cases other mine) [
@@ -108,9 +108,9 @@ module _ (request : RequestOf) (world : StoreWorld) (name : Draw) (group : Group
 
   -- ---- a boundary that moves
 
-  module _ (at : ℕ) (gift : Option Gift) (is : outcome ≡ Moved at gift) where
+  module _ (at : ℕ) (gift : Option Gift) (fact : outcome ≡ Moved at gift) where
     moved_ring : after.ring ≡ recut mine (before (joined party.own_cut.0 party.next_cut.0) at) (recut theirs (from (joined party.own_cut.0 party.next_cut.0) at) world.ring)
-    moved_ring = ring_are ∙ ap (λ o. ring_decided (Some o) mine theirs world.ring) is ∙ ap (λ o. ring_moved at o mine theirs world.ring) both_cuts
+    moved_ring = ring_are ∙ ap (λ o. ring_decided (Some o) mine theirs world.ring) fact ∙ ap (λ o. ring_moved at o mine theirs world.ring) both_cuts
 
     moved_has : (other : Draw) → has_arc other after.ring ≡ has_arc other world.ring
     moved_has other =
@@ -127,7 +127,7 @@ module _ (request : RequestOf) (world : StoreWorld) (name : Draw) (group : Group
         let rest : option_map (part_from at) (holdings_in world mine) ≡ Some (part_from at (holding_of group)) = ap (option_map (part_from at)) mine_before in
         record {
           move = GivenFrom mine at theirs;
-          may = record { holding = holding_of group; is = mine_before; other = holding_of party.next; next_is = theirs_before; apart = party.apart; fits = (fits, cut, meet) };
+          may = record { holding = holding_of group; fact = mine_before; other = holding_of party.next; next_is = theirs_before; apart = party.apart; fits = (fits, cut, meet) };
           holds = λ other. elim (draw_cases other theirs) [
             | inl e ↦ ap (holdings_in after) e ∙ moved_theirs ∙ ap Some gains
                 ∙ sym (both_are with_previous (holdings_in world theirs) (option_map (part_from at) (holdings_in world mine)) (holding_of party.next) (part_from at (holding_of group)) theirs_before rest)
@@ -147,7 +147,7 @@ module _ (request : RequestOf) (world : StoreWorld) (name : Draw) (group : Group
         let part : option_map (part_before at) (holdings_in world theirs) ≡ Some (part_before at (holding_of party.next)) = ap (option_map (part_before at)) theirs_before in
         record {
           move = TakenUpTo mine at theirs;
-          may = record { holding = holding_of group; is = mine_before; other = holding_of party.next; next_is = theirs_before; apart = party.apart; fits = (fits, cut, meet) };
+          may = record { holding = holding_of group; fact = mine_before; other = holding_of party.next; next_is = theirs_before; apart = party.apart; fits = (fits, cut, meet) };
           holds = λ other. elim (draw_cases other theirs) [
             | inl e ↦ ap (holdings_in after) e ∙ moved_theirs ∙ ap Some keeps ∙ sym (ap (option_map (part_from at)) theirs_before) ∙ sym (second_here mine theirs (both_holdings with_next (holdings_in world mine) (option_map (part_before at) (holdings_in world theirs))) (option_map (part_from at) (holdings_in world theirs)) (holdings_in world) other e)
             | inr not ↦ elim (draw_cases other mine) [
@@ -164,8 +164,8 @@ module _ (request : RequestOf) (world : StoreWorld) (name : Draw) (group : Group
   -- ---- a member that moves on
 
   pub migrate_goes : (node : ℕ) → outcome ≡ Migrated node → holding_of planned ≡ holding_of group → holding_of (after_outcome (Some outcome) tx party.next) ≡ holding_of party.next → Goes request world name group found c (decided planned tx outcome)
-  migrate_goes node is keeps stays =
-      let ring : after.ring ≡ world.ring = ring_are ∙ ap (λ o. ring_decided (Some o) mine theirs world.ring) is in
+  migrate_goes node fact keeps stays =
+      let ring : after.ring ≡ world.ring = ring_are ∙ ap (λ o. ring_decided (Some o) mine theirs world.ring) fact in
       let now : holdings_in after mine ≡ Some (holding_of planned) = mine_after (ap (has_arc mine) ring) in
       record {
         move = Unmoved;

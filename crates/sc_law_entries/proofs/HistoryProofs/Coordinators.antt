@@ -42,30 +42,34 @@ use Rattle.sc_law_entries.proofs.HistoryProofs.Parties.{next_before, others_held
 use Rattle.sc_law_entries.proofs.HistoryProofs.PlanHoldings.{plans_move}
 use Rattle.sc_law_entries.proofs.HistoryProofs.Staying.{Goes, free_by, idles, none_committed, order_cases, stays}
 
+-- who coordinates a transaction
+it_is : (group : Group) (tx : Draw) (body : Body) (order : ℕ) (heard : Option Heard) → group.core.lock ≡ Coordinating tx body order heard → is_coordinating group.core.lock tx ≡ true
+it_is group tx body order heard lock = ap (λ l. is_coordinating l tx) lock ∙ same_name tx tx refl
+
 -- ---- a participant's vote
 
 module _ (request : RequestOf) (world : StoreWorld) (name : Draw) (group : Group) (found : named_group name world.groups ≡ Some group) (tx : Draw) (vote : Vote) (by : ℕ)
-    (told : MatchesHoldings request world.history (holdings_in world)) (may : MayHear world group tx vote) where
+    (recorded : MatchesHoldings request world.history (holdings_in world)) (may : MayHear world group tx vote) where
   abbrev Hears : Group × Effect → Type 0
   Hears = Goes request world name group found (RecordVote tx vote by)
 
   quiet : Hears (group, Was.NoEffect tx)
   quiet = idles request world name group found (RecordVote tx vote by) (Was.NoEffect tx) refl refl refl refl
 
-  module _ (is : is_coordinating group.core.lock tx ≡ true) where
+  module _ (fact : is_coordinating group.core.lock tx ≡ true) where
     coordinates : held_by world.transactions group ≡ holding_of group
-    coordinates = coordinator_held world.transactions group tx group.core.lock refl is
+    coordinates = coordinator_held world.transactions group tx group.core.lock refl fact
 
     aborts : Hears (aborted group tx)
     aborts = stays request world name group found (RecordVote tx vote by) (aborted group tx) refl refl (λ other. refl)
-        (λ t. abort_concluded world.transactions tx group.core.id t (none_committed world tx (may.own is).uncommitted)) (sym coordinates) refl refl
+        (λ t. abort_concluded world.transactions tx group.core.id t (none_committed world tx (may.own fact).uncommitted)) (sym coordinates) refl refl
 
     module _ (frozen : Frozen) (yes_is : vote ≡ Says.Yes frozen) where
       abbrev own : IsItsOwn world group tx
-      own = may.own is
+      own = may.own fact
 
       abbrev party : IsParty world group tx frozen
-      party = may.party is frozen yes_is
+      party = may.party fact frozen yes_is
 
       abbrev next : Group
       next = party.next
@@ -87,13 +91,13 @@ module _ (request : RequestOf) (world : StoreWorld) (name : Draw) (group : Group
           let own_is = own_group world name group found (RecordVote tx vote by) (group, Was.NoEffect tx) refl refl in
           let mine = holds_own world group.core.id group party.own_cut own_is coordinates in
           let theirs = next_before world group tx frozen own party in
-          let arc = told.disjoint.arcs group.core.id (holding_of group) mine in
+          let arc = recorded.disjoint.arcs group.core.id (holding_of group) mine in
           let meet = rest_meets group.core.arc next.core.arc at arc.0 arc.1 fits cut party.meet in
           let whole = contents_after empty world.history in
           let none : has_key_of next.pairs (part_gift group at).pairs ≡ false =
-          ap (λ m. has_key_of m (part_gift group at).pairs) (told.told group.core.succ.group (holding_of next) theirs).pairs
+          ap (λ m. has_key_of m (part_gift group at).pairs) (recorded.recorded group.core.succ.group (holding_of next) theirs).pairs
           ∙ no_common_key (from group.core.arc at) next.core.arc group.pairs whole
-          (λ p h k. party.apart (told.disjoint.only p group.core.id group.core.succ.group (holding_of group) (holding_of next) mine theirs ((from_arc group.core.arc at arc fits cut).1 p h) k)) in
+          (λ p h k. party.apart (recorded.disjoint.only p group.core.id group.core.succ.group (holding_of group) (holding_of next) mine theirs ((from_arc group.core.arc at arc fits cut).1 p h) k)) in
           give_goes request world name group found (RecordVote tx vote by) tx (Moved at (Some (part_gift group at))) (giving_group group at frozen) frozen refl refl refl refl refl own party coordinates
           at (Some (part_gift group at)) refl
           (ap (λ f. holding_of (giving_group group at f)) party.handed ∙ (plans_move.gives group next party.offer at party.offered within).own)
@@ -120,20 +124,16 @@ module _ (request : RequestOf) (world : StoreWorld) (name : Draw) (group : Group
           migrate_goes request world name group found (RecordVote tx vote by) tx (Migrated node) (migrated_group group node frozen) frozen refl refl refl refl refl own party coordinates
           node refl refl (welcomes next tx party.offer node party.lock)
 
-  -- who coordinates a transaction
-  it_is : (body : Body) (order : ℕ) (heard : Option Heard) → group.core.lock ≡ Coordinating tx body order heard → is_coordinating group.core.lock tx ≡ true
-  it_is body order heard lock = ap (λ l. is_coordinating l tx) lock ∙ same_name tx tx refl
-
   pub vote_goes : Goes request world name group found (RecordVote tx vote by) (applied group (RecordVote tx vote by))
   vote_goes =
       vote_step group tx vote by Hears (record {
         quiet = quiet;
-        hears = λ order lock frozen votes other. hears (it_is At.Merge order None lock) frozen votes order;
-        aborts = λ body order lock why votes. aborts (it_is body order None lock);
-        closes = λ order lock frozen votes two can. closes (it_is At.Merge order None lock) frozen votes;
-        gives = λ at order lock frozen votes within can. gives (it_is (At.Repart at) order None lock) frozen votes at (may.fits at order None lock) within can;
-        takes = λ at order lock frozen votes out can. takes (it_is (At.Repart at) order None lock) frozen votes at (may.fits at order None lock) out can;
-        migrates = λ node order lock frozen votes can. migrates (it_is (At.Migrate node) order None lock) frozen votes node;
+        hears = λ order lock frozen votes other. hears (it_is group tx At.Merge order None lock) frozen votes order;
+        aborts = λ body order lock why votes. aborts (it_is group tx body order None lock);
+        closes = λ order lock frozen votes two can. closes (it_is group tx At.Merge order None lock) frozen votes;
+        gives = λ at order lock frozen votes within can. gives (it_is group tx (At.Repart at) order None lock) frozen votes at (may.fits at order None lock) within can;
+        takes = λ at order lock frozen votes out can. takes (it_is group tx (At.Repart at) order None lock) frozen votes at (may.fits at order None lock) out can;
+        migrates = λ node order lock frozen votes can. migrates (it_is group tx (At.Migrate node) order None lock) frozen votes node;
       })
 
 -- ---- a watcher's vote
@@ -146,39 +146,35 @@ module _ (request : RequestOf) (world : StoreWorld) (name : Draw) (group : Group
   still = idles request world name group found (RecordWatch tx vote by) (Was.NoEffect tx) refl refl refl refl
 
   watch_aborts : is_coordinating group.core.lock tx ≡ true → HearsWatch (aborted group tx)
-  watch_aborts is = stays request world name group found (RecordWatch tx vote by) (aborted group tx) refl refl (λ other. refl)
-      (λ t. abort_concluded world.transactions tx group.core.id t (none_committed world tx (may.own is).uncommitted)) (sym (coordinator_held world.transactions group tx group.core.lock refl is)) refl refl
+  watch_aborts fact = stays request world name group found (RecordWatch tx vote by) (aborted group tx) refl refl (λ other. refl)
+      (λ t. abort_concluded world.transactions tx group.core.id t (none_committed world tx (may.own fact).uncommitted)) (sym (coordinator_held world.transactions group tx group.core.lock refl fact)) refl refl
 
   watched_merge : is_coordinating group.core.lock tx ≡ true → (order : ℕ) (heard : Heard) → group.core.lock ≡ Coordinating tx At.Merge order (Some heard) → vote ≡ Cast.Yes → HearsWatch (decided (merged_group group heard.frozen) tx (Merged (merged_route group.core heard.frozen)))
-  watched_merge is order heard lock cast =
+  watched_merge fact order heard lock cast =
       let frozen = heard.frozen in
       let party = may.party order heard lock cast in
-      merge_goes request world name group found (RecordWatch tx vote by) tx (Merged (merged_route group.core frozen)) (merged_group group frozen) frozen refl refl refl refl refl (may.own is) party
-      (coordinator_held world.transactions group tx group.core.lock refl is)
+      merge_goes request world name group found (RecordWatch tx vote by) tx (Merged (merged_route group.core frozen)) (merged_group group frozen) frozen refl refl refl refl refl (may.own fact) party
+      (coordinator_held world.transactions group tx group.core.lock refl fact)
       (merged_route group.core frozen) refl (ap (λ f. holding_of (merged_group group f)) party.handed ∙ (plans_move.joins group party.next).merged)
 
   watched_split : is_coordinating group.core.lock tx ≡ true → (at : ℕ) (child : Draw) (order : ℕ) (heard : Option Heard) → group.core.lock ≡ Coordinating tx (At.Split at child) order heard → vote ≡ Cast.Yes
       → can_split group.core at ≡ true → HearsWatch (decided (left_group group at child) tx Divided)
-  watched_split is at child order heard lock cast can =
+  watched_split fact at child order heard lock cast can =
       let facts = may.division at child order heard lock cast in
       division_goes request world name group found (RecordWatch tx vote by) (decided (left_group group at child) tx Divided) at child refl
       (ap (λ l. option_map (λ (d : Division). child_of group d.at d.child) (division_in l)) lock) facts.1
       (ap (λ l. ring_divided (division_in l) group.core.id world.ring) lock)
-      refl (coordinator_held world.transactions group tx group.core.lock refl is) refl
+      refl (coordinator_held world.transactions group tx group.core.lock refl fact) refl
       (λ other g there. others_held world.transactions tx group.core.id Divided g g.core.lock refl (λ offer e. facts.2 other g offer there e))
       refl refl facts.0 (cut_is group.core.arc at (and_parts (can_cut group.core.arc at) (nat_le 2 (length group.core.members)) can).0)
-
-  -- who coordinates a transaction
-  its_own : (body : Body) (order : ℕ) (heard : Option Heard) → group.core.lock ≡ Coordinating tx body order heard → is_coordinating group.core.lock tx ≡ true
-  its_own body order heard lock = ap (λ l. is_coordinating l tx) lock ∙ same_name tx tx refl
 
   pub watch_goes : Goes request world name group found (RecordWatch tx vote by) (applied group (RecordWatch tx vote by))
   watch_goes =
       watch_step group tx vote HearsWatch (record {
         quiet = still;
-        aborts = λ body order got lock no_yes. watch_aborts (its_own body order got lock);
-        divides = λ at child order got lock votes can. watched_split (its_own (At.Split at child) order got lock) at child order got lock votes can;
-        merges = λ order heard lock votes can. watched_merge (its_own At.Merge order (Some heard) lock) order heard lock votes;
+        aborts = λ body order got lock no_yes. watch_aborts (it_is group tx body order got lock);
+        divides = λ at child order got lock votes can. watched_split (it_is group tx (At.Split at child) order got lock) at child order got lock votes can;
+        merges = λ order heard lock votes can. watched_merge (it_is group tx At.Merge order (Some heard) lock) order heard lock votes;
       })
 
 -- ---- a split

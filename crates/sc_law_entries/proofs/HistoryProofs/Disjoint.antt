@@ -31,7 +31,7 @@ neither_here group second mine theirs holdings other ne not = holding_there seco
 -- the holding, if there is one, has the position
 pub record HoldsAt (found : Option Holding) (p : ℕ) : Type 0 where
   pub holding : Holding
-  pub is : found ≡ Some holding
+  pub fact : found ≡ Some holding
   pub at : holds holding.arc p ≡ true
 
 -- the holding, if there is one, matches the history, with an arc of the ring
@@ -49,14 +49,14 @@ pub record SharesOut (history : List Entry) (holdings : Holdings) (group other :
 
 -- the same position at the same holding
 at_same : (found other : Option Holding) (p : ℕ) → found ≡ other → HoldsAt found p → HoldsAt other p
-at_same found other p e h = record { holding = h.holding; is = sym e ∙ h.is; at = h.at }
+at_same found other p e h = record { holding = h.holding; fact = sym e ∙ h.fact; at = h.at }
 
 -- a position that a group has is not another group's
 pub owner : (holdings : Holdings) → AreDisjoint holdings → (p : ℕ) (group other : Draw) → HoldsAt (holdings group) p → HoldsAt (holdings other) p → group ≡ other
-owner holdings d p group other h k = d.only p group other h.holding k.holding h.is k.is h.at k.at
+owner holdings d p group other h k = d.only p group other h.holding k.holding h.fact k.fact h.at k.at
 
 module _ (history : List Entry) (holdings : Holdings) (group other : Draw) (mine theirs : Option Holding)
-    (disjoint : AreDisjoint holdings) (told : (name : Draw) → IsGood history (holdings name)) (share : SharesOut history holdings group other mine theirs) where
+    (disjoint : AreDisjoint holdings) (recorded : (name : Draw) → IsGood history (holdings name)) (share : SharesOut history holdings group other mine theirs) where
   abbrev pub shared : Holdings
   shared = with_holding other theirs (with_holding group mine holdings)
 
@@ -78,9 +78,9 @@ module _ (history : List Entry) (holdings : Holdings) (group other : Draw) (mine
   ]
 
   good_at : (name : Draw) → Place name → IsGood history (shared name)
-  good_at name (First e is) holding found = share.mine_good holding (sym is ∙ found)
-  good_at name (Second e is) holding found = share.theirs_good holding (sym is ∙ found)
-  good_at name (Third ne not is) holding found = told name holding (sym is ∙ found)
+  good_at name (First e fact) holding found = share.mine_good holding (sym fact ∙ found)
+  good_at name (Second e fact) holding found = share.theirs_good holding (sym fact ∙ found)
+  good_at name (Third ne not fact) holding found = recorded name holding (sym fact ∙ found)
 
   -- who has a position that one of the two had is one of the two
   stranger : (name : Draw) (p : ℕ) → (name ≡ group → ⊥) → (name ≡ other → ⊥) → HoldsAt (holdings name) p → HoldsAt (holdings group) p ⊎ HoldsAt (holdings other) p → ⊥
@@ -88,22 +88,22 @@ module _ (history : List Entry) (holdings : Holdings) (group other : Draw) (mine
   stranger name p ne not h (inr k) = not (owner holdings disjoint p name other h k)
 
   only_at : (p : ℕ) (name second : Draw) → Place name → Place second → HoldsAt (shared name) p → HoldsAt (shared second) p → name ≡ second
-  only_at p name second (First e is) (First f its) h k = e ∙ sym f
-  only_at p name second (First e is) (Second f its) h k = absurd (share.disjoint p (at_same _ _ p is h) (at_same _ _ p its k))
-  only_at p name second (First e is) (Third ne not its) h k = absurd (stranger second p ne not (at_same _ _ p its k) (share.mine_from p (at_same _ _ p is h)))
-  only_at p name second (Second e is) (First f its) h k = absurd (share.disjoint p (at_same _ _ p its k) (at_same _ _ p is h))
-  only_at p name second (Second e is) (Second f its) h k = e ∙ sym f
-  only_at p name second (Second e is) (Third ne not its) h k = absurd (stranger second p ne not (at_same _ _ p its k) (share.theirs_from p (at_same _ _ p is h)))
-  only_at p name second (Third ne not is) (First f its) h k = absurd (stranger name p ne not (at_same _ _ p is h) (share.mine_from p (at_same _ _ p its k)))
-  only_at p name second (Third ne not is) (Second f its) h k = absurd (stranger name p ne not (at_same _ _ p is h) (share.theirs_from p (at_same _ _ p its k)))
-  only_at p name second (Third ne not is) (Third nf nor its) h k = owner holdings disjoint p name second (at_same _ _ p is h) (at_same _ _ p its k)
+  only_at p name second (First e fact) (First f its) h k = e ∙ sym f
+  only_at p name second (First e fact) (Second f its) h k = absurd (share.disjoint p (at_same _ _ p fact h) (at_same _ _ p its k))
+  only_at p name second (First e fact) (Third ne not its) h k = absurd (stranger second p ne not (at_same _ _ p its k) (share.mine_from p (at_same _ _ p fact h)))
+  only_at p name second (Second e fact) (First f its) h k = absurd (share.disjoint p (at_same _ _ p its k) (at_same _ _ p fact h))
+  only_at p name second (Second e fact) (Second f its) h k = e ∙ sym f
+  only_at p name second (Second e fact) (Third ne not its) h k = absurd (stranger second p ne not (at_same _ _ p its k) (share.theirs_from p (at_same _ _ p fact h)))
+  only_at p name second (Third ne not fact) (First f its) h k = absurd (stranger name p ne not (at_same _ _ p fact h) (share.mine_from p (at_same _ _ p its k)))
+  only_at p name second (Third ne not fact) (Second f its) h k = absurd (stranger name p ne not (at_same _ _ p fact h) (share.theirs_from p (at_same _ _ p its k)))
+  only_at p name second (Third ne not fact) (Third nf nor its) h k = owner holdings disjoint p name second (at_same _ _ p fact h) (at_same _ _ p its k)
 
   -- all are disjoint and match the history as before
   pub shared_disjoint : AreDisjoint shared
   shared_disjoint = record {
     arcs = λ name holding found. (good_at name (place name) holding found).0;
-    only = λ p name second holding another is its at there.
-        only_at p name second (place name) (place second) (record { holding = holding; is = is; at = at }) (record { holding = another; is = its; at = there });
+    only = λ p name second holding another fact its at there.
+        only_at p name second (place name) (place second) (record { holding = holding; fact = fact; at = at }) (record { holding = another; fact = its; at = there });
   }
 
   pub shared_told : (name : Draw) (holding : Holding) → shared name ≡ Some holding → IsReportedOf history holding

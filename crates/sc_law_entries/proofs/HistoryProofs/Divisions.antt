@@ -108,18 +108,18 @@ module _ (request : RequestOf) (world : StoreWorld) (name : Draw) (group : Group
     child_after = held_some after child newborn (arc_of child after.ring child_cut) child_there ∙ ap Some (plans_move.divides group at child).rest
 
     elsewhere : (other : Draw) → (other ≡ mine → ⊥) → (other ≡ child → ⊥) → holdings_in after other ≡ holdings_in world other
-    elsewhere other ne not = same_at world after other (has other not) (same_found after.transactions world.transactions _ _ (there other ne not) (λ g is. same other g is))
+    elsewhere other ne not = same_at world after other (has other not) (same_found after.transactions world.transactions _ _ (there other ne not) (λ g fact. same other g fact))
 
     tables : (other : Draw) (g : Group) → named_group other after.groups ≡ Some g → HasKnownTable world after other g
-    tables other g is = elim (draw_cases other child) [
+    tables other g fact = elim (draw_cases other child) [
       | inl e ↦ (
-          let it : newborn ≡ g = same_Some newborn g (sym child_there ∙ ap (λ n. named_group n after.groups) (sym e) ∙ is) in
+          let it : newborn ≡ g = same_Some newborn g (sym child_there ∙ ap (λ n. named_group n after.groups) (sym e) ∙ fact) in
           inr (inr (part_from at (holding_of group), ap (holdings_in after) e ∙ child_after, ap (λ (h : Holding). h.clients) (sym (plans_move.divides group at child).rest) ∙ ap (λ (x : Group). x.clients) it)))
       | inr not ↦ elim (draw_cases other mine) [
         | inl e ↦ (
-            let it : result.0 ≡ g = same_Some result.0 g (sym here ∙ ap (λ n. named_group n after.groups) (sym e) ∙ is) in
+            let it : result.0 ≡ g = same_Some result.0 g (sym here ∙ ap (λ n. named_group n after.groups) (sym e) ∙ fact) in
             inr (inl (group, ap (λ n. named_group n world.groups) e ∙ own_is, sym table ∙ ap (λ (x : Group). x.clients) it)))
-        | inr ne ↦ inr (inl (g, sym (there other ne not) ∙ is, refl))
+        | inr ne ↦ inr (inl (g, sym (there other ne not) ∙ fact, refl))
       ]
     ]
 
@@ -129,7 +129,7 @@ module _ (request : RequestOf) (world : StoreWorld) (name : Draw) (group : Group
         let own = holds_own world mine group fresh.cut own_is before in
         record {
           move = DividedAt mine at child;
-          may = record { holding = holding_of group; is = own; fits = fits; cut = cut; free = held_none world child fresh.uncut };
+          may = record { holding = holding_of group; fact = own; fits = fits; cut = cut; free = held_none world child fresh.uncut };
           holds = λ other. elim (draw_cases other child) [
             | inl e ↦ ap (holdings_in after) e ∙ child_after ∙ sym (ap (option_map (part_from at)) own) ∙ sym (second_here mine child (option_map (part_before at) (holdings_in world mine)) (option_map (part_from at) (holdings_in world mine)) (holdings_in world) other e)
             | inr not ↦ elim (draw_cases other mine) [

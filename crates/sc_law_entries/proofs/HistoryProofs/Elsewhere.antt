@@ -99,9 +99,9 @@ module _ (world : StoreWorld) (name : Draw) (group : Group) (found : named_group
 
   -- the tables of logs: only its own may be another
   pub tables_from : HasKnownTable world after group.core.id result.0 → (other : Draw) (g : Group) → named_group other after.groups ≡ Some g → HasKnownTable world after other g
-  tables_from own other g is = elim (draw_cases other group.core.id) [
-    | inl e ↦ subst (λ n. HasKnownTable world after n g) (sym e) (subst (HasKnownTable world after group.core.id) (same_Some result.0 g (sym (here other e) ∙ is)) own)
-    | inr ne ↦ inr (inl (g, sym (there other ne) ∙ is, refl))
+  tables_from own other g fact = elim (draw_cases other group.core.id) [
+    | inl e ↦ subst (λ n. HasKnownTable world after n g) (sym e) (subst (HasKnownTable world after group.core.id) (same_Some result.0 g (sym (here other e) ∙ fact)) own)
+    | inr ne ↦ inr (inl (g, sym (there other ne) ∙ fact, refl))
   ]
 
   -- a table that stays

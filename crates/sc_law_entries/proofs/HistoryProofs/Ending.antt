@@ -100,30 +100,30 @@ module _ (world : StoreWorld) (group : Group) (tx : Draw) (outcome : Outcome) (d
   -- a participant that goes by the outcome
   promised : (offer : Offer) → group.core.lock ≡ Promised tx offer → (after ≡ (settled_in (participant_after outcome group offer) group tx outcome).0) → IsEnd group outcome (settled_in (participant_after outcome group offer) group tx outcome).0
       → held_by world.transactions after ≡ held_by world.transactions group
-  promised offer e is ended = elim ended.either [
-    | inl same ↦ ap (held_by world.transactions) (is ∙ same)
-    | inr free ↦ free_held world.transactions after (ap (λ (g : Group). g.core.lock) is ∙ free) ∙ sym (ap (λ lock. holding_of (effective_by lock world.transactions group)) e ∙ ap (λ o. holding_of (after_outcome o tx group)) (decided (ap locked_in e)) ∙ by_outcome (is_commit outcome) refl)
+  promised offer e fact ended = elim ended.either [
+    | inl same ↦ ap (held_by world.transactions) (fact ∙ same)
+    | inr free ↦ free_held world.transactions after (ap (λ (g : Group). g.core.lock) fact ∙ free) ∙ sym (ap (λ lock. holding_of (effective_by lock world.transactions group)) e ∙ ap (λ o. holding_of (after_outcome o tx group)) (decided (ap locked_in e)) ∙ by_outcome (is_commit outcome) refl)
   ]
     where
       by_outcome : (b : Bool) → is_commit outcome ≡ b → holding_of (cond (is_commit outcome) after group) ≡ holding_of after
       by_outcome true t = ap (λ b. holding_of (cond b after group)) t
-      by_outcome false f = ap (λ b. holding_of (cond b after group)) f ∙ sym (ap holding_of is ∙ ended.abort f)
+      by_outcome false f = ap (λ b. holding_of (cond b after group)) f ∙ sym (ap holding_of fact ∙ ended.abort f)
 
   -- an end that a test lets happen
   tested : (lock : Lock) → group.core.lock ≡ lock → (b : Bool) (ended : Group × Effect) → (finished lock group tx outcome).0 ≡ (cond b ended (group, NoEffect tx)).0
       → (b ≡ true → after ≡ ended.0 → held_by world.transactions after ≡ held_by world.transactions group) → held_by world.transactions after ≡ held_by world.transactions group
-  tested lock e true ended is ends = ends refl (ap (λ l. (finished l group tx outcome).0) e ∙ is)
-  tested lock e false ended is ends = unchanged lock e is
+  tested lock e true ended fact ends = ends refl (ap (λ l. (finished l group tx outcome).0) e ∙ fact)
+  tested lock e false ended fact ends = unchanged lock e fact
 
   by_lock : (lock : Lock) → group.core.lock ≡ lock → held_by world.transactions after ≡ held_by world.transactions group
   by_lock Free e = unchanged Free e refl
   by_lock (Coordinating locked body order heard) e = unchanged (Coordinating locked body order heard) e refl
   by_lock (Promised locked offer) e =
       tested (Promised locked offer) e (same_draw locked tx) (settled_in (participant_after outcome group offer) group tx outcome) refl
-      (λ t is. promised offer (e ∙ ap (λ x. Promised x offer) (draw_is locked tx t)) is (settled_end outcome group tx offer))
+      (λ t fact. promised offer (e ∙ ap (λ x. Promised x offer) (draw_is locked tx t)) fact (settled_end outcome group tx offer))
   by_lock (Watching locked watch) e =
       tested (Watching locked watch) e (same_draw locked tx) (watch_ended outcome group tx watch) refl
-      (λ t is. free_held world.transactions after (ap (λ (g : Group). g.core.lock) is) ∙ ap holding_of is ∙ sym (watching_held world.transactions group locked watch e))
+      (λ t fact. free_held world.transactions after (ap (λ (g : Group). g.core.lock) fact) ∙ ap holding_of fact ∙ sym (watching_held world.transactions group locked watch e))
 
   -- what a party holds stays
   pub end_held : held_by world.transactions after ≡ held_by world.transactions group

@@ -17,8 +17,8 @@ use Rattle.sc_words.specs.ideal.Definitions.{Legal}
 use Rattle.sc_group_table.specs.machine.Definitions.{Group, group_of, applied, done, served_by_note, child_of, left_group}
 use Rattle.sc_group_table.proofs.MachineProofs.Lemmas.{clients_again}
 use Rattle.sc_meaning.specs.declared.entries.Cut.{Cut}
-use Rattle.sc_meaning.specs.entries.Definitions.{Covers, first_cut, StoreWorld, first_world, told, with_result, world_after, world_of}
-use Rattle.sc_law_entries.specs.history.Definitions.{ExampleOfEntries, answers_with, example_log, get_a, get_entry, lone_base, offspring, put_a, put_entry, split_entry, two_requests, AllMayBeApplied, MayBeTold, MayCall, MaySplit, BeginBare, BeginsBare}
+use Rattle.sc_meaning.specs.entries.Definitions.{Covers, first_cut, StoreWorld, first_world, recorded, with_result, world_after, world_of}
+use Rattle.sc_law_entries.specs.history.Definitions.{ExampleOfEntries, answers_with, example_log, get_a, get_entry, lone_base, offspring, put_a, put_entry, split_entry, two_requests, AllMayBeApplied, MayBeApplied, MayCall, MaySplit, BeginBare, BeginsBare}
 use Rattle.sc_law_entries.proofs.HistoryProofs.EntryMoves.{entries_report}
 
 -- ---- the start
@@ -79,21 +79,21 @@ nothing_noted = ap (λ t. get t 2) (clients_again served.clients) ∙ get-insert
 get_is_new : applied newborn (Call 2 1 get_a) ≡ done newborn 2 1 get_a
 get_is_new = ap (λ (o : Option Noted). served_by_note o newborn 2 1 get_a) nothing_noted
 
-second_is : told first put_entry ≡ second
+second_is : recorded first put_entry ≡ second
 second_is = ap (λ (result : Group × Effect). with_result first start (Call 1 1 put_a) result) (ap (λ (o : Option Noted). served_by_note o start 1 1 put_a) (get-empty nat_cmp 1))
 
 -- ---- each entry may be applied
 
-may_put : MayBeTold two_requests first put_entry
+may_put : MayBeApplied two_requests first put_entry
 may_put group found = subst (λ g. MayCall two_requests first g 1 1 put_a) (same_Some start group found) (record { asked = refl; cut = λ serves. (lone_base.core.arc, refl) })
 
-may_split : MayBeTold two_requests second split_entry
+may_split : MayBeApplied two_requests second split_entry
 may_split group found = subst (λ g. MaySplit second g 1610612736 offspring) (same_Some served group found) (record {
   fits = omega arith;
   fresh = λ alone here unlocked named. record { cut = (lone_base.core.arc, refl); unborn = refl; uncut = refl };
 })
 
-may_get : MayBeTold two_requests third get_entry
+may_get : MayBeApplied two_requests third get_entry
 may_get group found = subst (λ g. MayCall two_requests third g 2 1 get_a) (same_Some newborn group found) (record { asked = refl; cut = λ serves. (newborn.core.arc, refl) })
 
 may : AllMayBeApplied two_requests first example_log
@@ -108,7 +108,7 @@ calls_are =
 
 history : (world_of (lone_base ∷ []) example_log).history ≡ answers_with None (Some (120 ∷ []))
 history =
-    let legal = subst Legal calls_are (entries_report two_requests (lone_base ∷ []) bare example_log may).told.legal in
+    let legal = subst Legal calls_are (entries_report two_requests (lone_base ∷ []) bare example_log may).recorded.legal in
     calls_are
     ∙ ap (λ (r : Reply). answers_with r.old (get newborn.pairs (97 ∷ []))) legal.replay.0
     ∙ ap (λ o. answers_with o (get newborn.pairs (97 ∷ []))) (get-empty (slice_cmp nat_cmp) (97 ∷ []))

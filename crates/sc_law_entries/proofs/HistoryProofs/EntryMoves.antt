@@ -5,7 +5,7 @@ use Rattle.sc_words.specs.declared.commands.commands.Command.{Command}
 use Rattle.sc_words.specs.declared.commands.commands.Command.TheVariants.{Noop, Call, Join, Leave, Split, Begin, Prepared, RecordVote, GiveUp, Finish, Watched, RecordWatch}
 use Rattle.sc_group_table.specs.machine.Definitions.{Group, applied}
 use Rattle.sc_meaning.specs.declared.entries.LogEntry.{LogEntry}
-use Rattle.sc_meaning.specs.entries.Definitions.{StoreWorld, after_command, first_world, named_group, told}
+use Rattle.sc_meaning.specs.entries.Definitions.{StoreWorld, after_command, first_world, named_group, recorded}
 use Rattle.sc_law_entries.specs.history.Definitions.{RequestOf, MatchesHoldings, Unmoved, EntriesMakeMoves, AppliedEntriesMakeHistory, AllMayBeApplied, MayExecute, AllMakeMoves, IsMoveTo, holdings_in}
 use Rattle.sc_law_entries.proofs.HistoryProofs.Coordinators.{split_goes, vote_goes, watch_goes}
 use Rattle.sc_law_entries.proofs.HistoryProofs.Ending.{finish_goes}
@@ -17,18 +17,18 @@ use Rattle.sc_law_entries.proofs.HistoryProofs.Staying.{Goes, begin_goes, give_u
 -- each command
 command_goes : (request : RequestOf) (world : StoreWorld) (name : Draw) (group : Group) (found : named_group name world.groups ≡ Some group) (c : Command) → MatchesHoldings request world.history (holdings_in world) → MayExecute request world group c
     → Goes request world name group found c (applied group c)
-command_goes request world name group found Noop told may = noop_goes request world name group found
-command_goes request world name group found (Call client seq op) told may = call_goes request world name group found client seq op may
-command_goes request world name group found (Join node order) told may = join_goes request world name group found node order
-command_goes request world name group found (Leave node order) told may = leave_goes request world name group found node order
-command_goes request world name group found (Split at child order) told may = split_goes request world name group found at child order may
-command_goes request world name group found (Begin tx body order) told may = begin_goes request world name group found tx body order
-command_goes request world name group found (Prepared tx offer) told may = prepared_goes request world name group found tx offer may
-command_goes request world name group found (RecordVote tx vote by) told may = vote_goes request world name group found tx vote by told may
-command_goes request world name group found (GiveUp tx) told may = give_up_goes request world name group found tx may
-command_goes request world name group found (Finish tx outcome) told may = finish_goes request world name group found tx outcome may
-command_goes request world name group found (Watched tx watch) told may = watched_goes request world name group found tx watch
-command_goes request world name group found (RecordWatch tx vote by) told may = watch_goes request world name group found tx vote by may
+command_goes request world name group found Noop recorded may = noop_goes request world name group found
+command_goes request world name group found (Call client seq op) recorded may = call_goes request world name group found client seq op may
+command_goes request world name group found (Join node order) recorded may = join_goes request world name group found node order
+command_goes request world name group found (Leave node order) recorded may = leave_goes request world name group found node order
+command_goes request world name group found (Split at child order) recorded may = split_goes request world name group found at child order may
+command_goes request world name group found (Begin tx body order) recorded may = begin_goes request world name group found tx body order
+command_goes request world name group found (Prepared tx offer) recorded may = prepared_goes request world name group found tx offer may
+command_goes request world name group found (RecordVote tx vote by) recorded may = vote_goes request world name group found tx vote by recorded may
+command_goes request world name group found (GiveUp tx) recorded may = give_up_goes request world name group found tx may
+command_goes request world name group found (Finish tx outcome) recorded may = finish_goes request world name group found tx outcome may
+command_goes request world name group found (Watched tx watch) recorded may = watched_goes request world name group found tx watch
+command_goes request world name group found (RecordWatch tx vote by) recorded may = watch_goes request world name group found tx vote by may
 
 -- a world that stays
 nothing_goes : (request : RequestOf) (world : StoreWorld) → IsMoveTo request world world
@@ -37,7 +37,7 @@ nothing_goes request world = record {
   may = tt;
   holds = λ name. refl;
   adds = sym (append-nil world.history);
-  tables = λ name group is. inr (inl (group, is, refl));
+  tables = λ name group fact. inr (inl (group, fact, refl));
 }
 
 by_group : (request : RequestOf) (world : StoreWorld) (name : Draw) (c : Command) → MatchesHoldings request world.history (holdings_in world) → (o : Option Group) → named_group name world.groups ≡ o
@@ -52,7 +52,7 @@ all_move : (request : RequestOf) (world : StoreWorld) (entries : List LogEntry) 
 all_move request world [] holds may = tt
 all_move request world (entry ∷ entries) holds may =
     let moves = entries_move request world entry holds may.0 in
-    (moves, all_move request (told world entry) entries (move_told request world (told world entry) holds moves) may.1)
+    (moves, all_move request (recorded world entry) entries (move_told request world (recorded world entry) holds moves) may.1)
 
 pub entries_report : AppliedEntriesMakeHistory
 entries_report request bases begin entries may =

@@ -110,7 +110,7 @@ promised_held transactions group tx offer e none =
 
 -- and a coordinator
 pub coordinator_held : (transactions : List Transaction) (group : Group) (tx : Draw) (lock : Lock) → group.core.lock ≡ lock → is_coordinating lock tx ≡ true → held_by transactions group ≡ holding_of group
-coordinator_held transactions group tx Free e is = (let no_way : false ≡ true = is in absurd (cc))
-coordinator_held transactions group tx (Coordinating locked body order heard) e is = coordinating_held transactions group (Coordinating locked body order heard) e refl
-coordinator_held transactions group tx (Promised locked offer) e is = (let no_way : false ≡ true = is in absurd (cc))
-coordinator_held transactions group tx (Watching locked watch) e is = (let no_way : false ≡ true = is in absurd (cc))
+coordinator_held transactions group tx Free e fact = (let no_way : false ≡ true = fact in absurd (cc))
+coordinator_held transactions group tx (Coordinating locked body order heard) e fact = coordinating_held transactions group (Coordinating locked body order heard) e refl
+coordinator_held transactions group tx (Promised locked offer) e fact = (let no_way : false ≡ true = fact in absurd (cc))
+coordinator_held transactions group tx (Watching locked watch) e fact = (let no_way : false ≡ true = fact in absurd (cc))

@@ -8,7 +8,7 @@ use Rattle.sc_base.specs.declared.names.Draw.{Draw}
 use Rattle.sc_base.proofs.Lemmas.{same_name}
 use Rattle.sc_words.specs.declared.commands.commands.Command.{Command}
 use Rattle.sc_group_table.specs.machine.Definitions.{Group, group_of, state_after, applied}
-use Rattle.sc_meaning.specs.entries.Definitions.{birth_of, StoreWorld, after_command, first_world, named_group, told, with_group, world_of}
+use Rattle.sc_meaning.specs.entries.Definitions.{birth_of, StoreWorld, after_command, first_world, named_group, recorded, with_group, world_of}
 use Rattle.sc_meaning.specs.declared.entries.LogEntry.{LogEntry}
 use Rattle.sc_meaning.proofs.EntriesProofs.Lemmas.{world_append, found_name, other_name, draw_cases}
 use Rattle.sc_law_entries.specs.history.Definitions.{PrefixesAnswerByHistory, LogsMakeStates, log_in}
@@ -51,12 +51,12 @@ pub logs_make_states : LogsMakeStates
 logs_make_states world name group found [] = found
 logs_make_states world name group found (entry ∷ entries) = elim (draw_cases entry.group name) [
   | inl e ↦ (
-      let now : named_group name (told world entry).groups ≡ Some (applied group entry.command).0 =
+      let now : named_group name (recorded world entry).groups ≡ Some (applied group entry.command).0 =
       ap (λ o. named_group name (after_command world o entry.command).groups) (ap (λ n. named_group n world.groups) e ∙ found) ∙ own_told world name group found entry.command in
-      logs_make_states (told world entry) name (applied group entry.command).0 now entries ∙ ap (λ log. Some (state_after group log)) (sym (own_first name entry entries e)))
+      logs_make_states (recorded world entry) name (applied group entry.command).0 now entries ∙ ap (λ log. Some (state_after group log)) (sym (own_first name entry entries e)))
   | inr ne ↦ (
       let still = other_told world name group found entry.group ne (named_group entry.group world.groups) refl entry.command in
-      logs_make_states (told world entry) name group still entries ∙ ap (λ log. Some (state_after group log)) (sym (other_first name entry entries ne)))
+      logs_make_states (recorded world entry) name group still entries ∙ ap (λ log. Some (state_after group log)) (sym (other_first name entry entries ne)))
 ]
 
 -- entries in two parts, the first of which has this log of the group
@@ -93,9 +93,9 @@ parts_at name (entry ∷ entries) (c ∷ prefix) later e = elim (draw_cases entr
 ]
 
 pub prefixes_answer : PrefixesAnswerByHistory
-prefixes_answer bases entries notes born rest is name group found prefix later log =
+prefixes_answer bases entries notes born rest fact name group found prefix later log =
     let parts = parts_at name rest prefix later log in
-    let whole : entries ≡ (born ++ parts.first) ++ parts.rest = is ∙ ap (λ es. born ++ es) parts.are ∙ sym (append_assoc born parts.first parts.rest) in
+    let whole : entries ≡ (born ++ parts.first) ++ parts.rest = fact ∙ ap (λ es. born ++ es) parts.are ∙ sym (append_assoc born parts.first parts.rest) in
     let there : named_group name (world_of bases (born ++ parts.first)).groups ≡ Some (state_after group prefix) =
     ap (λ (w : StoreWorld). named_group name w.groups) (world_append (first_world bases) born parts.first)
     ∙ logs_make_states (world_of bases born) name group found parts.first

@@ -17,9 +17,9 @@ use Rattle.std.proofs.lemmas.Option.{none-some, same_Some}
 
 -- only the group holds something
 lone : (name : Draw) (holding : Holding) → lone_holdings name ≡ Some holding → (name ≡ parent) × (bare_ring ≡ holding)
-lone name holding is = elim (draw_cases name parent) [
-  | inl e ↦ (e, same_Some bare_ring holding (sym (holding_here parent (Some bare_ring) (λ _. None) name e) ∙ is))
-  | inr ne ↦ absurd (none-some holding (sym (holding_there parent (Some bare_ring) (λ _. None) name ne) ∙ is))
+lone name holding fact = elim (draw_cases name parent) [
+  | inl e ↦ (e, same_Some bare_ring holding (sym (holding_here parent (Some bare_ring) (λ _. None) name e) ∙ fact))
+  | inr ne ↦ absurd (none-some holding (sym (holding_there parent (Some bare_ring) (λ _. None) name ne) ∙ fact))
 ]
 
 ring_fits : IsArc bare_ring.arc × (bare_ring.arc.lo < 2 ^ 32)
@@ -28,12 +28,12 @@ ring_fits = (record { some = omega arith; most = omega arith }, omega arith)
 bare : AreBare lone_holdings
 bare = record {
   disjoint = record {
-    arcs = λ name holding is. subst (λ (h : Holding). IsArc h.arc × (h.arc.lo < 2 ^ 32)) (lone name holding is).1 ring_fits;
-    only = λ p name other holding another is its held held_too. ((lone name holding is).0 ∙ sym (lone other another its).0);
+    arcs = λ name holding fact. subst (λ (h : Holding). IsArc h.arc × (h.arc.lo < 2 ^ 32)) (lone name holding fact).1 ring_fits;
+    only = λ p name other holding another fact its held held_too. ((lone name holding fact).0 ∙ sym (lone other another its).0);
   };
-  bare = λ name holding is. record {
-    pairs = ap (λ (h : Holding). h.pairs) (sym (lone name holding is).1);
-    clients = ap (λ (h : Holding). h.clients) (sym (lone name holding is).1);
+  bare = λ name holding fact. record {
+    pairs = ap (λ (h : Holding). h.pairs) (sym (lone name holding fact).1);
+    clients = ap (λ (h : Holding). h.clients) (sym (lone name holding fact).1);
   };
 }
 
@@ -62,19 +62,19 @@ nothing_of_two =
 
 may : MayMakeAll two_requests lone_holdings example_moves
 may = (
-  record { holding = bare_ring; is = refl; fits = omega arith; cut = (refl, λ e. omega (arith, e)); free = refl },
+  record { holding = bare_ring; fact = refl; fits = omega arith; cut = (refl, λ e. omega (arith, e)); free = refl },
   (
-    record { holding = left; is = refl; its = refl; above = λ n e. absurd (none-some n (sym (get-empty nat_cmp 1) ∙ e)); asked = refl },
+    record { holding = left; fact = refl; its = refl; above = λ n e. absurd (none-some n (sym (get-empty nat_cmp 1) ∙ e)); asked = refl },
     (
       record {
         holding = served;
-        is = refl;
+        fact = refl;
         other = right;
         next_is = refl;
         apart = apart;
         fits = (omega arith, (refl, λ e. omega (arith, e)), (refl, omega arith));
       },
-      (record { holding = gained; is = refl; its = refl; above = λ n e. absurd (none-some n (sym nothing_of_two ∙ e)); asked = refl }, tt),
+      (record { holding = gained; fact = refl; its = refl; above = λ n e. absurd (none-some n (sym nothing_of_two ∙ e)); asked = refl }, tt),
     ),
   ),
 )

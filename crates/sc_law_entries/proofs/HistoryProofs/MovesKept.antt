@@ -16,56 +16,56 @@ use Rattle.sc_meaning.proofs.EntriesProofs.Lemmas.{part_of_nothing as empty_part
 -- ---- one move
 
 no_entry : (request : RequestOf) (history : List Entry) (holdings : Holdings) → MatchesHoldings request history holdings → MatchesHoldings request (history ++ []) holdings
-no_entry request history holdings told = subst (λ es. MatchesHoldings request es holdings) (sym (append-nil history)) told
+no_entry request history holdings recorded = subst (λ es. MatchesHoldings request es holdings) (sym (append-nil history)) recorded
 
 all_good : (request : RequestOf) (history : List Entry) (holdings : Holdings) → MatchesHoldings request history holdings → (name : Draw) → IsGood history (holdings name)
-all_good request history holdings told name holding is = (told.disjoint.arcs name holding is, told.told name holding is)
+all_good request history holdings recorded name holding fact = (recorded.disjoint.arcs name holding fact, recorded.recorded name holding fact)
 
 -- two holdings that share out what two had
 shared_kept : (request : RequestOf) (history : List Entry) (holdings : Holdings) (group other : Draw) (mine theirs : Option Holding) → MatchesHoldings request history holdings
     → SharesOut history holdings group other mine theirs → MatchesHoldings request (history ++ []) (with_holding other theirs (with_holding group mine holdings))
-shared_kept request history holdings group other mine theirs told share =
-    let good = all_good request history holdings told in
+shared_kept request history holdings group other mine theirs recorded share =
+    let good = all_good request history holdings recorded in
     no_entry request history _ (record {
-      legal = told.legal;
-      asked = told.asked;
-      disjoint = shared_disjoint history holdings group other mine theirs told.disjoint good share;
-      told = shared_told history holdings group other mine theirs told.disjoint good share;
+      legal = recorded.legal;
+      asked = recorded.asked;
+      disjoint = shared_disjoint history holdings group other mine theirs recorded.disjoint good share;
+      recorded = shared_told history holdings group other mine theirs recorded.disjoint good share;
     })
 
 pub move_kept : MovesKeepHistories
-move_kept request history holdings Unmoved told may = no_entry request history holdings told
-move_kept request history holdings (ServedBy group client seq op) told may = served_kept request history holdings told group client seq op may
-move_kept request history holdings (DividedAt group at child) told may =
-    shared_kept request history holdings group child _ _ told (divided history holdings told.disjoint (all_good request history holdings told) group at child may)
-move_kept request history holdings (JoinedTo group next) told may =
-    shared_kept request history holdings group next _ _ told (joined_up history holdings told.disjoint (all_good request history holdings told) group next may)
-move_kept request history holdings (GivenFrom group at next) told may =
-    shared_kept request history holdings group next _ _ told (given history holdings told.disjoint (all_good request history holdings told) group at next may)
-move_kept request history holdings (TakenUpTo group at next) told may =
-    shared_kept request history holdings group next _ _ told (taken history holdings told.disjoint (all_good request history holdings told) group at next may)
+move_kept request history holdings Unmoved recorded may = no_entry request history holdings recorded
+move_kept request history holdings (ServedBy group client seq op) recorded may = served_kept request history holdings recorded group client seq op may
+move_kept request history holdings (DividedAt group at child) recorded may =
+    shared_kept request history holdings group child _ _ recorded (divided history holdings recorded.disjoint (all_good request history holdings recorded) group at child may)
+move_kept request history holdings (JoinedTo group next) recorded may =
+    shared_kept request history holdings group next _ _ recorded (joined_up history holdings recorded.disjoint (all_good request history holdings recorded) group next may)
+move_kept request history holdings (GivenFrom group at next) recorded may =
+    shared_kept request history holdings group next _ _ recorded (given history holdings recorded.disjoint (all_good request history holdings recorded) group at next may)
+move_kept request history holdings (TakenUpTo group at next) recorded may =
+    shared_kept request history holdings group next _ _ recorded (taken history holdings recorded.disjoint (all_good request history holdings recorded) group at next may)
 
 -- holdings that are the same at each name match the same history
 pub same_told : (request : RequestOf) (history : List Entry) (holdings others : Holdings) → ((name : Draw) → others name ≡ holdings name) → MatchesHoldings request history holdings → MatchesHoldings request history others
-same_told request history holdings others same told = record {
-  legal = told.legal;
-  asked = told.asked;
+same_told request history holdings others same recorded = record {
+  legal = recorded.legal;
+  asked = recorded.asked;
   disjoint = record {
-    arcs = λ name holding is. told.disjoint.arcs name holding (sym (same name) ∙ is);
-    only = λ p name other holding another is its held held_too. told.disjoint.only p name other holding another (sym (same name) ∙ is) (sym (same other) ∙ its) held held_too;
+    arcs = λ name holding fact. recorded.disjoint.arcs name holding (sym (same name) ∙ fact);
+    only = λ p name other holding another fact its held held_too. recorded.disjoint.only p name other holding another (sym (same name) ∙ fact) (sym (same other) ∙ its) held held_too;
   };
-  told = λ name holding is. told.told name holding (sym (same name) ∙ is);
+  recorded = λ name holding fact. recorded.recorded name holding (sym (same name) ∙ fact);
 }
 
 -- ---- all moves
 
 tells_on : (request : RequestOf) (history : List Entry) (holdings : Holdings) (moves : List Move) → MatchesHoldings request history holdings → MayMakeAll request holdings moves
     → MatchesHoldings request (history ++ history_by holdings moves) (holdings_after_all holdings moves)
-tells_on request history holdings [] told may = no_entry request history holdings told
-tells_on request history holdings (move ∷ moves) told may =
+tells_on request history holdings [] recorded may = no_entry request history holdings recorded
+tells_on request history holdings (move ∷ moves) recorded may =
     let next = holdings_after move holdings in
     subst (λ es. MatchesHoldings request es (holdings_after_all next moves)) (append_assoc history (entries_by move holdings) (history_by next moves))
-    (tells_on request (history ++ entries_by move holdings) next moves (move_kept request history holdings move told may.0) may.1)
+    (tells_on request (history ++ entries_by move holdings) next moves (move_kept request history holdings move recorded may.0) may.1)
 
 may_prefix : (request : RequestOf) (holdings : Holdings) (prefix more : List Move) → MayMakeAll request holdings (prefix ++ more) → MayMakeAll request holdings prefix
 may_prefix request holdings [] more may = tt
@@ -85,8 +85,8 @@ bare_told request holdings bare = record {
   legal = record { replay = tt; once = λ i j d below inside. absurd (omega arith) };
   asked = λ e a. absurd a;
   disjoint = bare.disjoint;
-  told = λ name holding is. (
-      let none = bare.bare name holding is in
+  recorded = λ name holding fact. (
+      let none = bare.bare name holding fact in
       record {
         pairs = none.pairs ∙ sym (empty_part holding.arc);
         noted = λ e a h. absurd a;
@@ -100,9 +100,9 @@ tells_all request holdings bare moves may = tells_on request [] holdings moves (
 pub moves_make_history : MovesMakeHistories
 moves_make_history request holdings bare moves may = (
   tells_all request holdings bare moves may,
-  λ prefix more is group holding found client n e. (
-      let first = tells_all request holdings bare prefix (may_prefix request holdings prefix more (subst (MayMakeAll request holdings) is may)) in
-      let had = (first.told group holding found).notes client n e in
-      subst (λ es. HasEntry es client n.seq n.reply) (sym (ap (history_by holdings) is ∙ history_prefix holdings prefix more))
+  λ prefix more fact group holding found client n e. (
+      let first = tells_all request holdings bare prefix (may_prefix request holdings prefix more (subst (MayMakeAll request holdings) fact may)) in
+      let had = (first.recorded group holding found).notes client n e in
+      subst (λ es. HasEntry es client n.seq n.reply) (sym (ap (history_by holdings) fact ∙ history_prefix holdings prefix more))
       (entry_later (history_by holdings prefix) (history_by (holdings_after_all holdings prefix) more) client n.seq n.reply had)),
 )

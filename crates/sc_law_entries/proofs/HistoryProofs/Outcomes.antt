@@ -118,18 +118,18 @@ other_concluded ts tx coordinator name outcome ne =
 -- the coordinator's own is decided
 pub own_concluded : (ts : List Transaction) (tx coordinator : Draw) (outcome : Outcome) (found : Transaction) → transaction_in tx ts ≡ Some found → found.coordinator ≡ coordinator
     → decision tx (concluded (Some outcome) tx coordinator ts) ≡ Some outcome
-own_concluded [] tx coordinator outcome found e is = (let no_way : None ≡ Some found = e in absurd (cc))
-own_concluded (t ∷ ts) tx coordinator outcome found e is =
+own_concluded [] tx coordinator outcome found e fact = (let no_way : None ≡ Some found = e in absurd (cc))
+own_concluded (t ∷ ts) tx coordinator outcome found e fact =
     let rest = concluded (Some outcome) tx coordinator ts in
     elim (cases_Bool (same_draw t.tx tx)) [
       | inl here ↦ (
           let same : t ≡ found = same_Some t found (sym (cond-true (same_draw t.tx tx) (Some t) _ here) ∙ e) in
-          let of : is_of tx coordinator t ≡ true = and_from (same_draw t.tx tx) (same_draw t.coordinator coordinator) here (same_name t.coordinator coordinator (ap (λ (x : Transaction). x.coordinator) same ∙ is)) in
+          let of : is_of tx coordinator t ≡ true = and_from (same_draw t.tx tx) (same_draw t.coordinator coordinator) here (same_name t.coordinator coordinator (ap (λ (x : Transaction). x.coordinator) same ∙ fact)) in
           ap (λ x. decision tx (x ∷ rest)) (cond-true (is_of tx coordinator t) (with_outcome (Some outcome) t) t of)
           ∙ first_outcome (with_outcome (Some outcome) t) rest tx (draw_is t.tx tx here))
       | inr there ↦ (
           let not : is_of tx coordinator t ≡ false = ap (λ b. b && same_draw t.coordinator coordinator) there in
           ap (λ x. decision tx (x ∷ rest)) (cond-false (is_of tx coordinator t) (with_outcome (Some outcome) t) t not)
           ∙ found_first t rest tx ∙ cond-false (same_draw t.tx tx) t.outcome _ there
-          ∙ own_concluded ts tx coordinator outcome found (sym (cond-false (same_draw t.tx tx) (Some t) _ there) ∙ e) is)
+          ∙ own_concluded ts tx coordinator outcome found (sym (cond-false (same_draw t.tx tx) (Some t) _ there) ∙ e) fact)
     ]

@@ -42,8 +42,8 @@ is_join arc next can = ap (λ b. b && nat_le (arc.len + next.len) (2 ^ 32)) (eq-
 
 -- what is cut off the end of an arc meets what the arc meets
 pub rest_meets : (arc next : Arc) (at : ℕ) → IsArc arc → arc.lo < 2 ^ 32 → at < 2 ^ 32 → CanCut arc at → CanJoin arc next → CanJoin (from arc at) next
-rest_meets arc next at is fits at_fits cut can =
-    let parts = cuts_join arc at fits at_fits is cut in
+rest_meets arc next at fact fits at_fits cut can =
+    let parts = cuts_join arc at fits at_fits fact cut in
     let inside : offset arc at < arc.len = ltb-true _ _ cut.0 in
     (can.0 ∙ ap end_of (sym parts.same) ∙ (joins_hold (before arc at) (from arc at) fits parts.first parts.second parts.can).end, (let sum = can.1 in omega (arith, sum, inside)))
 

@@ -27,7 +27,7 @@ others_held transactions tx coordinator outcome group (Watching locked watch) e 
 others_held transactions tx coordinator outcome group (Promised locked offer) e apart = elim (draw_cases locked tx) [
   | inl same ↦ absurd (apart offer (ap (λ x. Promised x offer) same))
   | inr ne ↦ ap holding_of (same_party group.core.lock (concluded (Some outcome) tx coordinator transactions) transactions group
-      (λ t is. ap commit_in (other_concluded transactions tx coordinator t outcome (λ same. ne (same_Some locked t (sym (ap locked_in e) ∙ is) ∙ same)))))
+      (λ t fact. ap commit_in (other_concluded transactions tx coordinator t outcome (λ same. ne (same_Some locked t (sym (ap locked_in e) ∙ fact) ∙ same)))))
 ]
 
 module _ (world : StoreWorld) (group : Group) (tx : Draw) (frozen : Frozen) (own : IsItsOwn world group tx) (party : IsParty world group tx frozen) where
@@ -43,7 +43,7 @@ module _ (world : StoreWorld) (group : Group) (tx : Draw) (frozen : Frozen) (own
     pub next_after : held_by (concluded (Some outcome) tx group.core.id world.transactions) party.next ≡ holding_of (after_outcome (Some outcome) tx party.next)
     next_after =
         ap (λ lock. holding_of (effective_by lock (concluded (Some outcome) tx group.core.id world.transactions) party.next)) party.lock
-        ∙ ap (λ o. holding_of (after_outcome o tx party.next)) (own_concluded world.transactions tx group.core.id outcome own.transaction own.is own.coordinator)
+        ∙ ap (λ o. holding_of (after_outcome o tx party.next)) (own_concluded world.transactions tx group.core.id outcome own.transaction own.fact own.coordinator)
 
     pub others_after : (name : Draw) (other : Group) → (name ≡ group.core.succ.group → ⊥) → named_group name world.groups ≡ Some other → held_by (concluded (Some outcome) tx group.core.id world.transactions) other ≡ held_by world.transactions other
-    others_after name other ne is = others_held world.transactions tx group.core.id outcome other other.core.lock refl (λ offer e. ne (party.only name other offer is e))
+    others_after name other ne fact = others_held world.transactions tx group.core.id outcome other other.core.lock refl (λ offer e. ne (party.only name other offer fact e))

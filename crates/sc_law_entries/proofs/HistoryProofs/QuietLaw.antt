@@ -43,8 +43,8 @@ module _ (bases : List Base) (begin : BeginBare bases) where
   -- what is held at first is held by a group of the scenario
   first_of : (name : Draw) (holding : Holding) → holdings_in (first_world bases) name ≡ Some holding
       → (base : Base) × Among base bases × (base.core.id ≡ name) × (holding_of (group_of base) ≡ holding)
-  first_of name holding is =
-      let k = map-some holding_of (named_group name (map group_of bases)) holding (sym (holdings_are (first_world bases) refl (first_cuts bases) name) ∙ is) in
+  first_of name holding fact =
+      let k = map-some holding_of (named_group name (map group_of bases)) holding (sym (holdings_are (first_world bases) refl (first_cuts bases) name) ∙ fact) in
       let f = find_found (is_named name) (map group_of bases) k.0 k.1 in
       let b = from_map group_of bases k.0 f.0 in
       (b.0, b.1, ap (λ (g : Group). g.core.id) b.2 ∙ draw_is k.0.core.id name f.1, ap holding_of b.2 ∙ k.2)
@@ -60,11 +60,11 @@ module _ (bases : List Base) (begin : BeginBare bases) where
   first_bare : AreBare (holdings_in (first_world bases))
   first_bare = record {
     disjoint = record {
-      arcs = λ name holding is. (
-          let b = first_of name holding is in
+      arcs = λ name holding fact. (
+          let b = first_of name holding fact in
           subst (λ (h : Holding). IsOnRing h.arc) b.3 (begin.covers.arcs (first_cut b.0) (arc_cut b.0 b.1)));
-      only = λ p name other holding another is its held held_too. (
-          let b = first_of name holding is in
+      only = λ p name other holding another fact its held held_too. (
+          let b = first_of name holding fact in
           let d = first_of other another its in
           let here = (begin.covers.arcs (first_cut b.0) (arc_cut b.0 b.1)).1 in
           let there = (begin.covers.arcs (first_cut d.0) (arc_cut d.0 d.1)).1 in
@@ -73,8 +73,8 @@ module _ (bases : List Base) (begin : BeginBare bases) where
           (holds_round d.0.core.arc p there ∙ ap (λ (h : Holding). holds h.arc p) d.3 ∙ held_too) in
           sym b.2 ∙ ap (λ (c : Cut). c.group) one ∙ d.2);
     };
-    bare = λ name holding is. (
-        let b = first_of name holding is in
+    bare = λ name holding fact. (
+        let b = first_of name holding fact in
         let none = begin.bare b.0 b.1 in
         record {
           pairs = ap (λ (h : Holding). h.pairs) (sym b.3) ∙ ap (with_pairs empty) none.pairs;
@@ -91,7 +91,7 @@ module _ (bases : List Base) (begin : BeginBare bases) where
     transactions = refl;
     ring = refl;
     cuts = first_cuts bases;
-    told = first_recorded request;
+    recorded = first_recorded request;
   }
 
   -- and what the groups note at the start
@@ -111,14 +111,14 @@ cut_arc world covers cut a arc e =
 
 told_world : (request : RequestOf) (bases : List Base) (world : StoreWorld) → BeginBare bases → IsQuietWorld request bases world → HistoryMatchesWorld request world
 told_world request bases world begin quiet = record {
-  legal = quiet.told.legal;
-  told = quiet.told;
-  parts = λ cut a group is. (
+  legal = quiet.recorded.legal;
+  recorded = quiet.recorded;
+  parts = λ cut a group fact. (
       let covers = subst Covers (sym quiet.ring) begin.covers in
-      let found = sym (effective_is world quiet.transactions cut.group) ∙ is in
+      let found = sym (effective_is world quiet.transactions cut.group) ∙ fact in
       let arc = cut_arc world covers cut a group.core.arc (quiet.cuts cut.group group found) in
       let holds = holdings_are world quiet.transactions quiet.cuts cut.group ∙ ap (option_map holding_of) found in
-      (quiet.told.told cut.group (holding_of group) holds).pairs ∙ ap (λ a. part_of a (contents_after empty world.history)) (sym arc));
+      (quiet.recorded.recorded cut.group (holding_of group) holds).pairs ∙ ap (λ a. part_of a (contents_after empty world.history)) (sym arc));
 }
 
 quiet_world : (request : RequestOf) (bases : List Base) → BeginBare bases → (entries : List LogEntry) → Each (IsQuiet request) entries → IsQuietWorld request bases (world_of bases entries)
@@ -130,10 +130,10 @@ quiet_entries_history request bases begin entries each =
     record {
       world = told_world request bases (world_of bases entries) begin world;
       ring = world.ring;
-      notes = λ prefix more is name group found. (
-          let first = quiet_world request bases begin prefix (Each-split (IsQuiet request) prefix more (subst (Each (IsQuiet request)) is each)).0 in
+      notes = λ prefix more fact name group found. (
+          let first = quiet_world request bases begin prefix (Each-split (IsQuiet request) prefix more (subst (Each (IsQuiet request)) fact each)).0 in
           let had = own_notes request bases (world_of bases prefix) first name group found in
           subst (λ (w : StoreWorld). HasNotes w.history group.clients)
-          (sym (ap (world_of bases) is ∙ world_append (first_world bases) prefix more))
+          (sym (ap (world_of bases) fact ∙ world_append (first_world bases) prefix more))
           (notes_grow (world_of bases prefix) more group had));
     }

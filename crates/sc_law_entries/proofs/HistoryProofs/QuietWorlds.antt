@@ -15,7 +15,7 @@ use Rattle.sc_words.specs.ideal.Definitions.{ClientTable, HasEntry}
 use Rattle.sc_words.specs.declared.ideal.Entry.{Entry}
 use Rattle.sc_group_table.specs.machine.Definitions.{Group, entry_of, applied, done, ordered, refusal_of, with_node, without_node}
 use Rattle.sc_meaning.specs.declared.entries.LogEntry.{LogEntry}
-use Rattle.sc_meaning.specs.entries.Definitions.{effective, effective_by, arc_in, first_cut, birth_of, StoreWorld, after_command, named_group, told, with_result, world_after}
+use Rattle.sc_meaning.specs.entries.Definitions.{effective, effective_by, arc_in, first_cut, birth_of, StoreWorld, after_command, named_group, recorded, with_result, world_after}
 use Rattle.sc_law_entries.proofs.HistoryProofs.Elsewhere.{own_group, here, there}
 use Rattle.sc_law_entries.specs.history.Definitions.{LeavesWhole, Holding, RequestOf, MayServe, MatchesHoldings, HasNotes, ServedBy, entries_by, holding_of, holdings_after, request_entry, with_request, holdings_in, IsAskedCall, IsQuiet}
 use Rattle.sc_law_entries.proofs.HistoryProofs.Disjoint.{holding_here, holding_there}
@@ -66,7 +66,7 @@ pub record IsQuietWorld (request : RequestOf) (bases : List Base) (world : Store
   pub transactions : world.transactions ≡ []
   pub ring : world.ring ≡ map first_cut bases
   pub cuts : HaveCuts world
-  pub told : MatchesHoldings request world.history (holdings_in world)
+  pub recorded : MatchesHoldings request world.history (holdings_in world)
 
 module _ (request : RequestOf) (bases : List Base) (world : StoreWorld) (quiet : IsQuietWorld request bases world) (name : Draw) (group : Group) (found : named_group name world.groups ≡ Some group)
     (c : Command) (keeps : LeavesWhole c) (result : Group × Effect) (only : OnlyMembers group.core result.0.core) where
@@ -86,15 +86,15 @@ module _ (request : RequestOf) (bases : List Base) (world : StoreWorld) (quiet :
   ring_is = same_ring group.core c result.1 world.ring keeps
 
   cuts_are : HaveCuts after
-  cuts_are other now is =
+  cuts_are other now fact =
       ap (arc_in other) ring_is
       ∙ elim (draw_cases other group.core.id) as (λ _. arc_in other world.ring ≡ Some now.core.arc) [
         | inl e ↦ (
-            let same : Some result.0 ≡ Some now = sym (here world name group found c result id_is unborn other e) ∙ is in
+            let same : Some result.0 ≡ Some now = sym (here world name group found c result id_is unborn other e) ∙ fact in
             let it : result.0 ≡ now = cc in
             quiet.cuts other group (ap (λ n. named_group n world.groups) e ∙ own_group world name group found c result id_is unborn)
             ∙ ap Some (sym (ap (λ (core : Core). core.arc) only) ∙ ap (λ (g : Group). g.core.arc) it))
-        | inr ne ↦ quiet.cuts other now (sym (there world name group found c result id_is unborn other ne) ∙ is)
+        | inr ne ↦ quiet.cuts other now (sym (there world name group found c result id_is unborn other ne) ∙ fact)
       ]
 
   before_is : (other : Draw) → holdings_in world other ≡ option_map holding_of (named_group other world.groups)
@@ -114,13 +114,13 @@ module _ (request : RequestOf) (bases : List Base) (world : StoreWorld) (quiet :
 
   -- with what the history says of it
   quiet_with : MatchesHoldings request after.history (holdings_in after) → IsQuietWorld request bases after
-  quiet_with told = record { transactions = transactions_are; ring = ring_is ∙ quiet.ring; cuts = cuts_are; told = told }
+  quiet_with recorded = record { transactions = transactions_are; ring = ring_is ∙ quiet.ring; cuts = cuts_are; recorded = recorded }
 
   -- an entry that leaves what is held
   idle : holding_of result.0 ≡ holding_of group → entry_of c result.1 ≡ [] → IsQuietWorld request bases after
   idle same none = quiet_with (subst (λ es. MatchesHoldings request (world.history ++ es) (holdings_in after)) (sym none)
       (subst (λ es. MatchesHoldings request es (holdings_in after)) (sym (append-nil world.history))
-      (same_told request world.history (holdings_in world) (holdings_in after) as_before quiet.told)))
+      (same_told request world.history (holdings_in world) (holdings_in after) as_before quiet.recorded)))
     where
       as_before : (other : Draw) → holdings_in after other ≡ holdings_in world other
       as_before other = elim (draw_cases other group.core.id) [
@@ -134,10 +134,10 @@ module _ (request : RequestOf) (bases : List Base) (world : StoreWorld) (quiet :
   serving client seq op takes asked holds entry =
       let move = ServedBy group.core.id client seq op in
       let may : MayServe request (holdings_in world) group.core.id client seq op =
-      record { holding = holding_of group; is = own_holding; its = takes.its; above = takes.above; asked = asked } in
+      record { holding = holding_of group; fact = own_holding; its = takes.its; above = takes.above; asked = asked } in
       quiet_with (subst (λ es. MatchesHoldings request (world.history ++ es) (holdings_in after)) (ap (λ o. request_entry o client seq op) own_holding ∙ sym entry)
       (same_told request (world.history ++ entries_by move (holdings_in world)) (holdings_after move (holdings_in world)) (holdings_in after) as_moved
-      (move_kept request world.history (holdings_in world) move quiet.told may)))
+      (move_kept request world.history (holdings_in world) move quiet.recorded may)))
     where
       mine : option_map (with_request client seq op) (holdings_in world group.core.id) ≡ Some (with_request client seq op (holding_of group))
       mine = ap (option_map (with_request client seq op)) own_holding
@@ -175,13 +175,13 @@ by_group request bases world quiet name c keeps asked None e = quiet
 by_group request bases world quiet name c keeps asked (Some group) e = quiet_after request bases world quiet name group e c keeps asked
 
 -- one quiet entry more
-pub quiet_told : (request : RequestOf) (bases : List Base) (world : StoreWorld) (entry : LogEntry) → IsQuietWorld request bases world → IsQuiet request entry → IsQuietWorld request bases (told world entry)
-quiet_told request bases world entry quiet is = by_group request bases world quiet entry.group entry.command is.whole is.asked (named_group entry.group world.groups) refl
+pub quiet_told : (request : RequestOf) (bases : List Base) (world : StoreWorld) (entry : LogEntry) → IsQuietWorld request bases world → IsQuiet request entry → IsQuietWorld request bases (recorded world entry)
+quiet_told request bases world entry quiet fact = by_group request bases world quiet entry.group entry.command fact.whole fact.asked (named_group entry.group world.groups) refl
 
 -- all of them
 pub quiet_all : (request : RequestOf) (bases : List Base) (world : StoreWorld) (entries : List LogEntry) → IsQuietWorld request bases world → Each (IsQuiet request) entries → IsQuietWorld request bases (world_after world entries)
 quiet_all request bases world [] quiet each = quiet
-quiet_all request bases world (entry ∷ entries) quiet each = quiet_all request bases (told world entry) entries (quiet_told request bases world entry quiet each.0) each.1
+quiet_all request bases world (entry ∷ entries) quiet each = quiet_all request bases (recorded world entry) entries (quiet_told request bases world entry quiet each.0) each.1
 
 -- ---- the history only grows
 
@@ -194,7 +194,7 @@ pub history_grows : (world : StoreWorld) (entries : List LogEntry) → (more : L
 history_grows world [] = ([], sym (append-nil world.history))
 history_grows world (entry ∷ entries) =
     let first = by_result world (named_group entry.group world.groups) entry.command in
-    let rest = history_grows (told world entry) entries in
+    let rest = history_grows (recorded world entry) entries in
     (first.0 ++ rest.0, rest.1 ∙ ap (λ es. es ++ rest.0) first.1 ∙ append_assoc world.history first.0 rest.0)
 
 -- what was noted stays in the history
@@ -209,4 +209,4 @@ notes_grow world entries group = tables_grow world entries group.clients
 -- the notes of a group by its own log
 pub own_notes : (request : RequestOf) (bases : List Base) (world : StoreWorld) → IsQuietWorld request bases world → (name : Draw) (group : Group) → named_group name world.groups ≡ Some group → HasNotes world.history group.clients
 own_notes request bases world quiet name group found =
-    (quiet.told.told name (holding_of group) (holdings_are world quiet.transactions quiet.cuts name ∙ ap (option_map holding_of) found)).notes
+    (quiet.recorded.recorded name (holding_of group) (holdings_are world quiet.transactions quiet.cuts name ∙ ap (option_map holding_of) found)).notes

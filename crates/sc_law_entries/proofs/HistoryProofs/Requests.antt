@@ -32,7 +32,7 @@ module _ (group : Group) (client seq : ℕ) (op : Op) (P : Group × Effect → T
         open_now = opened;
         here = here;
         its = its;
-        above = λ m e. (let same : Some n ≡ Some m = sym some ∙ e in let is : n ≡ m = cc in subst (λ (x : Noted). x.seq < seq) is (ltb-true n.seq seq lt));
+        above = λ m e. (let same : Some n ≡ Some m = sym some ∙ e in let fact : n ≡ m = cc in subst (λ (x : Noted). x.seq < seq) fact (ltb-true n.seq seq lt));
       }))
       (λ _. cond_both (eqb n.seq seq) _ _ P (λ _. quiet (Again n.reply) refl) (λ _. quiet (Stale n.seq) refl))
 

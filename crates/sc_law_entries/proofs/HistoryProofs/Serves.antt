@@ -23,10 +23,10 @@ use Rattle.sc_meaning.proofs.EntriesProofs.Lemmas.{draw_cases}
 
 -- an open group holds what its own log says
 open_held : (lock : Lock) (transactions : List Transaction) (group : Group) → group.core.lock ≡ lock → is_open lock ≡ true → held_by transactions group ≡ holding_of group
-open_held Free transactions group e is = free_held transactions group e
-open_held (Watching tx watch) transactions group e is = watching_held transactions group tx watch e
-open_held (Coordinating tx body order heard) transactions group e is = (let no_way : false ≡ true = is in absurd (cc))
-open_held (Promised tx offer) transactions group e is = (let no_way : false ≡ true = is in absurd (cc))
+open_held Free transactions group e fact = free_held transactions group e
+open_held (Watching tx watch) transactions group e fact = watching_held transactions group tx watch e
+open_held (Coordinating tx body order heard) transactions group e fact = (let no_way : false ≡ true = fact in absurd (cc))
+open_held (Promised tx offer) transactions group e fact = (let no_way : false ≡ true = fact in absurd (cc))
 
 module _ (request : RequestOf) (world : StoreWorld) (name : Draw) (group : Group) (found : named_group name world.groups ≡ Some group) (client seq : ℕ) (op : Op) (may : MayCall request world group client seq op) where
   abbrev result : Group × Effect
@@ -48,10 +48,10 @@ module _ (request : RequestOf) (world : StoreWorld) (name : Draw) (group : Group
       let mine : option_map (with_request client seq op) (holdings_in world group.core.id) ≡ Some (with_request client seq op (holding_of group)) = ap (option_map (with_request client seq op)) own in
       record {
         move = ServedBy group.core.id client seq op;
-        may = record { holding = holding_of group; is = own; its = takes.its; above = takes.above; asked = may.asked };
+        may = record { holding = holding_of group; fact = own; its = takes.its; above = takes.above; asked = may.asked };
         holds = λ other. elim (draw_cases other group.core.id) [
           | inl e ↦ ap (holdings_in after) e ∙ now ∙ sym mine ∙ sym (holding_here group.core.id (option_map (with_request client seq op) (holdings_in world group.core.id)) (holdings_in world) other e)
-          | inr ne ↦ elsewhere world name group found (Call client seq op) result refl refl other ne refl (λ g is. refl)
+          | inr ne ↦ elsewhere world name group found (Call client seq op) result refl refl other ne refl (λ g fact. refl)
               ∙ sym (holding_there group.core.id (option_map (with_request client seq op) (holdings_in world group.core.id)) (holdings_in world) other ne)
         ];
         adds = ap (λ o. world.history ++ request_entry o client seq op) (sym own);

@@ -32,7 +32,7 @@ not_held : (b : Bool) → (b ≡ true → ⊥) → b ≡ false
 not_held true no_way = absurd (no_way refl)
 not_held false no_way = refl
 
-module _ (request : RequestOf) (history : List Entry) (holdings : Holdings) (told : MatchesHoldings request history holdings)
+module _ (request : RequestOf) (history : List Entry) (holdings : Holdings) (recorded : MatchesHoldings request history holdings)
     (group : Draw) (client seq : ℕ) (op : Op) (may : MayServe request holdings group client seq op) where
   abbrev holding : Holding
   holding = may.holding
@@ -50,7 +50,7 @@ module _ (request : RequestOf) (history : List Entry) (holdings : Holdings) (tol
   map = contents_after empty history
 
   here : IsReportedOf history holding
-  here = told.told group holding may.is
+  here = recorded.recorded group holding may.fact
 
   -- the reply is that of the whole map
   reply_is : reply_of op holding.pairs ≡ reply_of op map
@@ -62,8 +62,8 @@ module _ (request : RequestOf) (history : List Entry) (holdings : Holdings) (tol
   -- no request of the history has this client and number
   first_time : (e : Entry) → Among e history → e.client ≡ client → e.seq ≡ seq → ⊥
   first_time e among same number =
-      let is : e.op ≡ op = told.asked e among ∙ ap (λ c. request c e.seq) same ∙ ap (request client) number ∙ sym may.asked in
-      let old = here.noted e among (ap (λ o. holds_key holding.arc (key_of o)) is ∙ may.its) in
+      let fact : e.op ≡ op = recorded.asked e among ∙ ap (λ c. request c e.seq) same ∙ ap (request client) number ∙ sym may.asked in
+      let old = here.noted e among (ap (λ o. holds_key holding.arc (key_of o)) fact ∙ may.its) in
       let less = may.above old.noted (ap (get holding.clients) (sym same) ∙ old.found) in
       let most = old.most in
       omega (arith, less, most, number)
@@ -137,44 +137,44 @@ module _ (request : RequestOf) (history : List Entry) (holdings : Holdings) (tol
   mine = option_map (with_request client seq op) (holdings group)
 
   mine_is : mine ≡ Some served
-  mine_is = ap (option_map (with_request client seq op)) may.is
+  mine_is = ap (option_map (with_request client seq op)) may.fact
 
   abbrev changed : Holdings
   changed = with_holding group mine holdings
 
   -- what a group has afterwards has the arc that it had
   same_arc : (name : Draw) (now : Holding) → changed name ≡ Some now → (old : Holding) × (holdings name ≡ Some old) × (old.arc ≡ now.arc)
-  same_arc name now is = elim (draw_cases name group) [
+  same_arc name now fact = elim (draw_cases name group) [
     | inl e ↦ (
-        let same : Some served ≡ Some now = sym mine_is ∙ sym (holding_here group mine holdings name e) ∙ is in
+        let same : Some served ≡ Some now = sym mine_is ∙ sym (holding_here group mine holdings name e) ∙ fact in
         let it : served ≡ now = cc in
-        (holding, ap holdings e ∙ may.is, ap (λ (h : Holding). h.arc) it))
-    | inr ne ↦ (now, sym (holding_there group mine holdings name ne) ∙ is, refl)
+        (holding, ap holdings e ∙ may.fact, ap (λ (h : Holding). h.arc) it))
+    | inr ne ↦ (now, sym (holding_there group mine holdings name ne) ∙ fact, refl)
   ]
 
   changed_disjoint : AreDisjoint changed
   changed_disjoint = record {
-    arcs = λ name now is. (let old = same_arc name now is in subst (λ a. IsOnRing a) old.2 (told.disjoint.arcs name old.0 old.1));
-    only = λ p name other now another is its held held_too. (
-        let old = same_arc name now is in
+    arcs = λ name now fact. (let old = same_arc name now fact in subst (λ a. IsOnRing a) old.2 (recorded.disjoint.arcs name old.0 old.1));
+    only = λ p name other now another fact its held held_too. (
+        let old = same_arc name now fact in
         let older = same_arc other another its in
-        told.disjoint.only p name other old.0 older.0 old.1 older.1
+        recorded.disjoint.only p name other old.0 older.0 old.1 older.1
         (ap (λ a. holds a p) old.2 ∙ held) (ap (λ a. holds a p) older.2 ∙ held_too));
   }
 
   changed_told : (name : Draw) (now : Holding) → changed name ≡ Some now → IsReportedOf (history ++ new ∷ []) now
-  changed_told name now is = elim (draw_cases name group) [
+  changed_told name now fact = elim (draw_cases name group) [
     | inl e ↦ (
-        let same : Some served ≡ Some now = sym mine_is ∙ sym (holding_here group mine holdings name e) ∙ is in
+        let same : Some served ≡ Some now = sym mine_is ∙ sym (holding_here group mine holdings name e) ∙ fact in
         let it : served ≡ now = cc in
         subst (IsReportedOf (history ++ new ∷ [])) it served_told)
     | inr ne ↦ (
-        let was = sym (holding_there group mine holdings name ne) ∙ is in
-        other_told now (not_held _ (λ held. ne (told.disjoint.only (pos_of (key_of op)) name group now holding was may.is held may.its))) (told.told name now was))
+        let was = sym (holding_there group mine holdings name ne) ∙ fact in
+        other_told now (not_held _ (λ held. ne (recorded.disjoint.only (pos_of (key_of op)) name group now holding was may.fact held may.its))) (recorded.recorded name now was))
   ]
 
   asked_now : (e : Entry) → Among e history ⊎ Among e (new ∷ []) → e.op ≡ request e.client e.seq
-  asked_now e (inl a) = told.asked e a
+  asked_now e (inl a) = recorded.asked e a
   asked_now e (inr (inl same)) = subst (λ (x : Entry). x.op ≡ request x.client x.seq) same may.asked
   asked_now e (inr (inr n)) = absurd n
 
@@ -182,13 +182,13 @@ module _ (request : RequestOf) (history : List Entry) (holdings : Holdings) (tol
   tells_served : MatchesHoldings request (history ++ new ∷ []) changed
   tells_served = record {
     legal = record {
-      replay = replay_push empty history new told.legal.replay reply_is;
-      once = all_pairs (history ++ new ∷ []) (apart_push history new (one_by_one history told.legal.once) first_time);
+      replay = replay_push empty history new recorded.legal.replay reply_is;
+      once = all_pairs (history ++ new ∷ []) (apart_push history new (one_by_one history recorded.legal.once) first_time);
     };
     asked = λ e among. asked_now e (Among-either e history (new ∷ []) among);
     disjoint = changed_disjoint;
-    told = changed_told;
+    recorded = changed_told;
   }
 
   pub served_kept : MatchesHoldings request (history ++ entries_by (ServedBy group client seq op) holdings) (holdings_after (ServedBy group client seq op) holdings)
-  served_kept = subst (λ o. MatchesHoldings request (history ++ request_entry o client seq op) changed) (sym may.is) tells_served
+  served_kept = subst (λ o. MatchesHoldings request (history ++ request_entry o client seq op) changed) (sym may.fact) tells_served

@@ -61,7 +61,7 @@ module _ (request : RequestOf) (world : StoreWorld) (name : Draw) (group : Group
         holds = λ other. elim (draw_cases other group.core.id) [
           | inl e ↦ itself world name group found c result id_is unborn other e (cuts other) own
           | inr ne ↦ elsewhere world name group found c result id_is unborn other ne (cuts other)
-              (λ g is. ap holding_of (same_party g.core.lock after.transactions world.transactions g (λ tx _. commits tx)))
+              (λ g fact. ap holding_of (same_party g.core.lock after.transactions world.transactions g (λ tx _. commits tx)))
         ];
         adds = ap (λ es. world.history ++ es) none;
         tables = tables_from world name group found c result id_is unborn known;
@@ -172,7 +172,7 @@ module _ (request : RequestOf) (world : StoreWorld) (name : Draw) (group : Group
   pub give_up_goes : (tx : Draw) → (is_coordinating group.core.lock tx ≡ true → IsUncommitted world tx) → Goes request world name group found (GiveUp tx) (applied group (GiveUp tx))
   give_up_goes tx open_still =
       cond_both (is_coordinating group.core.lock tx) _ _ (Goes request world name group found (GiveUp tx))
-      (λ is. stays request world name group found (GiveUp tx) (aborted group tx) refl refl (λ other. refl)
-      (λ t. abort_concluded world.transactions tx group.core.id t (none_committed world tx (open_still is)))
-      (sym (coordinator_held world.transactions group tx group.core.lock refl is)) refl refl)
+      (λ fact. stays request world name group found (GiveUp tx) (aborted group tx) refl refl (λ other. refl)
+      (λ t. abort_concluded world.transactions tx group.core.id t (none_committed world tx (open_still fact)))
+      (sym (coordinator_held world.transactions group tx group.core.lock refl fact)) refl refl)
       (λ _. idles request world name group found (GiveUp tx) (Was.NoEffect tx) refl refl refl refl)

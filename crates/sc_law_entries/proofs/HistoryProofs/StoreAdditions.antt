@@ -28,8 +28,8 @@ use Rattle.sc_law_entries.proofs.HistoryProofs.Kept.{IsApart, all_pairs, apart_p
 
 -- one entry more has its reply, and leaves its map
 pub replay_push : (contents : Contents) (entries : List Entry) (e : Entry) → HasStoreReplies contents entries → e.reply ≡ reply_of e.op (contents_after contents entries) → HasStoreReplies contents (entries ++ e ∷ [])
-replay_push contents [] e r is = (is, tt)
-replay_push contents (x ∷ xs) e r is = (r.0, replay_push (after x.op contents) xs e r.1 is)
+replay_push contents [] e r fact = (fact, tt)
+replay_push contents (x ∷ xs) e r fact = (r.0, replay_push (after x.op contents) xs e r.1 fact)
 
 pub after_push : (contents : Contents) (entries : List Entry) (e : Entry) → contents_after contents (entries ++ e ∷ []) ≡ after e.op (contents_after contents entries)
 after_push contents [] e = refl
@@ -49,15 +49,15 @@ entry_later entries more client seq reply h =
 
 -- what comes of a request: the group, and its effect
 record IsGood (entries : List Entry) (client seq : ℕ) (op : Op) (x : Group × Effect) : Type 0 where
-  told : IsTold (entries ++ entry_by client seq op x.1) x.0
+  recorded : IsTold (entries ++ entry_by client seq op x.1) x.0
   replies : (reply : Reply) → IsReplied x.1 reply → HasEntry (entries ++ entry_by client seq op x.1) client seq reply
 
-module _ (entries : List Entry) (group : Group) (client seq : ℕ) (op : Op) (told : IsTold entries group) where
+module _ (entries : List Entry) (group : Group) (client seq : ℕ) (op : Op) (recorded : IsTold entries group) where
   nothing : (effect : Effect) → entry_by client seq op effect ≡ [] → ((reply : Reply) → IsReplied effect reply → HasEntry entries client seq reply) → IsGood entries client seq op (group, effect)
   nothing effect none replies =
       let same : entries ≡ entries ++ entry_by client seq op effect = sym (append-nil entries) ∙ ap (λ es. entries ++ es) (sym none) in
       record {
-        told = subst (λ es. IsTold es group) same told;
+        recorded = subst (λ es. IsTold es group) same recorded;
         replies = λ reply e. subst (λ es. HasEntry es client seq reply) same (replies reply e);
       }
 
@@ -84,12 +84,12 @@ module _ (entries : List Entry) (group : Group) (client seq : ℕ) (op : Op) (to
               subst (λ (x : Noted). HasEntry (entries ++ new ∷ []) who x.seq x.reply) same
               (subst (λ c. HasEntry (entries ++ new ∷ []) c seq (reply_of op group.pairs)) (sym (eqb-true who client t)) last_is))
           | inr f ↦ entry_later entries (new ∷ []) who n.seq n.reply
-              (told.noted who n (sym (found_at who ∙ cond-false (eqb who client) (Some note) (get group.clients who) f) ∙ e))
+              (recorded.noted who n (sym (found_at who ∙ cond-false (eqb who client) (Some note) (get group.clients who) f) ∙ e))
         ]
 
     latest_old : (e : Entry) → Among e entries → IsNoted (done group client seq op).0 e
     latest_old e a =
-        let before = told.latest e a in
+        let before = recorded.latest e a in
         elim (cases_Bool (eqb e.client client)) [
           | inl t ↦ (let less = higher e a (eqb-true e.client client t) in
               record { noted = note; found = found_at e.client ∙ cond-true (eqb e.client client) (Some note) (get group.clients e.client) t; most = omega (arith, less) })
@@ -105,10 +105,10 @@ module _ (entries : List Entry) (group : Group) (client seq : ℕ) (op : Op) (to
 
     new_done : IsGood entries client seq op (done group client seq op)
     new_done = record {
-      told = record {
-        replay = replay_push empty entries new told.replay (ap (reply_of op) (sym told.pairs));
-        apart = apart_push entries new told.apart (λ e a same number. (let less = higher e a same in omega (arith, less, number)));
-        pairs = after_push empty entries new ∙ ap (after op) told.pairs;
+      recorded = record {
+        replay = replay_push empty entries new recorded.replay (ap (reply_of op) (sym recorded.pairs));
+        apart = apart_push entries new recorded.apart (λ e a same number. (let less = higher e a same in omega (arith, less, number)));
+        pairs = after_push empty entries new ∙ ap (after op) recorded.pairs;
         noted = noted_after;
         latest = λ e a. latest_after e (Among-either e entries (new ∷ []) a);
       };
@@ -120,24 +120,24 @@ module _ (entries : List Entry) (group : Group) (client seq : ℕ) (op : Op) (to
 
   by_note : (o : Option Noted) → get group.clients client ≡ o → IsGood entries client seq op (served_by_note o group client seq op)
   by_note None none = new_done (λ e a same. (
-      let before = told.latest e a in
+      let before = recorded.latest e a in
       let got : Some before.noted ≡ None = sym before.found ∙ ap (get group.clients) same ∙ none in
       absurd (cc)))
   by_note (Some n) some =
       cond_both (nat_lt n.seq seq) _ _ (IsGood entries client seq op)
       (λ lt. new_done (λ e a same. (
-      let before = told.latest e a in
+      let before = recorded.latest e a in
       let less = ltb-true n.seq seq lt in
       let got : Some before.noted ≡ Some n = sym before.found ∙ ap (get group.clients) same ∙ some in
-      let is : before.noted ≡ n = cc in
-      let most : e.seq ≤ n.seq = subst (λ (x : Noted). e.seq ≤ x.seq) is before.most in
+      let fact : before.noted ≡ n = cc in
+      let most : e.seq ≤ n.seq = subst (λ (x : Noted). e.seq ≤ x.seq) fact before.most in
       omega (arith, less, most))))
       (λ _. cond_both (eqb n.seq seq) _ _ (IsGood entries client seq op)
       (λ t. nothing (Again n.reply) refl (λ reply r. elim r [
         | inl e ↦ cc
         | inr e ↦ (
             let same : n.reply ≡ reply = cc in
-            subst (HasEntry entries client seq) same (subst (λ m. HasEntry entries client m n.reply) (eqb-true n.seq seq t) (told.noted client n some)))
+            subst (HasEntry entries client seq) same (subst (λ m. HasEntry entries client m n.reply) (eqb-true n.seq seq t) (recorded.noted client n some)))
       ]))
       (λ _. nothing (Stale n.seq) refl (λ reply r. elim r [ inl e ↦ cc | inr e ↦ cc ])))
 
@@ -160,35 +160,35 @@ module _ (entries : List Entry) (group : Group) (client seq : ℕ) (op : Op) (to
 -- ---- a log
 
 of_same : (entries : List Entry) (group other : Group) → other.pairs ≡ group.pairs → other.clients ≡ group.clients → IsTold entries group → IsTold entries other
-of_same entries group other pairs clients told = record {
-  replay = told.replay;
-  apart = told.apart;
-  pairs = told.pairs ∙ sym pairs;
-  noted = λ client noted e. told.noted client noted (sym (ap (λ t. get t client) clients) ∙ e);
-  latest = λ entry a. (let k = told.latest entry a in record { noted = k.noted; found = ap (λ t. get t entry.client) clients ∙ k.found; most = k.most });
+of_same entries group other pairs clients recorded = record {
+  replay = recorded.replay;
+  apart = recorded.apart;
+  pairs = recorded.pairs ∙ sym pairs;
+  noted = λ client noted e. recorded.noted client noted (sym (ap (λ t. get t client) clients) ∙ e);
+  latest = λ entry a. (let k = recorded.latest entry a in record { noted = k.noted; found = ap (λ t. get t entry.client) clients ∙ k.found; most = k.most });
 }
 
 idle : (entries : List Entry) (group : Group) → IsTold entries group → IsTold (entries ++ []) group
-idle entries group told = subst (λ es. IsTold es group) (sym (append-nil entries)) told
+idle entries group recorded = subst (λ es. IsTold es group) (sym (append-nil entries)) recorded
 
 -- an order changes neither pairs nor client table
 one_more : (entries : List Entry) (group : Group) (c : Command) → LeavesWhole c → IsTold entries group → IsTold (entries ++ entry_of c (applied group c).1) (applied group c).0
-one_more entries group (Call client seq op) keeps told = (by_lock entries group client seq op told group.core.gone group.core.lock).told
-one_more entries group (Join node order) keeps told =
+one_more entries group (Call client seq op) keeps recorded = (by_lock entries group client seq op recorded group.core.gone group.core.lock).recorded
+one_more entries group (Join node order) keeps recorded =
     ordered_either (IsTold (entries ++ [])) group.core.gone (refusal_of group.core (Join node order)) (with_node group node) group
-    (idle entries (with_node group node) (of_same entries group (with_node group node) refl refl told)) (idle entries group told)
-one_more entries group (Leave node order) keeps told =
+    (idle entries (with_node group node) (of_same entries group (with_node group node) refl refl recorded)) (idle entries group recorded)
+one_more entries group (Leave node order) keeps recorded =
     ordered_either (IsTold (entries ++ [])) group.core.gone (refusal_of group.core (Leave node order)) (without_node group node) group
-    (idle entries (without_node group node) (of_same entries group (without_node group node) refl refl told)) (idle entries group told)
-one_more entries group Noop keeps told = idle entries group told
-one_more entries group _ keeps told = absurd keeps
+    (idle entries (without_node group node) (of_same entries group (without_node group node) refl refl recorded)) (idle entries group recorded)
+one_more entries group Noop keeps recorded = idle entries group recorded
+one_more entries group _ keeps recorded = absurd keeps
 
 recorded_next : (entries : List Entry) (group : Group) (log : List Command) → Each LeavesWhole log → IsTold entries group → IsTold (entries ++ done_by group log) (state_after group log)
-recorded_next entries group [] keeps told = idle entries group told
-recorded_next entries group (c ∷ log) keeps told =
+recorded_next entries group [] keeps recorded = idle entries group recorded
+recorded_next entries group (c ∷ log) keeps recorded =
     let new = entry_of c (applied group c).1 in
     subst (λ es. IsTold es (state_after group (c ∷ log))) (append_assoc entries new (done_by (applied group c).0 log))
-    (recorded_next (entries ++ new) (applied group c).0 log keeps.1 (one_more entries group c keeps.0 told))
+    (recorded_next (entries ++ new) (applied group c).0 log keeps.1 (one_more entries group c keeps.0 recorded))
 
 at_start : (group : Group) → HoldsNothing group → IsTold [] group
 at_start group none = record {
@@ -247,8 +247,8 @@ entry_there group (c ∷ log) zero client seq d =
     let effect : Some (applied group c).1 ≡ Some (Done d.reply) = d.effect in
     let call_is : c ≡ Call client seq d.op = cc in
     let effect_is : (applied group c).1 ≡ Done d.reply = cc in
-    let is = done_entry c (applied group c).1 client seq d.op d.reply call_is effect_is in
-    (e, Among-left e (entry_of c (applied group c).1) (done_by (applied group c).0 log) (subst (Among e) (sym is) (inl refl)), refl, refl)
+    let fact = done_entry c (applied group c).1 client seq d.op d.reply call_is effect_is in
+    (e, Among-left e (entry_of c (applied group c).1) (done_by (applied group c).0 log) (subst (Among e) (sym fact) (inl refl)), refl, refl)
 entry_there group (c ∷ log) (suc place) client seq d =
     let k = entry_there (applied group c).0 log place client seq (record { op = d.op; reply = d.reply; call = d.call; effect = d.effect }) in
     (k.0, Among-right k.0 (entry_of c (applied group c).1) (done_by (applied group c).0 log) k.1, k.2, k.3)
@@ -259,9 +259,9 @@ not_later group c log place client seq a d later =
     let effect : Some (applied group c).1 ≡ Some (Done d.reply) = d.effect in
     let call_is : c ≡ Call client seq d.op = cc in
     let effect_is : (applied group c).1 ≡ Done d.reply = cc in
-    let is = done_entry c (applied group c).1 client seq d.op d.reply call_is effect_is in
+    let fact = done_entry c (applied group c).1 client seq d.op d.reply call_is effect_is in
     let other = entry_there (applied group c).0 log place client seq later in
-    let apart = subst (λ es. IsApart (es ++ done_by (applied group c).0 log)) is a in
+    let apart = subst (λ es. IsApart (es ++ done_by (applied group c).0 log)) fact a in
     Each-among _ (done_by (applied group c).0 log) other.0 apart.0 other.1 (sym other.2) (sym other.3)
 
 one_place : (group : Group) (log : List Command) → IsApart (done_by group log) → (place other client seq : ℕ) → IsDone group log place client seq → IsDone group log other client seq → place ≡ other
@@ -276,14 +276,14 @@ one_place group (c ∷ log) a (suc place) (suc other) client seq d f =
 -- each log of calls, joins and leaves makes a history
 pub log_makes_history : LogsMakeHistories
 log_makes_history group none log keeps =
-    let told = recorded_next [] group log keeps (at_start group none) in
+    let recorded = recorded_next [] group log keeps (at_start group none) in
     record {
-      tells = record { legal = record { replay = told.replay; once = all_pairs (done_by group log) told.apart }; pairs = told.pairs; noted = told.noted; latest = told.latest };
+      tells = record { legal = record { replay = recorded.replay; once = all_pairs (done_by group log) recorded.apart }; pairs = recorded.pairs; noted = recorded.noted; latest = recorded.latest };
       backlog = calls_of group log;
       replies = λ client seq op reply r.
           (let after = state_after group log in
           subst (λ es. HasEntry es client seq reply) (sym (done_push group log (Call client seq op)))
-          ((by_lock (done_by group log) after client seq op told after.core.gone after.core.lock).replies reply r));
+          ((by_lock (done_by group log) after client seq op recorded after.core.gone after.core.lock).replies reply r));
       places = place_of group log;
-      once = one_place group log told.apart;
+      once = one_place group log recorded.apart;
     }

@@ -19,10 +19,10 @@ all_allowed sources bases start entries allowed name slot (c ∷ cs) each =
     let e : LogEntry = record { group = name; slot = slot; command = c } in
     let w : StoryWorld = recorded_after (first_recorded bases) entries in
     let one : AreAllowed sources w (e ∷ []) = (each.0, tt) in
-    let is : recorded_after (first_recorded bases) (entries ++ e ∷ []) ≡ recorded_next w e = recorded_append (first_recorded bases) entries (e ∷ []) in
+    let fact : recorded_after (first_recorded bases) (entries ++ e ∷ []) ≡ recorded_next w e = recorded_append (first_recorded bases) entries (e ∷ []) in
     let later : Each (IsAllowed sources (stories_of bases (entries ++ e ∷ [])) name) cs = Each-weaker (IsAllowed sources w.stories name) (IsAllowed sources (stories_of bases (entries ++ e ∷ [])) name)
-    (λ d a. subst (λ (x : StoryWorld). IsAllowed sources x.stories name d) (sym is) (allowed_entries_stay_allowed sources bases entries (e ∷ []) start allowed one name d a)) cs each.1 in (
+    (λ d a. subst (λ (x : StoryWorld). IsAllowed sources x.stories name d) (sym fact) (allowed_entries_stay_allowed sources bases entries (e ∷ []) start allowed one name d a)) cs each.1 in (
       each.0,
-      subst (λ x. AreAllowed sources x (entries_from name (slot + 1) cs)) is
+      subst (λ x. AreAllowed sources x (entries_from name (slot + 1) cs)) fact
           (all_allowed sources bases start (entries ++ e ∷ []) (allowed_lists_append sources (first_recorded bases) entries (e ∷ []) allowed one) name (slot + 1) cs later),
     )

@@ -47,7 +47,7 @@ record IsAt (name : Draw) (entries : List LogEntry) (prefix : List Command) (com
   are : entries ≡ first ++ entry ∷ more
   log : log_in name first ≡ prefix
   its : entry.group ≡ name
-  is : entry.command ≡ command
+  fact : entry.command ≡ command
 
 none_left : (prefix : List Command) (command : Command) (later : List Command) → [] ≡ prefix ++ command ∷ later → ⊥
 none_left [] command later e = cc
@@ -61,7 +61,7 @@ find_other name e entries prefix command ne at = record {
   are = ap (λ es. e ∷ es) at.are;
   log = other_first name e at.first ne ∙ at.log;
   its = at.its;
-  is = at.is;
+  fact = at.fact;
 }
 
 find_entry : (name : Draw) (entries : List LogEntry) (prefix : List Command) (command : Command) (later : List Command) → log_in name entries ≡ prefix ++ command ∷ later → IsAt name entries prefix command
@@ -74,7 +74,7 @@ find_entry name (x ∷ entries) [] command later e = elim (draw_cases x.group na
     are = refl;
     log = refl;
     its = same;
-    is = (heads x.command command (log_in name entries) later (sym (own_first name x entries same) ∙ e)).0;
+    fact = (heads x.command command (log_in name entries) later (sym (own_first name x entries same) ∙ e)).0;
   }
   | inr ne ↦ find_other name x entries [] command ne (find_entry name entries [] command later (sym (other_first name x entries ne) ∙ e))
 ]
@@ -89,7 +89,7 @@ find_entry name (x ∷ entries) (c ∷ prefix) command later e = elim (draw_case
         are = ap (λ es. x ∷ es) at.are;
         log = own_first name x at.first same ∙ ap (λ cs. x.command ∷ cs) at.log ∙ ap (λ d. d ∷ prefix) both.0;
         its = at.its;
-        is = at.is;
+        fact = at.fact;
       })
   | inr ne ↦ find_other name x entries (c ∷ prefix) command ne (find_entry name entries (c ∷ prefix) command later (sym (other_first name x entries ne) ∙ e))
 ]
@@ -118,10 +118,10 @@ module _ (sources : Sources) (bases : List Base) (start : BeginInPlace sources b
       (stays sources bases start (before ++ entry ∷ []) more (subst (AreAllowed sources (first_recorded bases)) (sym again) allowed) name command (allowed_after first rest.0))
 
 pub prefixes_allow : PrefixesAllow
-prefixes_allow sources ahead bases start rows h base a prefix entry later is name command makes =
+prefixes_allow sources ahead bases start rows h base a prefix entry later fact name command makes =
     let k = deciding_rows sources ahead bases start rows h in
     let b = k.born base (group_found ahead bases rows base a) in
-    let at = find_entry base.core.id b.rest prefix entry later (b.log_is ∙ is) in
+    let at = find_entry base.core.id b.rest prefix entry later (b.log_is ∙ fact) in
     let before = b.first ++ at.first in
     let group : Group = state_after (group_of base) prefix in
     let whole : entries_at ahead bases rows ≡ before ++ at.entry ∷ at.more = b.are ∙ ap (λ es. b.first ++ es) at.are ∙ sym (append_assoc b.first at.first (at.entry ∷ at.more)) in
@@ -130,16 +130,16 @@ prefixes_allow sources ahead bases start rows h base a prefix entry later is nam
     ∙ logs_make_states (world_of bases b.first) base.core.id (group_of base) b.there at.first ∙ ap (λ cs. Some (state_after (group_of base) cs)) at.log in
     subst (λ es. IsAllowed sources (stories_of bases es) name command) (sym whole)
     (allows sources bases start before at.entry group (ap (λ n. named_group n (world_of bases before).groups) at.its ∙ there) name command
-    (subst (λ n. MakesAllowed sources n group at.entry.command name command) (sym at.its) (subst (λ c. MakesAllowed sources base.core.id group c name command) (sym at.is) makes))
+    (subst (λ n. MakesAllowed sources n group at.entry.command name command) (sym at.its) (subst (λ c. MakesAllowed sources base.core.id group c name command) (sym at.fact) makes))
     at.more (subst (AreAllowed sources (first_recorded bases)) whole k.allowed))
 
 -- ---- what a group makes allowed as it stands
 
 pub states_allow : StatesAllow
-states_allow sources ahead bases start rows h base a prefix later is name command stands =
+states_allow sources ahead bases start rows h base a prefix later fact name command stands =
     let k = deciding_rows sources ahead bases start rows h in
     let b = k.born base (group_found ahead bases rows base a) in
-    let at = parts_at base.core.id b.rest prefix later (b.log_is ∙ is) in
+    let at = parts_at base.core.id b.rest prefix later (b.log_is ∙ fact) in
     let before = b.first ++ at.first in
     let group : Group = state_after (group_of base) prefix in
     let whole : entries_at ahead bases rows ≡ before ++ at.rest = b.are ∙ ap (λ es. b.first ++ es) at.are ∙ sym (append_assoc b.first at.first at.rest) in

@@ -18,7 +18,7 @@ use Rattle.sc_words.specs.declared.commands.votes.Past.{Past}
 use Rattle.sc_words.specs.declared.commands.votes.Vote.{Vote}
 use Rattle.sc_words.specs.commands.Definitions.{decided_in}
 use Rattle.sc_group_table.specs.machine.Definitions.{Group, applied, asks_watcher, participant_answered, vote_recorded, watch_answered, watch_recorded, is_coordinating, aborted}
-use Rattle.sc_law_entries.specs.ring.Definitions.{Sources, Groups, Facts, IsCoordinating, IsPromised, LockOk, Story, Stories, retold, with_answer, with_decision, with_watch_vote, watch_vote_in}
+use Rattle.sc_law_entries.specs.ring.Definitions.{Sources, Groups, Facts, IsCoordinating, IsPromised, LockOk, Story, Stories, with_story, with_answer, with_decision, with_watch_vote, watch_vote_in}
 use Rattle.sc_law_entries.proofs.RingProofs.Lemmas.{at-same}
 use Rattle.sc_law_entries.specs.logs.Definitions.{GroupAllows, EndsBy, GroupsAllowOthers}
 
@@ -57,48 +57,48 @@ by_giving (Watching t watch) group tx outcome e = absurd (no_decision tx outcome
 by_giving (Coordinating t body order heard) group tx outcome e = by_name t tx body order heard group (aborted group tx) outcome e
 
 -- a story that goes on
-recorded_next_is : (stories : Stories) (tx : Draw) (change : Story → Story) (story : Story) → stories tx ≡ Some story → retold stories tx change tx ≡ Some (change story)
-recorded_next_is stories tx change story is = at-same stories tx (option_map change (stories tx)) ∙ ap (option_map change) is
+recorded_next_is : (stories : Stories) (tx : Draw) (change : Story → Story) (story : Story) → stories tx ≡ Some story → with_story stories tx change tx ≡ Some (change story)
+recorded_next_is stories tx change story fact = at-same stories tx (option_map change (stories tx)) ∙ ap (option_map change) fact
 
 module _ (sources : Sources) (by : Draw) (group : Group) where
-  module _ (groups : Groups) (stories : Stories) (facts : Facts sources.owner groups stories) (is : groups by ≡ Some group) where
+  module _ (groups : Groups) (stories : Stories) (facts : Facts sources.owner groups stories) (fact : groups by ≡ Some group) where
     coordinator : (tx : Draw) (body : Body) (order : ℕ) (heard : Option Heard) → group.core.lock ≡ Coordinating tx body order heard → IsCoordinating stories by group tx body heard
-    coordinator tx body order heard lock = subst (LockOk stories by group) lock (facts.group by group is).lock_ok
+    coordinator tx body order heard lock = subst (LockOk stories by group) lock (facts.group by group fact).lock_ok
 
     participant : (tx : Draw) (offer : Offer) → group.core.lock ≡ Promised tx offer → IsPromised stories by group tx offer
-    participant tx offer lock = subst (LockOk stories by group) lock (facts.group by group is).lock_ok
+    participant tx offer lock = subst (LockOk stories by group) lock (facts.group by group fact).lock_ok
 
     -- the story of who decides, with the outcome
     ended : (tx : Draw) (change : Effect → Story → Story) (effect : Effect) (outcome : Outcome) → effect ≡ Decided outcome → ((story : Story) → (change (Decided outcome) story).outcome ≡ Some outcome)
-        → Coordinates group.core.lock tx → (story : Story) × (retold stories tx (change effect) tx ≡ Some story) × (story.outcome ≡ Some outcome)
+        → Coordinates group.core.lock tx → (story : Story) × (with_story stories tx (change effect) tx ≡ Some story) × (story.outcome ≡ Some outcome)
     ended tx change effect outcome e ends (body, order, heard, lock) =
         let own = coordinator tx body order heard lock in
-        (change effect own.story, recorded_next_is stories tx (change effect) own.story own.is, ap (λ x. (change x own.story).outcome) e ∙ ends own.story)
+        (change effect own.story, recorded_next_is stories tx (change effect) own.story own.fact, ap (λ x. (change x own.story).outcome) e ∙ ends own.story)
 
   ends_by_vote : (tx : Draw) (vote : Vote) (node : ℕ) → EndsBy sources by group tx (RecordVote tx vote node)
-  ends_by_vote tx vote node outcome e name groups stories facts is may =
-      ended groups stories facts is tx (with_answer group.core vote) (applied group (RecordVote tx vote node)).1 outcome e (λ story. refl) (by_vote group.core.lock group tx vote node outcome e)
+  ends_by_vote tx vote node outcome e name groups stories facts fact may =
+      ended groups stories facts fact tx (with_answer group.core vote) (applied group (RecordVote tx vote node)).1 outcome e (λ story. refl) (by_vote group.core.lock group tx vote node outcome e)
 
   ends_by_watch : (tx : Draw) (vote : Past) (node : ℕ) → EndsBy sources by group tx (RecordWatch tx vote node)
-  ends_by_watch tx vote node outcome e name groups stories facts is may =
-      ended groups stories facts is tx (λ effect. with_decision (decided_in effect)) (applied group (RecordWatch tx vote node)).1 outcome e (λ story. refl) (by_watch group.core.lock group tx vote outcome e)
+  ends_by_watch tx vote node outcome e name groups stories facts fact may =
+      ended groups stories facts fact tx (λ effect. with_decision (decided_in effect)) (applied group (RecordWatch tx vote node)).1 outcome e (λ story. refl) (by_watch group.core.lock group tx vote outcome e)
 
   ends_by_giving : (tx : Draw) → EndsBy sources by group tx (GiveUp tx)
-  ends_by_giving tx outcome e name groups stories facts is may =
-      ended groups stories facts is tx (λ effect. with_decision (decided_in effect)) (applied group (GiveUp tx)).1 outcome e (λ story. refl) (by_giving group.core.lock group tx outcome e)
+  ends_by_giving tx outcome e name groups stories facts fact may =
+      ended groups stories facts fact tx (λ effect. with_decision (decided_in effect)) (applied group (GiveUp tx)).1 outcome e (λ story. refl) (by_giving group.core.lock group tx outcome e)
 
   pub group_allows : GroupAllows sources by group
   group_allows = record {
-    offers = λ tx body order heard lock offer offered groups stories facts is. (
-        let own = coordinator groups stories facts is tx body order heard lock in
-        (own.story, own.is, own.offer ∙ offered, refl));
-    asks = λ tx body order heard lock watch asked groups stories facts is. (
-        let own = coordinator groups stories facts is tx body order heard lock in
-        (own.story, own.is, own.watch ∙ asked, refl));
-    promises = λ tx offer lock name node groups stories facts is. (
-        let own = participant groups stories facts is tx offer lock in
-        (own.story, own.is, own.vote));
-    watches = λ tx watch e name node groups stories facts is may. (
+    offers = λ tx body order heard lock offer offered groups stories facts fact. (
+        let own = coordinator groups stories facts fact tx body order heard lock in
+        (own.story, own.fact, own.offer ∙ offered, refl));
+    asks = λ tx body order heard lock watch asked groups stories facts fact. (
+        let own = coordinator groups stories facts fact tx body order heard lock in
+        (own.story, own.fact, own.watch ∙ asked, refl));
+    promises = λ tx offer lock name node groups stories facts fact. (
+        let own = participant groups stories facts fact tx offer lock in
+        (own.story, own.fact, own.vote));
+    watches = λ tx watch e name node groups stories facts fact may. (
         let effect = (applied group (Watched tx watch)).1 in
         let change = λ (x : Effect). with_watch_vote (watch_vote_in x) in
         (change effect may.0, recorded_next_is stories tx (change effect) may.0 may.1, ap (λ x. (change x may.0).watch_vote) e));

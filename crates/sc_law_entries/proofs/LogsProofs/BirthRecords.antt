@@ -27,9 +27,9 @@ HaveTwoNames one other = one.core.id ≡ other.core.id → ⊥
 pub flat_map_one : {Y : Type 0} (f : Base → List Y) (bases : List Base) → Pairwise HaveTwoNames bases → (base : Base) → Among base bases
     → ((other : Base) → Among other bases → (other.core.id ≡ base.core.id → ⊥) → f other ≡ []) → flat_map f bases ≡ f base
 flat_map_one f [] apart base a none = absurd a
-flat_map_one f (b ∷ bases) apart base (inl is) none =
-    ap (λ ys. f b ++ ys) (flat_map_none f bases (λ other a. none other (inr a) (λ same. Each-among (HaveTwoNames b) bases other apart.0 a (ap (λ (x : Base). x.core.id) is ∙ sym same))))
-    ∙ append-nil (f b) ∙ ap f is
+flat_map_one f (b ∷ bases) apart base (inl fact) none =
+    ap (λ ys. f b ++ ys) (flat_map_none f bases (λ other a. none other (inr a) (λ same. Each-among (HaveTwoNames b) bases other apart.0 a (ap (λ (x : Base). x.core.id) fact ∙ sym same))))
+    ∙ append-nil (f b) ∙ ap f fact
 flat_map_one f (b ∷ bases) apart base (inr a) none =
     ap (λ ys. ys ++ flat_map f bases) (none b (inl refl) (λ same. Each-among (HaveTwoNames b) bases base apart.0 a same))
     ∙ flat_map_one f bases apart.1 base a (λ other there. none other (inr there))
@@ -47,7 +47,7 @@ find_base (b ∷ bases) base a only =
     ]
   where
     behind : Among base (b ∷ bases) → is_birth_of base.core.id b ≡ false → Among base bases
-    behind (inl is) f = absurd (let t = same_name b.core.id base.core.id (ap (λ (x : Base). x.core.id) is) in let no_way : true ≡ false = sym t ∙ f in cc)
+    behind (inl fact) f = absurd (let t = same_name b.core.id base.core.id (ap (λ (x : Base). x.core.id) fact) in let no_way : true ≡ false = sym t ∙ f in cc)
     behind (inr there) f = there
 
 -- where none has the name, none is found
@@ -89,7 +89,7 @@ HasNamed c bases = (b : Base) × Among b bases × (b.core.id ≡ c.core.id)
 with_from : (bases : List Base) (c b : Base) → Among b (with_birth bases c) → Among b bases ⊎ (c ≡ b)
 with_from bases c b = birth_cases (λ bs. Among b bs → Among b bases ⊎ (c ≡ b)) bases c (λ t a. inl a) (λ f a. elim (Among-either b bases (c ∷ []) a) [
   | inl there ↦ inl there
-  | inr (inl is) ↦ inr is
+  | inr (inl fact) ↦ inr fact
   | inr (inr n) ↦ absurd n
 ])
 
@@ -111,7 +111,7 @@ with_apart bases c apart = birth_cases (Pairwise HaveTwoNames) bases c (λ t. ap
 pub births_from : (bases more : List Base) (b : Base) → Among b (fold with_birth bases more) → Among b bases ⊎ Among b more
 births_from bases [] b a = inl a
 births_from bases (c ∷ more) b a = elim (births_from (with_birth bases c) more b a) [
-  | inl there ↦ elim (with_from bases c b there) [ inl old ↦ inl old | inr is ↦ inr (inl is) ]
+  | inl there ↦ elim (with_from bases c b there) [ inl old ↦ inl old | inr fact ↦ inr (inl fact) ]
   | inr there ↦ inr (inr there)
 ]
 
@@ -121,9 +121,9 @@ births_still bases (c ∷ more) b a = births_still (with_birth bases c) more b (
 
 pub births_named : (bases more : List Base) (c : Base) → Among c more → HasNamed c (fold with_birth bases more)
 births_named bases [] c a = absurd a
-births_named bases (d ∷ more) c (inl is) =
+births_named bases (d ∷ more) c (inl fact) =
     let k = with_named bases d in
-    (k.0, births_still (with_birth bases d) more k.0 k.1, k.2 ∙ ap (λ (x : Base). x.core.id) is)
+    (k.0, births_still (with_birth bases d) more k.0 k.1, k.2 ∙ ap (λ (x : Base). x.core.id) fact)
 births_named bases (d ∷ more) c (inr a) = births_named (with_birth bases d) more c a
 
 pub births_apart : (bases more : List Base) → Pairwise HaveTwoNames bases → Pairwise HaveTwoNames (fold with_birth bases more)

@@ -8,7 +8,7 @@ use Rattle.sc_words.specs.declared.commands.cores.Base.{Base}
 use Rattle.sc_words.specs.declared.commands.effects.Effect.{Effect}
 use Rattle.sc_paxos_law.proofs.Lemmas.{Among-right}
 use Rattle.sc_group_table.specs.machine.Definitions.{Group, group_of, state_after, entry_of, done_by, applied, child_of}
-use Rattle.sc_meaning.specs.entries.Definitions.{birth_of, division_of, StoreWorld, after_command, named_group, told, world_after}
+use Rattle.sc_meaning.specs.entries.Definitions.{birth_of, division_of, StoreWorld, after_command, named_group, recorded, world_after}
 use Rattle.sc_meaning.specs.declared.entries.Division.{Division}
 use Rattle.sc_meaning.specs.declared.entries.LogEntry.{LogEntry}
 use Rattle.sc_law_entries.proofs.HistoryProofs.Lemmas.{logs_make_states, applied_same}
@@ -84,7 +84,7 @@ module _ (sources : Sources) (name : Draw) where
     r = applied group c
 
     abbrev now : StoreWorld
-    now = told w.store entry
+    now = recorded w.store entry
 
     named : group.core.id ≡ name
     named = found_name name w.store.groups group found
@@ -98,8 +98,8 @@ module _ (sources : Sources) (name : Draw) where
     -- a child's name is new
     fresh : (child : Base) → birth ≡ Some child → named_group child.core.id w.store.groups ≡ None
     fresh child e =
-        let (d, is, same) = born_as group (division_of group.core c r.1) child e in
-        ap gs (sym same) ∙ (fits sources (arcs_in w.store.ring) gs w.stories name group kept.kept found c allowed).births d is
+        let (d, fact, same) = born_as group (division_of group.core c r.1) child e in
+        ap gs (sym same) ∙ (fits sources (arcs_in w.store.ring) gs w.stories name group kept.kept found c allowed).births d fact
 
     other_than_own : (child : Base) → birth ≡ Some child → child.core.id ≡ group.core.id → ⊥
     other_than_own child e same = some_none group (sym here ∙ ap gs (sym same) ∙ fresh child e)
@@ -138,8 +138,8 @@ module _ (sources : Sources) (name : Draw) where
 
     -- who is not there afterwards was not there
     not_there : (other : Draw) → named_group other now.groups ≡ None → named_group other w.store.groups ≡ None
-    not_there other e = none_there (named_group other w.store.groups) (λ it is. (
-        let (later, there) = stays_there w.store other it is (entry ∷ []) in
+    not_there other e = none_there (named_group other w.store.groups) (λ it fact. (
+        let (later, there) = stays_there w.store other it fact (entry ∷ []) in
         some_none later (sym there ∙ e)))
 
     module _ (cs : List Command) (more : BornBy name now (slot + 1) r.0 cs) where
@@ -169,7 +169,7 @@ module _ (sources : Sources) (name : Draw) where
       push_who : (other : Draw) → IsOldOrOneOf now rest other → IsOldOrOneOf w.store (children_of group (c ∷ cs)) other
       push_who other (inl (old, e)) = elim (old_or_child other old e) [
         | inl was ↦ inl was
-        | inr (child, is, same) ↦ inr (child, joined_first birth rest child is, same)
+        | inr (child, fact, same) ↦ inr (child, joined_first birth rest child fact, same)
       ]
       push_who other (inr (child, a, same)) = inr (child, Among-right child (option_to_list birth) rest a, same)
 

@@ -43,7 +43,7 @@ log_of_others name (entry ∷ entries) others = other_first name entry entries (
 -- the entries of one group are of that group
 pub entries_of : (name : Draw) (slot : ℕ) (cs : List Command) (entry : LogEntry) → Among entry (entries_from name slot cs) → name ≡ entry.group
 entries_of name slot [] entry a = absurd a
-entries_of name slot (c ∷ cs) entry (inl is) = ap (λ (x : LogEntry). x.group) is
+entries_of name slot (c ∷ cs) entry (inl fact) = ap (λ (x : LogEntry). x.group) fact
 entries_of name slot (c ∷ cs) entry (inr a) = entries_of name (slot + 1) cs entry a
 
 -- and they are its log

@@ -55,7 +55,7 @@ brief_some (Some t) b e = (t, refl, same_Some (brief t) b e)
 abort_false : (o : Outcome) → is_commit o ≡ true → o ≡ Abort → ⊥
 abort_false o c e = absurd (let f : true ≡ false = sym c ∙ ap is_commit e in cc)
 
-module _ (sources : Sources) (w : StoryWorld) (k : KeptWorld sources.owner w) (g : Draw) (s : Group) (is : named_group g w.store.groups ≡ Some s) where
+module _ (sources : Sources) (w : StoryWorld) (k : KeptWorld sources.owner w) (g : Draw) (s : Group) (fact : named_group g w.store.groups ≡ Some s) where
   abbrev gs : Groups
   gs = groups_in w.store.groups
 
@@ -63,7 +63,7 @@ module _ (sources : Sources) (w : StoryWorld) (k : KeptWorld sources.owner w) (g
   ys = w.stories
 
   named : s.core.id ≡ g
-  named = found_name g w.store.groups s is
+  named = found_name g w.store.groups s fact
 
   cut_by : (name : Draw) (e : Group) → Old gs ys name ≡ Some e → HasCut w.store name
   cut_by name e old = (e.core.arc, k.kept.1.2 name ∙ ap arc_of old)
@@ -73,7 +73,7 @@ module _ (sources : Sources) (w : StoryWorld) (k : KeptWorld sources.owner w) (g
   mine_cut e old = subst (HasCut w.store) (sym named) (cut_by g e old)
 
   outcome_sent : (tx : Draw) → decision tx w.store.transactions ≡ outcome_of (ys tx)
-  outcome_sent tx = decision_is w.store.transactions ys k.told tx
+  outcome_sent tx = decision_is w.store.transactions ys k.recorded tx
 
   uncommitted : (tx : Draw) (y : Story) → ys tx ≡ Some y → ((o : Outcome) → y.outcome ≡ Some o → (o ≡ Abort → ⊥) → ⊥) → IsUncommitted w.store tx
   uncommitted tx y there never o e =
@@ -88,7 +88,7 @@ module _ (sources : Sources) (w : StoryWorld) (k : KeptWorld sources.owner w) (g
   may_call client seq op a = record {
     asked = a;
     cut = λ h. (
-        let c = (sound_world sources.owner w k).serves_apart s (find_found (is_named g) w.store.groups s is).0 (key_of op) h in
+        let c = (sound_world sources.owner w k).serves_apart s (find_found (is_named g) w.store.groups s fact).0 (key_of op) h in
         (c.0.arc, ap (arcs_in w.store.ring) (sym c.2) ∙ arc_of_cut w.store.ring k.apart c.0 c.1));
   }
 
@@ -101,9 +101,9 @@ module _ (sources : Sources) (w : StoryWorld) (k : KeptWorld sources.owner w) (g
     fresh = λ alone here free unnamed. (
         let a = or_parts (has_born s.core child || has_decided s.core child) (is_locked_in (locked_in s.core.lock) child) unnamed in
         let b = or_parts (has_born s.core child) (has_decided s.core child) a.0 in
-        let none = group_none gs ys sources.owner g child s k.kept.0 mine is b.0 (gs child) refl in
+        let none = group_none gs ys sources.owner g child s k.kept.0 mine fact b.0 (gs child) refl in
         record {
-          cut = mine_cut s (ap (eff (decisions ys)) is ∙ eff_free (decisions ys) s here (lock_free s.core.lock free));
+          cut = mine_cut s (ap (eff (decisions ys)) fact ∙ eff_free (decisions ys) s here (lock_free s.core.lock free));
           unborn = none;
           uncut = no_arc child none;
         });
@@ -112,24 +112,24 @@ module _ (sources : Sources) (w : StoryWorld) (k : KeptWorld sources.owner w) (g
   -- ---- coordinators
 
   own : (tx : Draw) (body : Body) (order : ℕ) (heard : Option Heard) → s.core.lock ≡ Coordinating tx body order heard → IsCoordinating ys g s tx body heard
-  own tx body order heard lock = own_story gs ys sources.owner g s tx body order heard k.kept.0 is lock
+  own tx body order heard lock = own_story gs ys sources.owner g s tx body order heard k.kept.0 fact lock
 
   its_own : (tx : Draw) (body : Body) (order : ℕ) (heard : Option Heard) → s.core.lock ≡ Coordinating tx body order heard → IsItsOwn w.store s tx
   its_own tx body order heard lock =
       let o = own tx body order heard lock in
-      let t = brief_some (transaction_in tx w.store.transactions) (story_brief o.story) (k.told tx ∙ ap (option_map story_brief) o.is) in
+      let t = brief_some (transaction_in tx w.store.transactions) (story_brief o.story) (k.recorded tx ∙ ap (option_map story_brief) o.fact) in
       record {
         transaction = t.0;
-        is = t.1;
+        fact = t.1;
         coordinator = ap (λ (x : Draw × Option Outcome). x.0) t.2 ∙ o.coordinator ∙ sym named;
-        uncommitted = uncommitted tx o.story o.is (λ x e na. some_none x (sym e ∙ o.undecided));
+        uncommitted = uncommitted tx o.story o.fact (λ x e na. some_none x (sym e ∙ o.undecided));
       }
 
   own_if : (tx : Draw) → is_coordinating s.core.lock tx ≡ true → IsItsOwn w.store s tx
   own_if tx e = let c = coordinating s.core.lock tx e in its_own tx c.0 c.1 c.2 c.3
 
   deciding : (tx : Draw) (body : Body) (order : ℕ) (heard : Option Heard) → (lock : s.core.lock ≡ Coordinating tx body order heard) → IsDeciding sources.owner gs ys g s tx body heard (own tx body order heard lock).story
-  deciding tx body order heard lock = record { facts = k.kept.0; is = is; order = order; lock = lock; there = (own tx body order heard lock).is }
+  deciding tx body order heard lock = record { facts = k.kept.0; fact = fact; order = order; lock = lock; there = (own tx body order heard lock).fact }
 
   party : (tx : Draw) (body : Body) (heard : Option Heard) (y : Story) → IsDeciding sources.owner gs ys g s tx body heard y → (fz : Frozen) → y.vote ≡ Some (Ballot.Yes fz) → IsParty w.store s tx fz
   party tx body heard y d fz vote =
@@ -149,7 +149,7 @@ module _ (sources : Sources) (w : StoryWorld) (k : KeptWorld sources.owner w) (g
       let meet = pair_meets v g r.offer.part s.core.arc r.group.core.arc whole.1 pair in
       record {
         next = r.group;
-        found = ap gs line ∙ r.is;
+        found = ap gs line ∙ r.fact;
         apart = λ q. o.apart (sym q ∙ named);
         handed = sym r.same;
         offer = r.offer;
@@ -157,7 +157,7 @@ module _ (sources : Sources) (w : StoryWorld) (k : KeptWorld sources.owner w) (g
         offered = sym (ap (λ (z : Offer). z.arc) same);
         only = λ name other offer there lock. (
             let u = subst (LockOk ys name other) lock (k.kept.0.group name other there).lock_ok in
-            let story = same_Some u.story y (sym u.is ∙ d.there) in
+            let story = same_Some u.story y (sym u.fact ∙ d.there) in
             let part = ap (λ (z : Offer). z.part) (same_Some (unsigned offer) (unsigned r.offer) (sym u.offered ∙ ap (λ (z : Story). z.offer) story ∙ r.offered)) in
             sym u.part ∙ part ∙ sym line);
         own_cut = mine_cut s mine;
@@ -176,7 +176,7 @@ module _ (sources : Sources) (w : StoryWorld) (k : KeptWorld sources.owner w) (g
     party = λ e fz q. (
         let c = coordinating s.core.lock tx e in
         let d = deciding tx c.0 c.1 c.2 c.3 in
-        party tx c.0 c.2 (own tx c.0 c.1 c.2 c.3).story d fz (vote_is tx fz (own tx c.0 c.1 c.2 c.3).story (own tx c.0 c.1 c.2 c.3).is vote q a));
+        party tx c.0 c.2 (own tx c.0 c.1 c.2 c.3).story d fz (vote_is tx fz (own tx c.0 c.1 c.2 c.3).story (own tx c.0 c.1 c.2 c.3).fact vote q a));
     fits = λ at order heard lock. (own tx (At.Repart at) order heard lock).own;
   }
 
@@ -185,7 +185,7 @@ module _ (sources : Sources) (w : StoryWorld) (k : KeptWorld sources.owner w) (g
   no_offer tx at child order heard lock name other offer there locked =
       let o = own tx (At.Split at child) order heard lock in
       let u = subst (LockOk ys name other) locked (k.kept.0.group name other there).lock_ok in
-      let story = same_Some u.story o.story (sym u.is ∙ o.is) in
+      let story = same_Some u.story o.story (sym u.fact ∙ o.fact) in
       some_none (unsigned offer) (sym u.offered ∙ ap (λ (z : Story). z.offer) story ∙ o.offer)
 
   may_hear_watcher : (tx : Draw) (vote : Past) → MayHearWatcher w.store s tx vote
@@ -197,7 +197,7 @@ module _ (sources : Sources) (w : StoryWorld) (k : KeptWorld sources.owner w) (g
     division = λ at child order heard lock q. (
         let o = own tx (At.Split at child) order heard lock in
         let d = deciding tx (At.Split at child) order heard lock in
-        let none : gs child ≡ None = ap gs o.own.1 ∙ (k.kept.0.story tx o.story o.is).unborn at child o.same_body o.undecided in
+        let none : gs child ≡ None = ap gs o.own.1 ∙ (k.kept.0.story tx o.story o.fact).unborn at child o.same_body o.undecided in
         (o.own.0, record { cut = mine_cut s (mine_old sources.owner gs ys g s tx (At.Split at child) heard o.story d); unborn = none; uncut = no_arc child none }, no_offer tx at child order heard lock));
   }
 
@@ -209,7 +209,7 @@ module _ (sources : Sources) (w : StoryWorld) (k : KeptWorld sources.owner w) (g
   may_vote : (tx : Draw) (offer : Offer) (y : Story) → ys tx ≡ Some y → y.offer ≡ Some (unsigned offer) → offer.part ≡ g → has_voted s.core tx ≡ false → IsUncommitted w.store tx
   may_vote tx offer y there offered part new =
       let story = k.kept.0.story tx y there in
-      let none = unheard gs sources.owner tx y offer s story offered (ap gs part ∙ is) new y.vote refl in
+      let none = unheard gs sources.owner tx y offer s story offered (ap gs part ∙ fact) new y.vote refl in
       uncommitted tx y there (λ o e na. (let r = (story.earned o e na).0 (unsigned offer) offered in some_none (Ballot.Yes r.0) (sym r.1 ∙ none)))
 
   gained_lives : (at : ℕ) (gift : Gift) (offer : Offer) (tx : Draw) → s.core.gone ≡ None → (b : Bool) → (e : Group) × (living (settled_in (cond b (Some (gained_group s offer at gift)) None) s tx (Moved at (Some gift))).0 ≡ Some e)
@@ -221,20 +221,20 @@ module _ (sources : Sources) (w : StoryWorld) (k : KeptWorld sources.owner w) (g
   finish_cut tx y at gift there out (Coordinating t body order heard) lock e =
       let same = same_Some t tx e in
       let o = own tx body order heard (lock ∙ ap (λ n. Coordinating n body order heard) same) in
-      absurd (some_none (Moved at (Some gift)) (sym out ∙ ap (λ (z : Story). z.outcome) (same_Some y o.story (sym there ∙ o.is)) ∙ o.undecided))
+      absurd (some_none (Moved at (Some gift)) (sym out ∙ ap (λ (z : Story). z.outcome) (same_Some y o.story (sym there ∙ o.fact)) ∙ o.undecided))
   finish_cut tx y at gift there out (Promised t offer) lock e =
       let here_lock : s.core.lock ≡ Promised tx offer = lock ∙ ap (λ n. Promised n offer) (same_Some t tx e) in
-      let u = subst (LockOk ys g s) here_lock (k.kept.0.group g s is).lock_ok in
+      let u = subst (LockOk ys g s) here_lock (k.kept.0.group g s fact).lock_ok in
       let o : Outcome = Moved at (Some gift) in
       let lives = gained_lives at gift offer tx u.here (can_gain s.core offer at && not (has_key_of s.pairs gift.pairs)) in
-      mine_cut lives.0 (ap (eff (decisions ys)) is ∙ eff_by (decisions ys) s (Promised tx offer) here_lock ∙ ap (λ x. living (after_outcome x tx s)) (ap outcome_of there ∙ out)
+      mine_cut lives.0 (ap (eff (decisions ys)) fact ∙ eff_by (decisions ys) s (Promised tx offer) here_lock ∙ ap (λ x. living (after_outcome x tx s)) (ap outcome_of there ∙ out)
       ∙ ap living (promise_settled o tx s offer refl here_lock) ∙ lives.1)
   finish_cut tx y at gift there out (Watching t watch) lock e =
       let here_lock : s.core.lock ≡ Watching tx watch = lock ∙ ap (λ n. Watching n watch) (same_Some t tx e) in
-      let u = subst (LockOk ys g s) here_lock (k.kept.0.group g s is).lock_ok in
+      let u = subst (LockOk ys g s) here_lock (k.kept.0.group g s fact).lock_ok in
       let o : Outcome = Moved at (Some gift) in
       let end = party_freed (watcher_after o s watch) tx in
-      mine_cut end (ap (eff (decisions ys)) is ∙ eff_by (decisions ys) s (Watching tx watch) here_lock ∙ ap (λ x. living (after_outcome x tx s)) (ap outcome_of there ∙ out)
+      mine_cut end (ap (eff (decisions ys)) fact ∙ eff_by (decisions ys) s (Watching tx watch) here_lock ∙ ap (λ x. living (after_outcome x tx s)) (ap outcome_of there ∙ out)
       ∙ ap living (watch_settled o tx s watch refl here_lock) ∙ living_is end u.here)
 
   may_finish : (tx : Draw) (outcome : Outcome) (y : Story) → ys tx ≡ Some y → y.outcome ≡ Some outcome → MayFinish w.store s tx outcome
@@ -259,6 +259,6 @@ module _ (sources : Sources) (w : StoryWorld) (k : KeptWorld sources.owner w) (g
 pub all_may_be_applied : (sources : Sources) (w : StoryWorld) (entries : List LogEntry) → KeptWorld sources.owner w → AreAllowed sources w entries → AllMayBeApplied sources.request w.store entries
 all_may_be_applied sources w [] k a = tt
 all_may_be_applied sources w (e ∷ es) k a = (
-  λ s is. may_execute sources w k e.group s is e.command a.0,
+  λ s fact. may_execute sources w k e.group s fact e.command a.0,
   all_may_be_applied sources (recorded_next w e) es (kept_on sources w e k a.0) a.1,
 )

@@ -89,8 +89,8 @@ module _ (sources : Sources) (ahead : Ahead) (bases : List Base) (start : BeginI
     };
     only = λ entry a. absurd a;
     who = λ name it e. (
-        let (base, a, is) = from_map group_of bases it (find_found (is_named name) (map group_of bases) it e).0 in
-        (base, (0, a), ap (λ (x : Group). x.core.id) is ∙ found_name name (map group_of bases) it e));
+        let (base, a, fact) = from_map group_of bases it (find_found (is_named name) (map group_of bases) it e).0 in
+        (base, (0, a), ap (λ (x : Group). x.core.id) fact ∙ found_name name (map group_of bases) it e));
   }
 
   module _ (before : Rows) (k : Told sources ahead bases before) where
@@ -212,8 +212,8 @@ module _ (sources : Sources) (ahead : Ahead) (bases : List Base) (start : BeginI
 
       by_birth : (o : Option Base) → birth_at ahead bases before turn.name ≡ o → Decides
       by_birth None e = for_none (λ base f same. (
-          let is = (known_by_name ahead bases before k.one k.near base f).birth in
-          some_none base (sym is ∙ ap (birth_at ahead bases before) same ∙ e)))
+          let fact = (known_by_name ahead bases before k.one k.near base f).birth in
+          some_none base (sym fact ∙ ap (birth_at ahead bases before) same ∙ e)))
       by_birth (Some group) e = let (f, same) = birth_found ahead bases before turn.name group e in for_one group f same
 
       pub decides : Decides

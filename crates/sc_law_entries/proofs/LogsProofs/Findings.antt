@@ -56,9 +56,9 @@ module _ (sources : Sources) (ahead : Ahead) (bases : List Base) (start : BeginI
     are_found = record {
       first = λ base a. found_group ahead bases rows k.one k.near base (0, a);
       closed = λ base a child c. (let (depth, there) = group_found ahead bases rows base a in found_group ahead bases rows k.one k.near child (suc depth, (base, there, c)));
-      prefixes = λ base a prefix later is child c. (
+      prefixes = λ base a prefix later fact child c. (
           let (depth, there) = group_found ahead bases rows base a in
-          let all = ap (children_of (group_of base)) is ∙ children_append (group_of base) prefix later in
+          let all = ap (children_of (group_of base)) fact ∙ children_append (group_of base) prefix later in
           found_group ahead bases rows k.one k.near child
           (suc depth, (base, there, subst (Among child) (sym all) (Among-left child (children_of (group_of base) prefix) (children_of (state_after (group_of base) prefix) later) c))));
       all = found_group ahead bases rows k.one k.near;
@@ -83,7 +83,7 @@ module _ (sources : Sources) (ahead : Ahead) (bases : List Base) (start : BeginI
 
     state_of : (name : Draw) (o : Option Base) → birth_at ahead bases rows name ≡ o → named_group name (world_at ahead bases rows).groups ≡ state_at ahead bases rows name
     state_of name None e =
-        none_there (named_group name (world_at ahead bases rows).groups) (λ it is. (let (base, f, named) = k.who name it is in none_of name e base f named))
+        none_there (named_group name (world_at ahead bases rows).groups) (λ it fact. (let (base, f, named) = k.who name it fact in none_of name e base f named))
         ∙ sym (no_state_at ahead bases rows name e)
     state_of name (Some base) e =
         let (f, named) = birth_found ahead bases rows name base e in
@@ -100,14 +100,14 @@ module _ (sources : Sources) (ahead : Ahead) (bases : List Base) (start : BeginI
         record {
           map = record {
             covers = m.ring.covers;
-            placed = λ cut a. (let p = m.ring.placed cut a in record { group = p.group; is = p.is; here = p.here; arc = p.arc; succ = p.succ; pred = p.pred });
+            placed = λ cut a. (let p = m.ring.placed cut a in record { group = p.group; fact = p.fact; here = p.here; arc = p.arc; succ = p.succ; pred = p.pred });
             serves_apart = m.ring.serves_apart;
             legal = m.legal;
             parts = m.parts;
           };
-          notes = λ base a prefix later is. (
+          notes = λ base a prefix later fact. (
               let b = k.born base (group_found ahead bases rows base a) in
-              prefixes_answer bases entries m.notes b.first b.rest b.are base.core.id (group_of base) b.there prefix later (b.log_is ∙ is));
+              prefixes_answer bases entries m.notes b.first b.rest b.are base.core.id (group_of base) b.there prefix later (b.log_is ∙ fact));
         }
 
     pub old_or_newborn : (row : Row Mail OrderLine) → DecidesInTurn sources ahead bases rows row → AreOldOrNew ahead bases rows row

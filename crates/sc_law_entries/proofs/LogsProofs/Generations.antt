@@ -49,8 +49,8 @@ module _ (sources : Sources) (ahead : Ahead) (bases : List Base) (before : Rows)
   pub log_on : (base : Base) → IsFound ahead bases before base → decided_log ahead base next ≡ decided_log ahead base before ++ added_by ahead before row base
   log_on base f =
       let old = decided_log ahead base before in
-      let (more, is) = turn.goes_on base f in
-      is ∙ ap (λ cs. old ++ cs) (sym (ap (λ cs. drop (length old) cs) is ∙ drop-append_seam old more))
+      let (more, fact) = turn.goes_on base f in
+      fact ∙ ap (λ cs. old ++ cs) (sym (ap (λ cs. drop (length old) cs) fact ∙ drop-append_seam old more))
 
   children_on : (base : Base) → IsFound ahead bases before base → children_by ahead next base ≡ children_by ahead before base ++ newborn_by ahead before row base
   children_on base f = ap (children_of (group_of base)) (log_on base f) ∙ children_append (group_of base) (decided_log ahead base before) (added_by ahead before row base)
@@ -136,8 +136,8 @@ module _ (ahead : Ahead) (bases : List Base) (rows : Rows) where
         let older = with_descendants ahead rows depth bases in
         let named = flat_map (children_by ahead rows) older in
         let (b, there, same) = births_named older named base (Among-flat_map (children_by ahead rows) older parent base (descendant_in depth parent d) child) in
-        let is = one b base (found_in (suc depth) b there) (suc depth, (parent, d, child)) same in
-        subst (λ x. Among x (with_descendants ahead rows (suc depth) bases)) is there
+        let fact = one b base (found_in (suc depth) b there) (suc depth, (parent, d, child)) same in
+        subst (λ x. Among x (with_descendants ahead rows (suc depth) bases)) fact there
 
     module _ (near : AreNear ahead bases rows) where
       -- what is found is a group

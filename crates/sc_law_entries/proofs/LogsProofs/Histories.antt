@@ -39,9 +39,9 @@ module _ (sources : Sources) (ahead : Ahead) (bases : List Base) (start : BeginI
   log_later before [] k h base f = ([], ap (decided_log ahead base) (append-nil before) ∙ sym (append-nil (decided_log ahead base before)))
   log_later before (row ∷ more) k h base f =
       let now = added_by ahead before row base in
-      let (later, is) = log_later (before ++ row ∷ []) more (push_turn sources ahead bases start before k row h.0) h.1 base (still before k row h.0 base f) in (
+      let (later, fact) = log_later (before ++ row ∷ []) more (push_turn sources ahead bases start before k row h.0) h.1 base (still before k row h.0 base f) in (
         now ++ later,
-        ap (decided_log ahead base) (sym (append_assoc before (row ∷ []) more)) ∙ is
+        ap (decided_log ahead base) (sym (append_assoc before (row ∷ []) more)) ∙ fact
             ∙ ap (λ cs. cs ++ later) (log_on sources ahead bases before row (found_turn sources ahead bases start before k row h.0) base f)
             ∙ append_assoc (decided_log ahead base before) now later,
       )
@@ -56,9 +56,9 @@ module _ (sources : Sources) (ahead : Ahead) (bases : List Base) (start : BeginI
   history_later before [] k h = ([], ap (history_at ahead bases) (append-nil before) ∙ sym (append-nil (history_at ahead bases before)))
   history_later before (row ∷ more) k h =
       let now = (decided before k row h.0).news in
-      let (later, is) = history_later (before ++ row ∷ []) more (push_turn sources ahead bases start before k row h.0) h.1 in (
+      let (later, fact) = history_later (before ++ row ∷ []) more (push_turn sources ahead bases start before k row h.0) h.1 in (
         now ++ later,
-        ap (history_at ahead bases) (sym (append_assoc before (row ∷ []) more)) ∙ is
+        ap (history_at ahead bases) (sym (append_assoc before (row ∷ []) more)) ∙ fact
             ∙ ap (λ es. es ++ later) (history_on before k row h.0)
             ∙ append_assoc (history_at ahead bases before) now later,
       )
@@ -66,12 +66,12 @@ module _ (sources : Sources) (ahead : Ahead) (bases : List Base) (start : BeginI
   -- ---- the row of an entry
 
   -- an entry of the history after these rows is decided by one of the later ones
-  record IsToldFrom (before rows : Rows) (place : ℕ) (entry : Entry) : Type 0 where
+  record IsRecordedFrom (before rows : Rows) (place : ℕ) (entry : Entry) : Type 0 where
     prefix : Rows
     row : Row Mail OrderLine
     later : Rows
     are : before ++ rows ≡ prefix ++ row ∷ later
-    is_told : row_of_entry_from ahead bases place before rows ≡ Some (length prefix + 1)
+    is_recorded : row_of_entry_from ahead bases place before rows ≡ Some (length prefix + 1)
     not_before : length (history_at ahead bases prefix) ≤ place
     after : place < length (history_at ahead bases (prefix ++ row ∷ []))
     base : Base
@@ -80,14 +80,14 @@ module _ (sources : Sources) (ahead : Ahead) (bases : List Base) (start : BeginI
 
   told_now : (before rows : Rows) (row : Row Mail OrderLine) → (k : Told sources ahead bases before) → (turn : DecidesInTurn sources ahead bases before row) → DecideInTurn sources ahead bases (before ++ row ∷ []) rows
       → (place : ℕ) (entry : Entry) → length (history_at ahead bases before) ≤ place → place < length (history_at ahead bases (before ++ row ∷ [])) → slice_get (history_at ahead bases (before ++ row ∷ rows)) place ≡ Some entry
-      → IsToldFrom before (row ∷ rows) place entry
+      → IsRecordedFrom before (row ∷ rows) place entry
   told_now before rows row k turn h place entry le lt at =
       let next = before ++ row ∷ [] in
-      let told = history_at ahead bases next in
+      let recorded = history_at ahead bases next in
       let decides = decided before k row turn in
-      let (later, is) = history_later next rows (push_turn sources ahead bases start before k row turn) h in
-      let whole : history_at ahead bases (before ++ row ∷ rows) ≡ told ++ later = ap (history_at ahead bases) (sym (append_assoc before (row ∷ []) rows)) ∙ is in
-      let here = get_prefix told later place entry lt (subst (λ es. slice_get es place ≡ Some entry) whole at) in
+      let (later, fact) = history_later next rows (push_turn sources ahead bases start before k row turn) h in
+      let whole : history_at ahead bases (before ++ row ∷ rows) ≡ recorded ++ later = ap (history_at ahead bases) (sym (append_assoc before (row ∷ []) rows)) ∙ fact in
+      let here = get_prefix recorded later place entry lt (subst (λ es. slice_get es place ≡ Some entry) whole at) in
       let new = get_behind (history_at ahead bases before) decides.news place entry le (subst (λ es. slice_get es place ≡ Some entry) (history_on before k row turn) here) in
       let (base, f, call) = decides.backlog entry new in
       record {
@@ -95,7 +95,7 @@ module _ (sources : Sources) (ahead : Ahead) (bases : List Base) (start : BeginI
         row = row;
         later = rows;
         are = refl;
-        is_told = cond-true (nat_lt place (length told)) (Some (length before + 1)) (row_of_entry_from ahead bases place next rows) (lt-ltb place (length told) lt);
+        is_recorded = cond-true (nat_lt place (length recorded)) (Some (length before + 1)) (row_of_entry_from ahead bases place next rows) (lt-ltb place (length recorded) lt);
         not_before = le;
         after = lt;
         base = base;
@@ -104,14 +104,14 @@ module _ (sources : Sources) (ahead : Ahead) (bases : List Base) (start : BeginI
       }
 
   told_place : (before rows : Rows) → Told sources ahead bases before → DecideInTurn sources ahead bases before rows
-      → (place : ℕ) (entry : Entry) → length (history_at ahead bases before) ≤ place → slice_get (history_at ahead bases (before ++ rows)) place ≡ Some entry → IsToldFrom before rows place entry
+      → (place : ℕ) (entry : Entry) → length (history_at ahead bases before) ≤ place → slice_get (history_at ahead bases (before ++ rows)) place ≡ Some entry → IsRecordedFrom before rows place entry
   told_place before [] k h place entry le at =
       let inside = slice_get_within (history_at ahead bases before) place entry (subst (λ b. slice_get (history_at ahead bases b) place ≡ Some entry) (append-nil before) at) in
       absurd (omega (arith, inside, le))
   told_place before (row ∷ rows) k h place entry le at =
       let next = before ++ row ∷ [] in
-      let told = history_at ahead bases next in
-      elim (cases_lt place (length told)) [
+      let recorded = history_at ahead bases next in
+      elim (cases_lt place (length recorded)) [
         | inl lt ↦ told_now before rows row k h.0 h.1 place entry le lt at
         | inr ge ↦ (
             let t = told_place next rows (push_turn sources ahead bases start before k row h.0) h.1 place entry (omega (arith, ge)) (subst (λ b. slice_get (history_at ahead bases b) place ≡ Some entry) (sym (append_assoc before (row ∷ []) rows)) at) in
@@ -120,7 +120,7 @@ module _ (sources : Sources) (ahead : Ahead) (bases : List Base) (start : BeginI
               row = t.row;
               later = t.later;
               are = sym (append_assoc before (row ∷ []) rows) ∙ t.are;
-              is_told = cond-false (nat_lt place (length told)) (Some (length before + 1)) (row_of_entry_from ahead bases place next rows) (le-ltb place (length told) (omega (arith, ge))) ∙ t.is_told;
+              is_recorded = cond-false (nat_lt place (length recorded)) (Some (length before + 1)) (row_of_entry_from ahead bases place next rows) (le-ltb place (length recorded) (omega (arith, ge))) ∙ t.is_recorded;
               not_before = t.not_before;
               after = t.after;
               base = t.base;
@@ -139,7 +139,7 @@ history_is_decided sources ahead bases start rows h place entry at =
       row = t.row;
       later = t.later;
       are = t.are;
-      is_told = t.is_told;
+      is_recorded = t.is_recorded;
       not_before = t.not_before;
       after = t.after;
       base = t.base;
@@ -156,9 +156,9 @@ deciding_rows_stay sources ahead bases start rows more h =
       groups = λ base a. found_group ahead bases (rows ++ more) now.one now.near base (found_later sources ahead bases start rows more k rest base (group_found ahead bases rows base a));
       logs = λ base a. (
           let f = group_found ahead bases rows base a in
-          let (later, is) = log_later sources ahead bases start rows more k rest base f in
-          (later, (known_by_name ahead bases (rows ++ more) now.one now.near base (found_later sources ahead bases start rows more k rest base f)).log ∙ is));
+          let (later, fact) = log_later sources ahead bases start rows more k rest base f in
+          (later, (known_by_name ahead bases (rows ++ more) now.one now.near base (found_later sources ahead bases start rows more k rest base f)).log ∙ fact));
       entries = (entries_by_rows ahead bases rows more, entries_parts ahead bases [] rows more);
       history = history_later sources ahead bases start rows more k rest;
-      told = λ place at e. told_stays ahead bases place at [] rows more e;
+      recorded = λ place at e. told_stays ahead bases place at [] rows more e;
     }

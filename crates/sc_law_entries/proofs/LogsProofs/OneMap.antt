@@ -12,12 +12,12 @@ use Rattle.sc_law_entries.proofs.LogsProofs.Executes.{all_may_be_applied}
 pub one_map : AppliedEntriesMakeHistory → AllowedEntriesMakeOneMap
 one_map telling sources bases entries start bare allowed =
     let ring = entries_keep_the_ring sources bases entries start allowed in
-    let told = telling sources.request bases bare entries (all_may_be_applied sources (first_recorded bases) entries (at_start sources bases start) allowed) in
+    let recorded = telling sources.request bases bare entries (all_may_be_applied sources (first_recorded bases) entries (at_start sources bases start) allowed) in
     record {
       ring = ring;
-      legal = told.told.legal;
-      parts = λ cut among. told.parts cut among (λ group is. (let p = ring.placed cut among in ap (λ (x : Group). x.core.arc) (same_Some group p.group (sym is ∙ p.is)) ∙ p.arc));
-      notes = told.notes;
+      legal = recorded.recorded.legal;
+      parts = λ cut among. recorded.parts cut among (λ group fact. (let p = ring.placed cut among in ap (λ (x : Group). x.core.arc) (same_Some group p.group (sym fact ∙ p.fact)) ∙ p.arc));
+      notes = recorded.notes;
     }
 
 pub allowed_entries_make_one_map : AllowedEntriesMakeOneMap

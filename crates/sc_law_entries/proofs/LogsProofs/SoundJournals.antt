@@ -39,8 +39,8 @@ module _ (law : AllowedEntriesMakeOneMap) (sources : Sources) (ahead : Ahead) (s
   turn : DecideInTurn sources ahead bases [] rows
   turn = (in_turn_parts sources ahead bases [] rows more all).0
 
-  abbrev told : List Entry
-  told = history_at ahead bases rows
+  abbrev recorded : List Entry
+  recorded = history_at ahead bases rows
 
   map : MakeOneMapWithNotes ahead bases rows
   map = entries_make_one_map law sources ahead bases start bare rows turn
@@ -58,15 +58,15 @@ module _ (law : AllowedEntriesMakeOneMap) (sources : Sources) (ahead : Ahead) (s
 
   -- ---- requests
 
-  told_at : (place : ℕ) (entry : Entry) → slice_get told place ≡ Some entry → IsDecidedAt ahead bases rows place entry
+  told_at : (place : ℕ) (entry : Entry) → slice_get recorded place ≡ Some entry → IsDecidedAt ahead bases rows place entry
   told_at place entry at = history_is_decided sources ahead bases start rows turn place entry at
 
-  issued_at : (place : ℕ) (entry : Entry) (at : slice_get told place ≡ Some entry) → IsIssuedIn scenario (told_at place entry at).before entry.client entry.seq entry.op
+  issued_at : (place : ℕ) (entry : Entry) (at : slice_get recorded place ≡ Some entry) → IsIssuedIn scenario (told_at place entry at).before entry.client entry.seq entry.op
   issued_at place entry at = let t = told_at place entry at in beside.issued t.before t.row t.later t.are t.base t.stands entry.client entry.seq entry.op t.call
 
-  request_of : (entry : Entry) → Among entry told → IsRequest scenario entry
+  request_of : (entry : Entry) → Among entry recorded → IsRequest scenario entry
   request_of entry a =
-      let (place, at) = among_place told entry a in
+      let (place, at) = among_place recorded entry a in
       let i = issued_at place entry at in
       (i.asks, i.stands, record { client = i.who; first = i.first; op = i.op_is })
 
@@ -87,10 +87,10 @@ module _ (law : AllowedEntriesMakeOneMap) (sources : Sources) (ahead : Ahead) (s
         let h = map_then.notes d.base d.stands (d.prefix ++ c ∷ []) d.rest (d.log ∙ sym (append_assoc d.prefix (c ∷ []) d.rest)) client n.noted found in
         record { entry = h.entry; stands = h.stands; client_is = h.client_is; seq_is = h.seq_is ∙ n.seq_is; reply_is = h.reply_is ∙ n.reply_is }
 
-    goes_on : told ≡ then ++ (part_stays d.before d.row d.later d.are).history.0
+    goes_on : recorded ≡ then ++ (part_stays d.before d.row d.later d.are).history.0
     goes_on = ap (history_at ahead bases) d.are ∙ (part_stays d.before d.row d.later d.are).history.1
 
-    has_entry : HasEntry told client seq reply
+    has_entry : HasEntry recorded client seq reply
     has_entry =
         let h = entry_then in
         let s = part_stays d.before d.row d.later d.are in
@@ -103,15 +103,15 @@ module _ (law : AllowedEntriesMakeOneMap) (sources : Sources) (ahead : Ahead) (s
         }
 
     -- which is decided before the row that takes the reply
-    before_it : (place : ℕ) (entry : Entry) → slice_get told place ≡ Some entry → entry.client ≡ client → entry.seq ≡ seq → (at : ℕ) → row_of_entry ahead bases place rows ≡ Some at → at < answered
+    before_it : (place : ℕ) (entry : Entry) → slice_get recorded place ≡ Some entry → entry.client ≡ client → entry.seq ≡ seq → (at : ℕ) → row_of_entry ahead bases place rows ≡ Some at → at < answered
     before_it place entry there who number at is_at =
         let h = entry_then in
         let s = part_stays d.before d.row d.later d.are in
         let (other, at_then) = among_place then h.entry h.stands in
-        let at_now : slice_get told other ≡ Some h.entry = subst (λ es. slice_get es other ≡ Some h.entry) (sym goes_on) (get_left then s.history.0 other h.entry at_then) in
-        let same = one_place told map.map.legal.once place other entry h.entry there at_now (who ∙ sym h.client_is) (number ∙ sym h.seq_is) in
+        let at_now : slice_get recorded other ≡ Some h.entry = subst (λ es. slice_get es other ≡ Some h.entry) (sym goes_on) (get_left then s.history.0 other h.entry at_then) in
+        let same = one_place recorded map.map.legal.once place other entry h.entry there at_now (who ∙ sym h.client_is) (number ∙ sym h.seq_is) in
         let t = history_is_decided sources ahead bases start d.before (first_part d.before d.row d.later d.are) other h.entry at_then in
-        let now : row_of_entry ahead bases other rows ≡ Some (length t.before + 1) = ap (row_of_entry ahead bases other) d.are ∙ s.told other (length t.before + 1) t.is_told in
+        let now : row_of_entry ahead bases other rows ≡ Some (length t.before + 1) = ap (row_of_entry ahead bases other) d.are ∙ s.recorded other (length t.before + 1) t.is_recorded in
         let both : Some at ≡ Some (length t.before + 1) = sym is_at ∙ ap (λ p. row_of_entry ahead bases p rows) same ∙ now in
         let at_is : at ≡ length t.before + 1 = cc in
         let size = ap length t.are ∙ length-append t.before (t.row ∷ t.later) in
@@ -121,34 +121,34 @@ module _ (law : AllowedEntriesMakeOneMap) (sources : Sources) (ahead : Ahead) (s
   answers : AnswersRequests ahead scenario rows
   answers = record {
     requests = request_of;
-    kept = λ first others is asks stands seq reply kept. (
-        let (answered, d) = beside.replies.kept first others is asks stands seq reply kept in
+    kept = λ first others fact asks stands seq reply kept. (
+        let (answered, d) = beside.replies.kept first others fact asks stands seq reply kept in
         has_entry asks.client seq reply answered d);
   }
 
   -- ---- the order of rows
 
-  timely : (place : ℕ) (entry : Entry) → slice_get told place ≡ Some entry → IsTimely ahead scenario rows place entry
+  timely : (place : ℕ) (entry : Entry) → slice_get recorded place ≡ Some entry → IsTimely ahead scenario rows place entry
   timely place entry at =
       let t = told_at place entry at in
       let i = issued_at place entry at in
       let within = issue_within entry.client entry.seq t.before i.issued i.is_issued in
       record {
         decided = length t.before + 1;
-        is_decided = t.is_told;
+        is_decided = t.is_recorded;
         issued = i.issued;
         is_issued = ap (issue_row entry.client entry.seq) t.are ∙ issue_stays entry.client entry.seq t.before (t.row ∷ t.later) i.issued i.is_issued;
         after_issue = omega (arith, within);
-        before_answer = λ first others is asks stands who answered taken. (
-            let (reply, d) = beside.replies.answered first others is asks stands entry.seq i.first answered taken in
-            before_it asks.client entry.seq reply answered d place entry at (sym who) refl (length t.before + 1) t.is_told);
+        before_answer = λ first others fact asks stands who answered taken. (
+            let (reply, d) = beside.replies.answered first others fact asks stands entry.seq i.first answered taken in
+            before_it asks.client entry.seq reply answered d place entry at (sym who) refl (length t.before + 1) t.is_recorded);
       }
 
   real_time : KeepsRealTime ahead scenario rows
-  real_time place other entry later_one e f first others is asks stands who answered issued taken sent le =
+  real_time place other entry later_one e f first others fact asks stands who answered issued taken sent le =
       let one_time = timely place entry e in
       let other_time = timely other later_one f in
-      let before = one_time.before_answer first others is asks stands who answered taken in
+      let before = one_time.before_answer first others fact asks stands who answered taken in
       let issued_both : Some issued ≡ Some other_time.issued = sym sent ∙ other_time.is_issued in
       let one_issue : issued ≡ other_time.issued = cc in
       let after = other_time.after_issue in

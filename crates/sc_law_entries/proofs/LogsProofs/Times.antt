@@ -47,19 +47,19 @@ past_rows ahead bases place before (row ∷ rows) at e =
 pub decided_in_order : (ahead : Ahead) (bases : List Base) (place other : ℕ) → place ≤ other → (before rows : Rows) (at then : ℕ) → row_of_entry_from ahead bases place before rows ≡ Some at → row_of_entry_from ahead bases other before rows ≡ Some then → at ≤ then
 decided_in_order ahead bases place other le before [] at then first second = cc
 decided_in_order ahead bases place other le before (row ∷ rows) at then first second =
-    let told = history_at ahead bases (before ++ row ∷ []) in
-    elim (cases_Bool (nat_lt place (length told))) [
+    let recorded = history_at ahead bases (before ++ row ∷ []) in
+    elim (cases_Bool (nat_lt place (length recorded))) [
       | inl t ↦ (
-          let now : Some (length before + 1) ≡ Some at = sym (cond-true (nat_lt place (length told)) (Some (length before + 1)) (row_of_entry_from ahead bases place (before ++ row ∷ []) rows) t) ∙ first in
+          let now : Some (length before + 1) ≡ Some at = sym (cond-true (nat_lt place (length recorded)) (Some (length before + 1)) (row_of_entry_from ahead bases place (before ++ row ∷ []) rows) t) ∙ first in
           let same : length before + 1 ≡ at = cc in
           let past = past_rows ahead bases other before (row ∷ rows) then second in
           omega (arith, same, past))
       | inr f ↦ (
-          let out = ltb-false place (length told) f in
-          let later = le-ltb other (length told) (omega (arith, out, le)) in
+          let out = ltb-false place (length recorded) f in
+          let later = le-ltb other (length recorded) (omega (arith, out, le)) in
           decided_in_order ahead bases place other le (before ++ row ∷ []) rows at then
-          (sym (cond-false (nat_lt place (length told)) (Some (length before + 1)) (row_of_entry_from ahead bases place (before ++ row ∷ []) rows) f) ∙ first)
-          (sym (cond-false (nat_lt other (length told)) (Some (length before + 1)) (row_of_entry_from ahead bases other (before ++ row ∷ []) rows) later) ∙ second))
+          (sym (cond-false (nat_lt place (length recorded)) (Some (length before + 1)) (row_of_entry_from ahead bases place (before ++ row ∷ []) rows) f) ∙ first)
+          (sym (cond-false (nat_lt other (length recorded)) (Some (length before + 1)) (row_of_entry_from ahead bases other (before ++ row ∷ []) rows) later) ∙ second))
     ]
 
 -- ---- the row that issues

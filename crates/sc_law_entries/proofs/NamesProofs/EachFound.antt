@@ -1,5 +1,5 @@
 -- What holds of each element of a list holds of what is found in it, and of each of what is made of it.
-use Rattle.std.proofs.Common.{ℕ, zero, suc, nat_lt, eqb, Bool, List, [], ◌∷◌, drop, filter, find, Option, Some, None}
+use Rattle.std.proofs.Common.{ℕ, zero, suc, nat_lt, eqb, Bool, List, [], ◌∷◌, filter, find, Option, Some, None}
 use Rattle.std.specs.Prelude.{slice_get}
 use Rattle.std.specs.List.{fold}
 use Rattle.std.specs.Option.{option_map}
@@ -10,6 +10,7 @@ use Rattle.sc_words.specs.paxos.Definitions.{with_report, is_better, better_of, 
 use Rattle.sc_node_table.specs.Definitions.{either, at_slot, with_slot, without_slot}
 use Rattle.sc_law_entries.specs.names.Definitions.{Opt}
 use Rattle.sc_law_walks.proofs.Lemmas.{either_way}
+pub use Rattle.sc_law_walks.proofs.Lists.{Each-drop}
 
 pub opt_find : {X : Type 0} (P : X → Type 0) (p : X → Bool) (xs : List X) → Each P xs → Opt P (find p xs)
 opt_find P p [] e = tt
@@ -27,11 +28,6 @@ pub opt_get : {X : Type 0} (P : X → Type 0) (xs : List X) (k : ℕ) → Each P
 opt_get P [] k e = tt
 opt_get P (x ∷ xs) zero e = e.0
 opt_get P (x ∷ xs) (suc k) e = opt_get P xs k e.1
-
-pub Each-drop : {X : Type 0} (P : X → Type 0) (n : ℕ) (xs : List X) → Each P xs → Each P (drop n xs)
-Each-drop P zero xs e = e
-Each-drop P (suc n) [] e = tt
-Each-drop P (suc n) (x ∷ xs) e = Each-drop P n xs e.1
 
 pub opt_slot : {X : Type 0} (P : X → Type 0) (es : List (ℕ × X)) (slot : ℕ) → Each (λ (e : ℕ × X). P e.1) es → Opt P (at_slot es slot)
 opt_slot P [] slot p = tt

@@ -1,5 +1,5 @@
 -- All names of a lawful journal are those of the scenario, and those that nodes drew.
-use Rattle.std.proofs.Common.{◌≡◌, ℕ, zero, suc, ◌+◌, ◌<◌, ◌≤◌, eqb, cond, List, [], ◌∷◌, ◌++◌, filter, map, Option, Some, None, ◌⊎◌, inl, inr, refl, sym, ◌∙◌, ap, subst, arith}
+use Rattle.std.proofs.Common.{◌≡◌, ℕ, zero, suc, ◌+◌, ◌<◌, ◌≤◌, eqb, List, [], ◌∷◌, ◌++◌, filter, map, Option, Some, None, ◌⊎◌, inl, inr, refl, sym, ◌∙◌, ap, subst, arith}
 use Rattle.std.specs.Option.{option_map}
 use Rattle.std.proofs.lemmas.Bool.{cond_both, eqb-true}
 use Rattle.sc_base.specs.Definitions.{Among, Each, next_name, is_member}
@@ -24,6 +24,7 @@ use Rattle.sc_law_entries.proofs.NamesProofs.Ordered.{it_ticks, it_is_owned}
 use Rattle.sc_law_entries.proofs.NamesProofs.LoggedNames.{decided_names}
 use Rattle.sc_law_entries.proofs.NamesProofs.Owned.{owned_later}
 use Rattle.sc_law_entries.proofs.NamesProofs.Playing.{Brings, node_names, client_names}
+use Rattle.sc_law_walks.proofs.Replays.{replay_keeps}
 
 -- ---- a client stays one
 
@@ -31,16 +32,12 @@ abbrev pub IsClient : Player → Type 0
 IsClient (Node node) = ⊥
 IsClient (Client client) = Unit {0}
 
-acted_client : (p : Player) (input : Option (Input Mail OrderLine)) → IsClient p → IsClient (acted player_table p input).0
-acted_client (Node node) input c = absurd c
-acted_client (Client client) None c = tt
-acted_client (Client client) (Some input) c = tt
+client_keeps : (p : Player) (input : Input Mail OrderLine) → IsClient p → IsClient (player_table p input).0
+client_keeps (Node node) input c = absurd c
+client_keeps (Client client) input c = tt
 
 pub replay_client : (who : ℕ) (p : Player) (sent : List Mail) (rows : Rows) → IsClient p → IsClient (replay player_table who p sent rows)
-replay_client who p sent [] c = c
-replay_client who p sent (row ∷ rows) c =
-    replay_client who (cond (eqb row.who who) (acted player_table p (input_of sent row.event)).0 p) (sent ++ row.sent) rows
-    (cond_both (eqb row.who who) (acted player_table p (input_of sent row.event)).0 p IsClient (λ _. acted_client p (input_of sent row.event) c) (λ _. c))
+replay_client who p sent rows c = replay_keeps player_table IsClient client_keeps who rows p sent c
 
 pub no_node : (p : Player) (node : NodeState) → IsClient p → p ≡ Node node → ⊥
 no_node p node c e = subst IsClient e c
@@ -153,20 +150,20 @@ module _ (ahead : Ahead) (words : ℕ → ℕ → ℕ × ℕ) (scenario : Scenar
     TicksSo p = (node : NodeState) → p ≡ Node node → row.event ≡ Tick → Brings K node TickInput
 
     acts_by : (p : Player) → PlayerNames K p → ToldSo p → TicksSo p → (event : Event OrderLine) → row.event ≡ event → Acted (acted player_table p (input_of (mails rows) event))
-    acts_by (Node node) k told ticks (Deliver number) e = node_got node (numbered (mails rows) number) (numbered_names (mails rows) number now.sent) k
-    acts_by (Node node) k told ticks Tick e = node_names K node TickInput (ticks node refl e) k
-    acts_by (Node node) k told ticks Go e = node_names K node GoInput tt k
-    acts_by (Node node) k told ticks Crash e = (k, tt)
-    acts_by (Node node) k told ticks (Drop number) e = (k, tt)
-    acts_by (Node node) k told ticks (Again number) e = (k, tt)
-    acts_by (Node node) k told ticks (Told line) e = node_names K node (ToldInput line) (told node line refl e) k
-    acts_by (Client client) k told ticks (Deliver number) e = client_got client (numbered (mails rows) number) (numbered_names (mails rows) number now.sent) k
-    acts_by (Client client) k told ticks Tick e = client_names K client TickInput tt k
-    acts_by (Client client) k told ticks Go e = client_names K client GoInput tt k
-    acts_by (Client client) k told ticks Crash e = (k, tt)
-    acts_by (Client client) k told ticks (Drop number) e = (k, tt)
-    acts_by (Client client) k told ticks (Again number) e = (k, tt)
-    acts_by (Client client) k told ticks (Told line) e = client_names K client (ToldInput line) tt k
+    acts_by (Node node) k recorded ticks (Deliver number) e = node_got node (numbered (mails rows) number) (numbered_names (mails rows) number now.sent) k
+    acts_by (Node node) k recorded ticks Tick e = node_names K node TickInput (ticks node refl e) k
+    acts_by (Node node) k recorded ticks Go e = node_names K node GoInput tt k
+    acts_by (Node node) k recorded ticks Crash e = (k, tt)
+    acts_by (Node node) k recorded ticks (Drop number) e = (k, tt)
+    acts_by (Node node) k recorded ticks (Again number) e = (k, tt)
+    acts_by (Node node) k recorded ticks (Told line) e = node_names K node (ToldInput line) (recorded node line refl e) k
+    acts_by (Client client) k recorded ticks (Deliver number) e = client_got client (numbered (mails rows) number) (numbered_names (mails rows) number now.sent) k
+    acts_by (Client client) k recorded ticks Tick e = client_names K client TickInput tt k
+    acts_by (Client client) k recorded ticks Go e = client_names K client GoInput tt k
+    acts_by (Client client) k recorded ticks Crash e = (k, tt)
+    acts_by (Client client) k recorded ticks (Drop number) e = (k, tt)
+    acts_by (Client client) k recorded ticks (Again number) e = (k, tt)
+    acts_by (Client client) k recorded ticks (Told line) e = client_names K client (ToldInput line) tt k
 
     told_node : (n : ℕ) → 1 ≤ n → n ≤ scenario.nodes → row.who ≡ n → ToldSo (value player_table (node_seat ahead scenario.groups scenario.policy n) rows)
     told_node n low high who node line value_is event_is =
@@ -184,14 +181,14 @@ module _ (ahead : Ahead) (words : ℕ → ℕ → ℕ × ℕ) (scenario : Scenar
     ticks_node : (n : ℕ) → 1 ≤ n → n ≤ scenario.nodes → row.who ≡ n → TicksSo (value player_table (node_seat ahead scenario.groups scenario.policy n) rows)
     ticks_node n low high who node value_is event_is =
         let from = ap (λ (m : ℕ). value player_table (node_seat ahead scenario.groups scenario.policy m) rows) who ∙ value_is in
-        let is : drawn_at ahead scenario rows row ≡ drawn_ticking node.policy node.draws node.replicas = it_ticks ahead scenario rows row node (subst (λ (m : ℕ). 1 ≤ m) (sym who) low) (subst (λ (m : ℕ). m ≤ scenario.nodes) (sym who) high) from event_is in
+        let fact : drawn_at ahead scenario rows row ≡ drawn_ticking node.policy node.draws node.replicas = it_ticks ahead scenario rows row node (subst (λ (m : ℕ). 1 ≤ m) (sym who) low) (subst (λ (m : ℕ). m ≤ scenario.nodes) (sym who) high) from event_is in
         Each-from (λ (owned : Owned). K owned.name) (drawn_ticking node.policy node.draws node.replicas)
-        (λ owned a. drawn owned.name owned.group (drawn_are_owned ahead scenario rows row [] owned (subst (Among owned) (sym is) a)).1)
+        (λ owned a. drawn owned.name owned.group (drawn_are_owned ahead scenario rows row [] owned (subst (Among owned) (sym fact) a)).1)
 
     told_so : (seat : Seat Player) → IsSeat ahead scenario seat → row.who ≡ seat.who → ToldSo (value player_table seat rows) × TicksSo (value player_table seat rows)
-    told_so seat (inl (n, low, high, is)) who =
-        subst (λ (s : Seat Player). ToldSo (value player_table s rows) × TicksSo (value player_table s rows)) (sym is)
-        (told_node n low high (who ∙ ap (λ (s : Seat Player). s.who) is), ticks_node n low high (who ∙ ap (λ (s : Seat Player). s.who) is))
+    told_so seat (inl (n, low, high, fact)) who =
+        subst (λ (s : Seat Player). ToldSo (value player_table s rows) × TicksSo (value player_table s rows)) (sym fact)
+        (told_node n low high (who ∙ ap (λ (s : Seat Player). s.who) fact), ticks_node n low high (who ∙ ap (λ (s : Seat Player). s.who) fact))
     told_so seat (inr client) who = (
       λ node line value_is event_is. absurd (no_node (value player_table seat rows) node (replay_client seat.who seat.actor [] rows client) value_is),
       λ node value_is event_is. absurd (no_node (value player_table seat rows) node (replay_client seat.who seat.actor [] rows client) value_is),

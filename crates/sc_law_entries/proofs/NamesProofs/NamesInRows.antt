@@ -7,7 +7,7 @@ use Rattle.sc_node_table.specs.Values.{Draw, Op, Command, Noop, Call, GiveUp, Ba
 use Rattle.sc_words.specs.ideal.Definitions.{key_of, holds_key}
 use Rattle.sc_words.specs.declared.commands.orders.Order.TheVariants as An
 use Rattle.sc_words.specs.declared.commands.orders.OrderRefusal.TheVariants as Why
-use Rattle.sc_words.specs.declared.commands.orders.OrderResult.TheVariants as Tells
+use Rattle.sc_words.specs.declared.commands.orders.OrderResult.TheVariants as Results
 use Rattle.sc_words.specs.declared.commands.votes.Past.TheVariants as Cast
 use Rattle.sc_words.specs.declared.commands.votes.Vote.TheVariants as Says
 use Rattle.sc_mail.specs.declared.bodies.AnswerBody.TheVariants as Answers
@@ -195,7 +195,7 @@ module _ (K : Draw → Type 0) where
   name_says : TableSays name_facts
   name_says = record {
     refuses = λ from group client seq op answer r mails h e f. sent_fine r _ (Answer (name_of r) seq answer) mails (f.0.core.id, subst (λ (o : Option AnswerBody). Ans o) e (refusal_by r.group.core.gone r.group.core r.running r.hint op f.0.core.gone f.0.core)) f;
-    tells = λ drawer line why r mails given e f. sent_fine r 0 (Told line.number (Tells.Refused why)) mails (subst (λ (o : Option OrderRefusal). Refused o) e (untaken_names drawer line r f.0)) f;
+    tells = λ drawer line why r mails given e f. sent_fine r 0 (Told line.number (Results.Refused why)) mails (subst (λ (o : Option OrderRefusal). Refused o) e (untaken_names drawer line r f.0)) f;
     votes = λ from tx offer vote r mails h e f. (f.0, voted_to_names K r.me r.group from tx offer vote mails f.0.core h.0 h.1 (subst (λ (o : Option Past). PastOf o) e (standing_vote_names r.group.core tx f.0.core)) f.1);
     sees = λ from tx watch vote r mails h e f. (f.0, watched_to_names K r.me from tx watch vote mails h.0 h.1 (subst (λ (o : Option Past). PastOf o) e (standing_vote_names r.group.core tx f.0.core)) f.1);
     vote_ends = λ from tx coord part vote outcome r mails h e f. (f.0, outcome_names K r.me from tx part outcome mails h.0 h.2 (subst (λ (o : Option Outcome). Opt (OutcomeNames K) o) e (noted_outcome_names r.group.core tx f.0.core)) f.1);
@@ -233,9 +233,11 @@ module _ (K : Draw → Type 0) where
   name_ticks = record {
     waited = λ waits r mails f. f;
     gives_up = λ tx body order heard r mails e on no f. (with_act r (GiveUp tx) (subst (λ (lock : Lock). LockNames K lock) e f.0.core.lock).0 f.0, f.1);
-    reminds = λ r mails on f. (f.0, reminder_names r.group.core.lock r.me r.group mails f.0.core.lock f.0.core f.1);
-    reasks = λ to slot command r mails on e f. sent_fine r to (Accept (name_of r) r.leader.ballot slot command) mails (f.0.core.id, subst (λ (o : Option Command). Cmd K o) e (flying_names K r slot f.0)) f;
-    relearns = λ to command r mails e f. sent_fine r to (Learn (name_of r) (next r - 1) command) mails (f.0.core.id, subst (λ (o : Option Command). Cmd K o) e (held_names K (next r - 1) r f.0)) f;
+    agains = record {
+      reminds = λ r mails on f. (f.0, reminder_names r.group.core.lock r.me r.group mails f.0.core.lock f.0.core f.1);
+      reasks = λ to slot command r mails on e f. sent_fine r to (Accept (name_of r) r.leader.ballot slot command) mails (f.0.core.id, subst (λ (o : Option Command). Cmd K o) e (flying_names K r slot f.0)) f;
+      relearns = λ to command r mails e f. sent_fine r to (Learn (name_of r) (next r - 1) command) mails (f.0.core.id, subst (λ (o : Option Command). Cmd K o) e (held_names K (next r - 1) r f.0)) f;
+    };
   }
 
   -- ---- all rows

@@ -25,10 +25,10 @@ owner_of_other owned more name apart = elim (cases_Bool (same_draw owned.name na
 pub owner_was_drawn : (drawn : List Owned) (name group : Draw) → owner_by drawn name ≡ Some group → Among (owned_by name group) drawn
 owner_was_drawn [] name group e = cc
 owner_was_drawn (owned ∷ more) name group e = elim (cases_Bool (same_draw owned.name name)) [
-  | inl t ↦ inl (let is : owned.name ≡ name = draw_is owned.name name t in
+  | inl t ↦ inl (let fact : owned.name ≡ name = draw_is owned.name name t in
       let same : Some owned.group ≡ Some group = sym (cond-true (same_draw owned.name name) (Some owned.group) (owner_by more name) t) ∙ e in
       let group_is : owned.group ≡ group = cc in
-      ap (λ (n : Draw). owned_by n owned.group) is ∙ ap (λ (g : Draw). owned_by name g) group_is)
+      ap (λ (n : Draw). owned_by n owned.group) fact ∙ ap (λ (g : Draw). owned_by name g) group_is)
   | inr f ↦ inr (owner_was_drawn more name group (sym (cond-false (same_draw owned.name name) (Some owned.group) (owner_by more name) f) ∙ e))
 ]
 

@@ -8,7 +8,7 @@ use Rattle.sc_node_table.specs.Values.{Draw, Op, Input, Got, Base, OrderLine, An
 use Rattle.sc_actor.specs.declared.rows.Input.TheVariants.{Tick, Go, Told}
 use Rattle.sc_client_table.specs.table.Definitions.{Client as ClientState, waiting_request, ClientStep, asked_of, sent_to, sent_where, chosen_for, request_sent, started, turned_on, client_ticked, waits_for, was_asked, redirected, answer_taken, got, table}
 use Rattle.sc_words.specs.declared.commands.orders.OrderRefusal.TheVariants as Why
-use Rattle.sc_words.specs.declared.commands.orders.OrderResult.TheVariants as Tells
+use Rattle.sc_words.specs.declared.commands.orders.OrderResult.TheVariants as Results
 use Rattle.sc_client_table.specs.declared.lookup.ways.Way.{Way}
 use Rattle.sc_client_table.specs.lookup.Definitions.{KnownGroups, way_to, better, chosen, target_in, changed, preferring, passed_on, starting, group_learnt, learnt_from_not_mine, learnt_from_gone, far, new_way, next_target}
 use Rattle.sc_mail.specs.declared.bodies.AnswerBody.TheVariants as Answers
@@ -96,7 +96,7 @@ module _ (K : Draw → Type 0) where
 
   order_by : (o : Option ReplicaState) (line : OrderLine) (node : NodeState) → replica_of (group_of_order line.order) node.replicas ≡ o → Opt (ReplicaNames K) o
       → ((r : ReplicaState) → o ≡ Some r → untaken node.draws line r ≡ None → takes_name line.order ≡ true → K (next_name node.draws)) → NodeNames K node → NodeStep (ordered_of o line node)
-  order_by None line node e r d k = (k, sent_names K node.me 0 (ToldMail line.number (Tells.Refused (Why.NotLeader None))) [] tt tt)
+  order_by None line node e r d k = (k, sent_names K node.me 0 (ToldMail line.number (Results.Refused (Why.NotLeader None))) [] tt tt)
   order_by (Some replica) line node e r d k =
       let f : Fine K (ordered_row node.draws line (replica, [])) = ordered_row_names K node.draws line (replica, []) (λ taken. order_names K (next_name node.draws) line.number line.order (λ named. d replica refl taken named)) (r, tt) in
       (put_names (group_of_order line.order) (ordered_row node.draws line (replica, [])).0 node.replicas f.0 k, f.1)

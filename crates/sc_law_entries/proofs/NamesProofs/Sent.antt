@@ -5,7 +5,7 @@ use Rattle.sc_node_table.specs.Values.{Draw, Body, Offer, Watch, Command, Call, 
 use Rattle.sc_words.specs.declared.commands.bodies.Body.TheVariants as At
 use Rattle.sc_words.specs.declared.commands.effects.Effect.TheVariants as Was
 use Rattle.sc_words.specs.declared.commands.orders.OrderRefusal.TheVariants as Why
-use Rattle.sc_words.specs.declared.commands.orders.OrderResult.TheVariants as Tells
+use Rattle.sc_words.specs.declared.commands.orders.OrderResult.TheVariants as Results
 use Rattle.sc_words.specs.declared.commands.votes.Outcome.TheVariants as Is
 use Rattle.sc_words.specs.declared.commands.votes.Past.TheVariants as Cast
 use Rattle.sc_words.specs.declared.commands.votes.Vote.TheVariants as Says
@@ -55,11 +55,11 @@ module _ (K : Draw → Type 0) where
   dismissed_names : (me : ℕ) (group : Draw) (hint : Option ℕ) (answer : AnswerBody) (command : Command) (mails : List Mail) → K group → AnswerNames K answer → Sent mails → Sent (dismissed me group hint answer command mails)
   unfolding dismissed
   dismissed_names me group hint answer (Call client seq op) mails g a m = sent_names me _ (Answer group seq answer) mails (g, a) m
-  dismissed_names me group hint answer (Join node order) mails g a m = reported_names me order (Tells.Refused (Why.NotLeader hint)) mails tt m
-  dismissed_names me group hint answer (Leave node order) mails g a m = reported_names me order (Tells.Refused (Why.NotLeader hint)) mails tt m
-  dismissed_names me group hint answer (Split at child order) mails g a m = reported_names me order (Tells.Refused (Why.NotLeader hint)) mails tt m
-  dismissed_names me group hint answer (Begin tx body order) mails g a m = reported_names me order (Tells.Refused (Why.NotLeader hint)) mails tt m
-  dismissed_names me group hint answer _ mails g a m = reported_names me 0 (Tells.Refused (Why.NotLeader hint)) mails tt m
+  dismissed_names me group hint answer (Join node order) mails g a m = reported_names me order (Results.Refused (Why.NotLeader hint)) mails tt m
+  dismissed_names me group hint answer (Leave node order) mails g a m = reported_names me order (Results.Refused (Why.NotLeader hint)) mails tt m
+  dismissed_names me group hint answer (Split at child order) mails g a m = reported_names me order (Results.Refused (Why.NotLeader hint)) mails tt m
+  dismissed_names me group hint answer (Begin tx body order) mails g a m = reported_names me order (Results.Refused (Why.NotLeader hint)) mails tt m
+  dismissed_names me group hint answer _ mails g a m = reported_names me 0 (Results.Refused (Why.NotLeader hint)) mails tt m
 
   pub dismissed_all_names : (me : ℕ) (group : Draw) (hint : Option ℕ) (answer : AnswerBody) (commands : List Command) (mails : List Mail) → K group → AnswerNames K answer → Sent mails → Sent (dismissed_all me group hint answer commands mails)
   unfolding dismissed_all
@@ -227,6 +227,6 @@ module _ (K : Draw → Type 0) where
   pub spoken_names : (counted : Bool) (me : ℕ) (group : Group) (before : Before) (effect : Effect) (command : Command) (mails : List Mail) → CoreNames K group.core → BeforeNames before → EffectNames K effect → CommandNames K command → Sent mails → Sent (spoken_mails counted me group before effect command mails)
   unfolding spoken_mails
   spoken_names counted me group before effect command mails k b e c m =
-      let told = begun_reported_names me before effect command mails e m in
+      let recorded = begun_reported_names me before effect command mails e m in
       either_way Sent counted (went_on me group before effect command (begun_reported me before effect command mails)) (begun_reported me before effect command mails)
-      (went_on_names me group before effect command (begun_reported me before effect command mails) k b e c told) told
+      (went_on_names me group before effect command (begun_reported me before effect command mails) k b e c recorded) recorded

@@ -29,12 +29,12 @@ waited_group (Coordinating tx body order heard) r =
 
 module _ (P : Draw → OrderLine → Type 0) (core : Core) (pairs : List (List ℕ × List ℕ)) (each : (body : Body0) → wished core pairs ≡ Some body → P core.id (policy_line (order_of core.id body))) where
   of_body : (o : Option Body0) → wished core pairs ≡ o → (line : OrderLine) → option_map policy_line (option_map (order_of core.id) o) ≡ Some line → P core.id line
-  of_body None e line is = cc
-  of_body (Some body) e line is = (let same : policy_line (order_of core.id body) ≡ line = cc in subst (P core.id) same (each body e))
+  of_body None e line fact = cc
+  of_body (Some body) e line fact = (let same : policy_line (order_of core.id body) ≡ line = cc in subst (P core.id) same (each body e))
 
   of_line : (rests : Bool) (line : OrderLine) → cond rests (option_map policy_line (wished_order core pairs)) None ≡ Some line → P core.id line
   of_line rests line =
-      cond_both rests (option_map policy_line (wished_order core pairs)) None (λ (o : Option OrderLine). o ≡ Some line → P core.id line) (λ _ is. of_body (wished core pairs) refl line is) (λ _ is. cc)
+      cond_both rests (option_map policy_line (wished_order core pairs)) None (λ (o : Option OrderLine). o ≡ Some line → P core.id line) (λ _ fact. of_body (wished core pairs) refl line fact) (λ _ fact. cc)
 
 -- so of what is ordered at a tick
 of_tick : (P : Draw → OrderLine → Type 0) (on : Bool) (r : ReplicaState) (line : OrderLine)
@@ -43,9 +43,9 @@ of_tick P on r line each =
     let w = waited r in
     let same : w.group ≡ r.group = waited_group r.group.core.lock r in
     let here = subst (λ (g : Group). (body : Body0) → wished g.core (entries g.pairs) ≡ Some body → P g.core.id (policy_line (order_of g.core.id body))) (sym same) each in
-    cond_both (is_some r.group.core.gone || not (is_member (members r) r.me)) None (cond (not (settled r)) None (wished_line on w)) (λ (o : Option OrderLine). o ≡ Some line → P (name_of r) line) (λ _ is. cc)
-    (λ _. cond_both (not (settled r)) None (wished_line on w) (λ (o : Option OrderLine). o ≡ Some line → P (name_of r) line) (λ _ is. cc)
-    (λ _ is. subst (λ (g : Group). P g.core.id line) same (of_line P w.group.core (entries w.group.pairs) here (on && is_at_rest w) line is)))
+    cond_both (is_some r.group.core.gone || not (is_member (members r) r.me)) None (cond (not (settled r)) None (wished_line on w)) (λ (o : Option OrderLine). o ≡ Some line → P (name_of r) line) (λ _ fact. cc)
+    (λ _. cond_both (not (settled r)) None (wished_line on w) (λ (o : Option OrderLine). o ≡ Some line → P (name_of r) line) (λ _ fact. cc)
+    (λ _ fact. subst (λ (g : Group). P g.core.id line) same (of_line P w.group.core (entries w.group.pairs) here (on && is_at_rest w) line fact)))
 
 -- ---- the group
 
@@ -82,4 +82,4 @@ wished_placed core pairs =
     (λ _. unplaced))
 
 pub wishes_at_positions : WishesAreAtPositions
-wishes_at_positions on r line e = of_tick (λ group l. IsAtPosition l.order) on r line (λ body is. wished_placed r.group.core (entries r.group.pairs) r.group.core.id body is) e
+wishes_at_positions on r line e = of_tick (λ group l. IsAtPosition l.order) on r line (λ body fact. wished_placed r.group.core (entries r.group.pairs) r.group.core.id body fact) e

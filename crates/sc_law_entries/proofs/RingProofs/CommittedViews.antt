@@ -31,7 +31,7 @@ use Rattle.sc_law_entries.proofs.RingProofs.Recut.{IsWhole, merge_whole}
 use Rattle.sc_law_entries.proofs.RingProofs.Facts.{IsOf}
 use Rattle.sc_law_entries.proofs.RingProofs.Ends.{own_story}
 use Rattle.sc_law_entries.proofs.RingProofs.Effects.{decisions, outcome_of, settle_by, living, eff, arc_of, succ_of, pred_of, view_of, IsInside, AllInside, Good, Agrees, whole_agree, inside_same, Old, eff_by, living_is, eff_free, party}
-use Rattle.sc_law_entries.proofs.RingProofs.RequestsAndVotes.{same_fun, watch_settled}
+use Rattle.sc_law_entries.proofs.RingProofs.RequestsAndOrders.{same_fun, watch_settled}
 use Rattle.sc_law_entries.proofs.RingProofs.Insides.{InsideOf, room_of}
 use Rattle.sc_law_entries.proofs.RingProofs.Finds.{some_none}
 
@@ -91,7 +91,7 @@ untouched ys tx y s ne = ap living (untouched_lock ys tx y s.core.lock s ne)
 -- a group that decides its transaction
 pub record IsDeciding (owner : Draw → Option Draw) (gs : Groups) (ys : Stories) (g : Draw) (s : Group) (tx : Draw) (body : Body) (heard : Option Heard) (y : Story) : Type 0 where
   pub facts : Facts owner gs ys
-  pub is : gs g ≡ Some s
+  pub fact : gs g ≡ Some s
   pub order : ℕ
   pub lock : s.core.lock ≡ Coordinating tx body order heard
   pub there : ys tx ≡ Some y
@@ -120,8 +120,8 @@ promise_settled o tx s offer c lock =
 module _ (owner : Draw → Option Draw) (gs : Groups) (ys : Stories) (g : Draw) (s : Group) (tx : Draw) (body : Body) (heard : Option Heard) (y : Story) (d : IsDeciding owner gs ys g s tx body heard y) where
   pub own_is : IsOwn g s tx body heard y
   own_is =
-      let own = own_story gs ys owner g s tx body d.order heard d.facts d.is d.lock in
-      let q = same_Some y own.story (sym d.there ∙ own.is) in
+      let own = own_story gs ys owner g s tx body d.order heard d.facts d.fact d.lock in
+      let q = same_Some y own.story (sym d.there ∙ own.fact) in
       record {
         coordinator = ap (λ (z : Story). z.coordinator) q ∙ own.coordinator;
         undecided = ap (λ (z : Story). z.outcome) q ∙ own.undecided;
@@ -135,7 +135,7 @@ module _ (owner : Draw → Option Draw) (gs : Groups) (ys : Stories) (g : Draw) 
 
   -- the coordinator before and after
   pub mine_old : Old gs ys g ≡ Some s
-  mine_old = ap (eff (decisions ys)) d.is ∙ eff_by (decisions ys) s (Coordinating tx body d.order heard) d.lock ∙ living_is s own_is.here
+  mine_old = ap (eff (decisions ys)) d.fact ∙ eff_by (decisions ys) s (Coordinating tx body d.order heard) d.lock ∙ living_is s own_is.here
 
   pub mine_new : (s' : Group) (y' : Story) → s'.core.gone ≡ s.core.gone → s'.core.lock ≡ Free → New gs ys g s' tx y' g ≡ Some s'
   mine_new s' y' gone free = ap (eff (decisions (put ys tx (Some y')))) (at-same gs g (Some s')) ∙ eff_free (decisions (put ys tx (Some y'))) s' (gone ∙ own_is.here) free
@@ -156,12 +156,12 @@ module _ (owner : Draw → Option Draw) (gs : Groups) (ys : Stories) (g : Draw) 
   pub part_eff : (s' : Group) (y' : Story) (o : Outcome) (f : Frozen) (r : IsFrozen gs tx y f) → (r.offer.part ≡ g → ⊥) → y'.outcome ≡ Some o → is_commit o ≡ true
       → (Old gs ys r.offer.part ≡ Some r.group) × (New gs ys g s' tx y' r.offer.part ≡ living (settled_in (participant_after o r.group r.offer) r.group tx o).0) × (r.group.core.gone ≡ None)
   part_eff s' y' o f r ne out c =
-      let ok = d.facts.group r.offer.part r.group r.is in
+      let ok = d.facts.group r.offer.part r.group r.fact in
       let promised = subst (LockOk ys r.offer.part r.group) r.lock ok.lock_ok in
       let f' = decisions (put ys tx (Some y')) in (
-        ap (eff (decisions ys)) r.is ∙ eff_by (decisions ys) r.group (Promised tx r.offer) r.lock ∙ ap (λ z. living (after_outcome (outcome_of z) tx r.group)) d.there
+        ap (eff (decisions ys)) r.fact ∙ eff_by (decisions ys) r.group (Promised tx r.offer) r.lock ∙ ap (λ z. living (after_outcome (outcome_of z) tx r.group)) d.there
             ∙ ap (λ z. living (after_outcome z tx r.group)) own_is.undecided ∙ living_is r.group promised.here,
-        ap (eff f') (at-other gs g (Some s') r.offer.part ne ∙ r.is) ∙ eff_by f' r.group (Promised tx r.offer) r.lock
+        ap (eff f') (at-other gs g (Some s') r.offer.part ne ∙ r.fact) ∙ eff_by f' r.group (Promised tx r.offer) r.lock
             ∙ ap (λ z. living (after_outcome (outcome_of z) tx r.group)) (at-same ys tx (Some y')) ∙ ap (λ z. living (after_outcome z tx r.group)) out
             ∙ ap living (promise_settled o tx r.group r.offer c r.lock),
         promised.here,
@@ -171,12 +171,12 @@ module _ (owner : Draw → Option Draw) (gs : Groups) (ys : Stories) (g : Draw) 
   pub watch_eff : (s' : Group) (y' : Story) (o : Outcome) (r : IsAgreed gs tx y) → (r.watch.part ≡ g → ⊥) → y'.outcome ≡ Some o → is_commit o ≡ true
       → (Old gs ys r.watch.part ≡ Some r.group) × (New gs ys g s' tx y' r.watch.part ≡ Some (party_freed (watcher_after o r.group r.watch) tx))
   watch_eff s' y' o r ne out c =
-      let ok = d.facts.group r.watch.part r.group r.is in
+      let ok = d.facts.group r.watch.part r.group r.fact in
       let watching = subst (LockOk ys r.watch.part r.group) r.lock ok.lock_ok in
       let f' = decisions (put ys tx (Some y')) in (
-        ap (eff (decisions ys)) r.is ∙ eff_by (decisions ys) r.group (Watching tx r.watch) r.lock ∙ ap (λ z. living (after_outcome (outcome_of z) tx r.group)) d.there
+        ap (eff (decisions ys)) r.fact ∙ eff_by (decisions ys) r.group (Watching tx r.watch) r.lock ∙ ap (λ z. living (after_outcome (outcome_of z) tx r.group)) d.there
             ∙ ap (λ z. living (after_outcome z tx r.group)) own_is.undecided ∙ living_is r.group watching.here,
-        ap (eff f') (at-other gs g (Some s') r.watch.part ne ∙ r.is) ∙ eff_by f' r.group (Watching tx r.watch) r.lock
+        ap (eff f') (at-other gs g (Some s') r.watch.part ne ∙ r.fact) ∙ eff_by f' r.group (Watching tx r.watch) r.lock
             ∙ ap (λ z. living (after_outcome (outcome_of z) tx r.group)) (at-same ys tx (Some y')) ∙ ap (λ z. living (after_outcome z tx r.group)) out
             ∙ ap living (watch_settled o tx r.group r.watch c r.lock)
             ∙ living_is (party_freed (watcher_after o r.group r.watch) tx) watching.here,
@@ -251,7 +251,7 @@ apart_of d g p s f w mine its ne n fits a b =
 
 -- the ring has the arc of a record
 pub ring_at : (ring : Ring) (d : Draw → Option Group) (g : Draw) (s : Group) → Good ring d → d g ≡ Some s → ring g ≡ Some s.core.arc
-ring_at ring d g s w is = w.2 g ∙ ap arc_of is
+ring_at ring d g s w fact = w.2 g ∙ ap arc_of fact
 
 pub both_are : (a b : Option Arc) (x y : Arc) → a ≡ Some x → b ≡ Some y → both_arcs a b ≡ Some (joined x y)
 both_are a b x y e q = ap (λ o. both_arcs o b) e ∙ ap (both_arcs (Some x)) q

@@ -44,10 +44,10 @@ recut_other g a h ne (Some c) named = ap (λ (x : Cut). Some x.arc) (cond-false 
 
 -- a group that has a cut gets another arc
 pub recut_is : (g : Draw) (a b : Arc) (ring : List Cut) → arc_in g ring ≡ Some b → (h : Draw) → arc_in h (recut g a ring) ≡ put (arcs_in ring) g (Some a) h
-recut_is g a b ring is h =
+recut_is g a b ring fact h =
     ap (option_map (λ (c : Cut). c.arc)) (find_map (is_cut_of h) (recut_one g a) (recut_name g a h) ring)
     ∙ elim (draw_cases h g) as (λ _. option_map (λ (c : Cut). c.arc) (option_map (recut_one g a) (find (is_cut_of h) ring)) ≡ put (arcs_in ring) g (Some a) h) [
-      | inl q ↦ recut_same g a h q (find (is_cut_of h) ring) (λ c e. cut_named h ring c e) b (ap (arcs_in ring) q ∙ is) ∙ sym (at-is (arcs_in ring) g (Some a) h q)
+      | inl q ↦ recut_same g a h q (find (is_cut_of h) ring) (λ c e. cut_named h ring c e) b (ap (arcs_in ring) q ∙ fact) ∙ sym (at-is (arcs_in ring) g (Some a) h q)
       | inr ne ↦ recut_other g a h ne (find (is_cut_of h) ring) (λ c e. cut_named h ring c e) ∙ sym (at-other (arcs_in ring) g (Some a) h ne)
     ]
 
@@ -137,12 +137,12 @@ module _ (g : Draw) (d : Division) where
 
   pub divided_is : (g ≡ d.child → ⊥) → (ring : List Cut) (arc : Arc) → arc_in g ring ≡ Some arc → find (is_cut_of d.child) ring ≡ None → (h : Draw)
       → arc_in h (flat_map (parts_of g d) ring) ≡ put (put (arcs_in ring) g (Some (before arc d.at))) d.child (Some (from arc d.at)) h
-  divided_is gc ring arc is none h =
+  divided_is gc ring arc fact none h =
       let mid = put (arcs_in ring) g (Some (before arc d.at)) in
       elim (draw_cases h d.child) [
-        | inl q ↦ ap (arcs_in (flat ring)) q ∙ divided_second gc ring arc is none ∙ sym (at-is mid d.child (Some (from arc d.at)) h q)
+        | inl q ↦ ap (arcs_in (flat ring)) q ∙ divided_second gc ring arc fact none ∙ sym (at-is mid d.child (Some (from arc d.at)) h q)
         | inr nc ↦ elim (draw_cases h g) as (λ _. arc_in h (flat ring) ≡ put mid d.child (Some (from arc d.at)) h) [
-          | inl q ↦ ap (arcs_in (flat ring)) q ∙ divided_first ring arc is ∙ sym (at-is (arcs_in ring) g (Some (before arc d.at)) h q) ∙ sym (at-other mid d.child (Some (from arc d.at)) h nc)
+          | inl q ↦ ap (arcs_in (flat ring)) q ∙ divided_first ring arc fact ∙ sym (at-is (arcs_in ring) g (Some (before arc d.at)) h q) ∙ sym (at-other mid d.child (Some (from arc d.at)) h nc)
           | inr ng ↦ ap (option_map (λ (x : Cut). x.arc)) (divided_other h ng nc ring) ∙ sym (at-other (arcs_in ring) g (Some (before arc d.at)) h ng) ∙ sym (at-other mid d.child (Some (from arc d.at)) h nc)
         ]
       ]

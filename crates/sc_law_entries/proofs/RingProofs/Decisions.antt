@@ -26,7 +26,7 @@ use Rattle.sc_group_table.specs.machine.Definitions.{decided, Group, group_of, c
 use Rattle.sc_meaning.specs.entries.Definitions.{division_in}
 use Rattle.sc_meaning.specs.declared.entries.Division.{Division}
 use Rattle.sc_law_walks.proofs.Lemmas.{vote_step, watch_step}
-use Rattle.sc_law_entries.specs.ring.Definitions.{IsVoteCast, IsWatchVoteCast, Story, Stories, put, retold, merge_watch, with_decision, with_answer, Groups, IsEarned, Facts}
+use Rattle.sc_law_entries.specs.ring.Definitions.{IsVoteCast, IsWatchVoteCast, Story, Stories, put, with_story, merge_watch, with_decision, with_answer, Groups, IsEarned, Facts}
 use Rattle.sc_meaning.proofs.EntriesProofs.Lemmas.{names_differ}
 use Rattle.sc_law_entries.proofs.RingProofs.Notes.{any_keeps, any_drops, any_new, is_vote_on}
 use Rattle.sc_law_entries.proofs.RingProofs.View.{Ring}
@@ -37,7 +37,8 @@ use Rattle.sc_law_entries.proofs.RingProofs.CommittedViews.{ring_cut, ring_out, 
 use Rattle.sc_law_entries.proofs.RingProofs.Reshapes.{Ends, merge_closing, merge_watched}
 use Rattle.sc_law_entries.proofs.RingProofs.Moves.{cut_is, give_commit, take_commit, migrate_commit}
 use Rattle.sc_law_entries.proofs.RingProofs.Splits.{divide_commit}
-use Rattle.sc_law_entries.proofs.RingProofs.RequestsAndVotes.{Kept, idle_told, told_at, outcome_like}
+use Rattle.sc_law_entries.proofs.RingProofs.RequestsAndOrders.{Kept, idle_told, told_at}
+use Rattle.sc_law_entries.proofs.RingProofs.VotesOfParties.{outcome_like}
 use Rattle.sc_law_entries.proofs.RingProofs.Finds.{some_none}
 use Rattle.sc_law_entries.proofs.RingProofs.Facts.{StayBorn}
 
@@ -72,19 +73,19 @@ decision_of s m tx o id dec vot born = record {
 earned_by : (y : Story) (f : Frozen) → y.vote ≡ Some (Ballot.Yes f) → y.watch ≡ None → IsEarned y
 earned_by y f vote none = (λ offer o. (f, vote), λ w e. absurd (some_none w (sym e ∙ none)))
 
-module _ (owner : Draw → Option Draw) (ring : Ring) (gs : Groups) (ys : Stories) (g : Draw) (s : Group) (k : Kept owner ring gs ys) (is : gs g ≡ Some s) where
+module _ (owner : Draw → Option Draw) (ring : Ring) (gs : Groups) (ys : Stories) (g : Draw) (s : Group) (k : Kept owner ring gs ys) (fact : gs g ≡ Some s) where
   pub mine_open : (tx : Draw) (body : Body) (order : ℕ) (heard : Option Heard) → s.core.lock ≡ Coordinating tx body order heard → IsMineOpen owner gs ys g s tx body heard
   mine_open tx body order heard lock =
-      let own = own_story gs ys owner g s tx body order heard k.0 is lock in
+      let own = own_story gs ys owner g s tx body order heard k.0 fact lock in
       record {
         story = own.story;
-        deciding = record { facts = k.0; is = is; order = order; lock = lock; there = own.is };
+        deciding = record { facts = k.0; fact = fact; order = order; lock = lock; there = own.fact };
         heard_vote = own.heard_vote;
-        unborn = λ at child e. (k.0.story tx own.story own.is).unborn at child (own.same_body ∙ e) own.undecided;
+        unborn = λ at child e. (k.0.story tx own.story own.fact).unborn at child (own.same_body ∙ e) own.undecided;
       }
 
   named : s.core.id ≡ g
-  named = (k.0.group g s is).named
+  named = (k.0.group g s fact).named
 
   -- an abort
   abort_kept : (tx : Draw) (body : Body) (heard : Option Heard) → (o : IsMineOpen owner gs ys g s tx body heard) → Kept owner ring (put gs g (Some (decided_group s tx Abort))) (put ys tx (Some (Ends o.story Abort)))
@@ -94,8 +95,8 @@ module _ (owner : Draw → Option Draw) (ring : Ring) (gs : Groups) (ys : Storie
       let own = own_is owner gs ys g s tx body heard y d in
       let ys' : Stories = put ys tx (Some (Ends y Abort)) in
       let s' = decided_group s tx Abort in (
-        decide_facts gs ys owner g s s' tx body d.order heard y Abort k.0 is d.lock d.there (decision_of s s tx Abort refl refl refl (λ h b. b)) (λ na. absurd (na refl)),
-        whole_change ring gs ys ys' g s s' is (like_at ys tx (Ends y Abort) (Some y) d.there (subst (λ x. Like x (Some Abort)) (sym own.undecided) like_abort))
+        decide_facts gs ys owner g s s' tx body d.order heard y Abort k.0 fact d.lock d.there (decision_of s s tx Abort refl refl refl (λ h b. b)) (λ na. absurd (na refl)),
+        whole_change ring gs ys ys' g s s' fact (like_at ys tx (Ends y Abort) (Some y) d.there (subst (λ x. Like x (Some Abort)) (sym own.undecided) like_abort))
             (let a = eff_by (decisions ys) s (Coordinating tx body d.order heard) d.lock ∙ living_is s own.here in
             let b : eff (decisions ys') (Some s') ≡ Some s' = living_is s' own.here in
             (ap arc_of a ∙ sym (ap arc_of b), ap succ_of a ∙ sym (ap succ_of b), ap pred_of a ∙ sym (ap pred_of b), ap pairs_of a ∙ sym (ap pairs_of b))) k.1,
@@ -104,10 +105,10 @@ module _ (owner : Draw → Option Draw) (ring : Ring) (gs : Groups) (ys : Storie
   -- ---- the participant's vote is recorded
 
   abbrev Lands : Draw → Vote → Group × Effect → Type 0
-  Lands tx vote r = Kept owner (ring_out (decided_in r.1) ring s.core.id s.core.succ.group) (put gs g (Some r.0)) (retold ys tx (with_answer s.core vote r.1))
+  Lands tx vote r = Kept owner (ring_out (decided_in r.1) ring s.core.id s.core.succ.group) (put gs g (Some r.0)) (with_story ys tx (with_answer s.core vote r.1))
 
   lands_idle : (tx : Draw) (vote : Vote) → Lands tx vote (s, Was.NoEffect tx)
-  lands_idle tx vote = idle_told owner ring gs ys g s tx (with_answer s.core vote (Was.NoEffect tx)) (λ y. refl) k is
+  lands_idle tx vote = idle_told owner ring gs ys g s tx (with_answer s.core vote (Was.NoEffect tx)) (λ y. refl) k fact
 
   lands_decided : (tx : Draw) (vote : Vote) (y : Story) (o : Outcome) (b : Group) → ys tx ≡ Some y
       → Facts owner (put gs g (Some b)) (put ys tx (Some (Ends y o))) → Good (ring_out (Some o) ring g s.core.succ.group) (New gs ys g b tx (Ends y o)) → Lands tx vote (b, Was.Decided o)
@@ -125,7 +126,7 @@ module _ (owner : Draw → Option Draw) (ring : Ring) (gs : Groups) (ys : Storie
       let b = decided_group (giving_group s at f) tx out in
       let cut : can_cut s.core.arc at ≡ true = sym (cond-true (holds s.core.arc at) (can_cut s.core.arc at) (can_cut f.arc at && can_join s.core.arc (before f.arc at)) e) ∙ c in
       lands_decided tx (Ballot.Yes f) y out b d.there
-      (decide_facts gs ys owner g s b tx (At.Repart at) d.order None y out k.0 is d.lock d.there (decision_of s (giving_group s at f) tx out refl refl refl (λ h q. q)) (λ na. earned_by y f vote own.watch))
+      (decide_facts gs ys owner g s b tx (At.Repart at) d.order None y out k.0 fact d.lock d.there (decision_of s (giving_group s at f) tx out refl refl refl (λ h q. q)) (λ na. earned_by y f vote own.watch))
       (give_commit owner ring gs ys g s tx at y d f vote own.own cut e k.1)
 
   takes_kept : (tx : Draw) (at : ℕ) (f : Frozen) → (o : IsMineOpen owner gs ys g s tx (At.Repart at) None) → o.story.vote ≡ Some (Ballot.Yes f) → holds s.core.arc at ≡ false → (can_repart s.core at f && not (has_key_of s.pairs (taken at f).pairs)) ≡ true
@@ -139,7 +140,7 @@ module _ (owner : Draw → Option Draw) (ring : Ring) (gs : Groups) (ys : Storie
       let may = (and_parts (can_repart s.core at f) (not (has_key_of s.pairs (taken at f).pairs)) c).0 in
       let both : (can_cut f.arc at && can_join s.core.arc (before f.arc at)) ≡ true = sym (cond-false (holds s.core.arc at) (can_cut s.core.arc at) (can_cut f.arc at && can_join s.core.arc (before f.arc at)) e) ∙ may in
       lands_decided tx (Ballot.Yes f) y out b d.there
-      (decide_facts gs ys owner g s b tx (At.Repart at) d.order None y out k.0 is d.lock d.there (decision_of s (taking_group s at f) tx out refl refl refl (λ h q. q)) (λ na. earned_by y f vote own.watch))
+      (decide_facts gs ys owner g s b tx (At.Repart at) d.order None y out k.0 fact d.lock d.there (decision_of s (taking_group s at f) tx out refl refl refl (λ h q. q)) (λ na. earned_by y f vote own.watch))
       (take_commit owner ring gs ys g s tx at y d f vote own.own (and_parts (can_cut f.arc at) (can_join s.core.arc (before f.arc at)) both).0 e k.1)
 
   hear_kept : (tx : Draw) (f : Frozen) (by : ℕ) → (o : IsMineOpen owner gs ys g s tx At.Merge None) → o.story.vote ≡ Some (Ballot.Yes f) → same_draw f.succ.group s.core.id ≡ false
@@ -153,8 +154,8 @@ module _ (owner : Draw → Option Draw) (ring : Ring) (gs : Groups) (ys : Storie
       let y' : Story = record y { watch = merge_watch s.core (Some h) } in
       let ys' = put ys tx (Some y') in
       subst (λ z. Kept owner ring (put gs g (Some s')) z) (sym (told_at ys tx (with_answer s.core (Ballot.Yes f) Was.Changed) y d.there)) (
-        hear_facts gs ys owner g s tx d.order y h k.0 is d.lock d.there vote (λ q. names_differ f.succ.group s.core.id e (q ∙ sym named)),
-        whole_change ring gs ys ys' g s s' is (outcome_like ys tx y y' d.there refl)
+        hear_facts gs ys owner g s tx d.order y h k.0 fact d.lock d.there vote (λ q. names_differ f.succ.group s.core.id e (q ∙ sym named)),
+        whole_change ring gs ys ys' g s s' fact (outcome_like ys tx y y' d.there refl)
             (let a = eff_by (decisions ys) s (Coordinating tx At.Merge d.order None) d.lock ∙ living_is s own.here in
             let b : eff (decisions ys') (Some s') ≡ Some s' = living_is s' own.here in
             (ap arc_of a ∙ sym (ap arc_of b), ap succ_of a ∙ sym (ap succ_of b), ap pred_of a ∙ sym (ap pred_of b), ap pairs_of a ∙ sym (ap pairs_of b))) k.1,
@@ -167,7 +168,7 @@ module _ (owner : Draw → Option Draw) (ring : Ring) (gs : Groups) (ys : Storie
       let own = own_is owner gs ys g s tx At.Merge None y d in
       let out : Outcome = Merged (merged_route s.core f) in
       lands_decided tx (Ballot.Yes f) y out (decided_group (closing_group s f) tx out) d.there
-      (decide_facts gs ys owner g s (decided_group (closing_group s f) tx out) tx At.Merge d.order None y out k.0 is d.lock d.there (decision_of s (closing_group s f) tx out refl refl refl (λ h q. q)) (λ na. earned_by y f vote own.watch))
+      (decide_facts gs ys owner g s (decided_group (closing_group s f) tx out) tx At.Merge d.order None y out k.0 fact d.lock d.there (decision_of s (closing_group s f) tx out refl refl refl (λ h q. q)) (λ na. earned_by y f vote own.watch))
       (merge_closing owner ring gs ys g s tx y f d vote named e k.1)
 
   migrates_kept : (tx : Draw) (node : ℕ) (f : Frozen) → (o : IsMineOpen owner gs ys g s tx (At.Migrate node) None) → o.story.vote ≡ Some (Ballot.Yes f) → can_migrate s.core node f ≡ true → Lands tx (Ballot.Yes f) (decided (migrated_group s node f) tx (Migrated node))
@@ -178,7 +179,7 @@ module _ (owner : Draw → Option Draw) (ring : Ring) (gs : Groups) (ys : Storie
       let out : Outcome = Migrated node in
       let few = (and_parts (is_member s.core.members node && nat_le 2 (length s.core.members)) (nat_le (length (united f.members (node ∷ []))) 9) c).1 in
       lands_decided tx (Ballot.Yes f) y out (decided_group (migrated_group s node f) tx out) d.there
-      (decide_facts gs ys owner g s (decided_group (migrated_group s node f) tx out) tx (At.Migrate node) d.order None y out k.0 is d.lock d.there (decision_of s (migrated_group s node f) tx out refl refl refl (λ h q. q)) (λ na. earned_by y f vote own.watch))
+      (decide_facts gs ys owner g s (decided_group (migrated_group s node f) tx out) tx (At.Migrate node) d.order None y out k.0 fact d.lock d.there (decision_of s (migrated_group s node f) tx out refl refl refl (λ h q. q)) (λ na. earned_by y f vote own.watch))
       (migrate_commit owner ring gs ys g s tx node y d f vote few k.1)
 
   vote_is : (tx : Draw) (f : Frozen) (y : Story) → ys tx ≡ Some y → IsVoteCast ys tx (Ballot.Yes f) → y.vote ≡ Some (Ballot.Yes f)
@@ -206,23 +207,23 @@ module _ (owner : Draw → Option Draw) (ring : Ring) (gs : Groups) (ys : Storie
   -- ---- giving up
 
   pub give_up_kept : (tx : Draw) (l : Lock) → s.core.lock ≡ l
-      → (let r = cond (is_coordinating l tx) (aborted s tx) (s, Was.NoEffect tx) in Kept owner ring (put gs g (Some r.0)) (retold ys tx (with_decision (decided_in r.1))))
-  give_up_kept tx Free e = idle_told owner ring gs ys g s tx (with_decision None) (λ y. refl) k is
+      → (let r = cond (is_coordinating l tx) (aborted s tx) (s, Was.NoEffect tx) in Kept owner ring (put gs g (Some r.0)) (with_story ys tx (with_decision (decided_in r.1))))
+  give_up_kept tx Free e = idle_told owner ring gs ys g s tx (with_decision None) (λ y. refl) k fact
   give_up_kept tx (Coordinating t body order heard) e =
-      cond_both (same_draw t tx) _ _ (λ (r : Group × Effect). Kept owner ring (put gs g (Some r.0)) (retold ys tx (with_decision (decided_in r.1))))
+      cond_both (same_draw t tx) _ _ (λ (r : Group × Effect). Kept owner ring (put gs g (Some r.0)) (with_story ys tx (with_decision (decided_in r.1))))
       (λ q. (let o = mine_open tx body order heard (same_lock s.core.lock t tx body order heard e q) in
       subst (λ z. Kept owner ring (put gs g (Some (decided_group s tx Abort))) z) (sym (told_at ys tx (with_decision (Some Abort)) o.story o.deciding.there)) (abort_kept tx body heard o)))
-      (λ q. idle_told owner ring gs ys g s tx (with_decision None) (λ y. refl) k is)
-  give_up_kept tx (Promised t offer) e = idle_told owner ring gs ys g s tx (with_decision None) (λ y. refl) k is
-  give_up_kept tx (Watching t watch) e = idle_told owner ring gs ys g s tx (with_decision None) (λ y. refl) k is
+      (λ q. idle_told owner ring gs ys g s tx (with_decision None) (λ y. refl) k fact)
+  give_up_kept tx (Promised t offer) e = idle_told owner ring gs ys g s tx (with_decision None) (λ y. refl) k fact
+  give_up_kept tx (Watching t watch) e = idle_told owner ring gs ys g s tx (with_decision None) (λ y. refl) k fact
 
   -- ---- the watcher's vote is recorded
 
   abbrev WLands : Draw → Group × Effect → Type 0
-  WLands tx r = Kept owner (ring_cut (watch_division s r.1) (ring_out (decided_in r.1) ring s.core.id s.core.succ.group) s.core.id) (born_too s (put gs g (Some r.0)) (watch_division s r.1)) (retold ys tx (with_decision (decided_in r.1)))
+  WLands tx r = Kept owner (ring_cut (watch_division s r.1) (ring_out (decided_in r.1) ring s.core.id s.core.succ.group) s.core.id) (born_too s (put gs g (Some r.0)) (watch_division s r.1)) (with_story ys tx (with_decision (decided_in r.1)))
 
   w_idle : (tx : Draw) → WLands tx (s, Was.NoEffect tx)
-  w_idle tx = idle_told owner ring gs ys g s tx (with_decision None) (λ y. refl) k is
+  w_idle tx = idle_told owner ring gs ys g s tx (with_decision None) (λ y. refl) k fact
 
   w_abort : (tx : Draw) (body : Body) (heard : Option Heard) → (o : IsMineOpen owner gs ys g s tx body heard) → WLands tx (aborted s tx)
   w_abort tx body heard o =
@@ -237,7 +238,7 @@ module _ (owner : Draw → Option Draw) (ring : Ring) (gs : Groups) (ys : Storie
       let s' = decided_group (left_group s at tx) tx Divided in
       let child = group_of (child_of s at tx) in
       let ys' : Stories = put ys tx (Some (Ends y Divided)) in
-      let gt : tx ≡ g → ⊥ = λ q. some_none s (sym is ∙ ap gs (sym q) ∙ none) in
+      let gt : tx ≡ g → ⊥ = λ q. some_none s (sym fact ∙ ap gs (sym q) ∙ none) in
       let div : Division = record { at = at; child = tx } in
       let lock : division_in s.core.lock ≡ Some div = ap division_in d.lock in
       let cut = cut_is s.core.arc at (and_parts (can_cut s.core.arc at) (nat_le 2 (length s.core.members)) c).0 in
@@ -246,7 +247,7 @@ module _ (owner : Draw → Option Draw) (ring : Ring) (gs : Groups) (ys : Storie
       subst (λ z. Kept owner (ring_cut (division_in s.core.lock) ring s.core.id) (born_too s (put gs g (Some s')) (division_in s.core.lock)) z) (sym (told_at ys tx (with_decision (Some Divided)) y d.there))
       (mine (division_in s.core.lock) lock (
         born_facts (put gs g (Some s')) ys' owner g tx s' child
-            (decide_facts gs ys owner g s s' tx (At.Split at tx) d.order heard y Divided k.0 is d.lock d.there
+            (decide_facts gs ys owner g s s' tx (At.Split at tx) d.order heard y Divided k.0 fact d.lock d.there
             (decision_of s (left_group s at tx) tx Divided refl refl refl (λ h b. any_keeps (λ c. same_draw c h) s.core.born (tx ∷ []) b))
             (λ na. (λ offer q. absurd (some_none offer (sym q ∙ own.offer)), λ w q. passed)))
             (at-other gs g (Some s') tx gt ∙ none) refl refl ((k.0.story tx y d.there).named ∙ ap Some own.coordinator) (at-same gs g (Some s'))
@@ -270,7 +271,7 @@ module _ (owner : Draw → Option Draw) (ring : Ring) (gs : Groups) (ys : Storie
       let out : Outcome = Merged (merged_route s.core h.frozen) in
       let b = decided_group (merged_group s h.frozen) tx out in
       subst (λ z. Kept owner (ring_out (Some out) ring s.core.id s.core.succ.group) (put gs g (Some b)) z) (sym (told_at ys tx (with_decision (Some out)) y d.there)) (
-        decide_facts gs ys owner g s b tx At.Merge d.order (Some h) y out k.0 is d.lock d.there (decision_of s (merged_group s h.frozen) tx out refl refl refl (λ n q. q)) (λ na. (λ offer q. (h.frozen, v.0), λ w q. passed)),
+        decide_facts gs ys owner g s b tx At.Merge d.order (Some h) y out k.0 fact d.lock d.there (decision_of s (merged_group s h.frozen) tx out refl refl refl (λ n q. q)) (λ na. (λ offer q. (h.frozen, v.0), λ w q. passed)),
         subst (λ n. Good (ring_out (Some out) ring n s.core.succ.group) (New gs ys g b tx (Ends y out))) (sym named) (merge_watched owner ring gs ys g s tx y h d v.0 passed v.1 named k.1),
       )
 

@@ -160,19 +160,19 @@ eff_like f f' k (Some s) = ap living (settle_like f f' k s.core.lock s)
 
 -- a story with a like decision
 pub like_at : (ys : Stories) (tx : Draw) (y : Story) (o : Option Story) → ys tx ≡ o → Like (outcome_of o) y.outcome → (t : Draw) → Like (decisions ys t) (decisions (put ys tx (Some y)) t)
-like_at ys tx y o is k t =
+like_at ys tx y o fact k t =
     elim (draw_cases t tx) [
-      | inl q ↦ subst (λ x. Like x (decisions (put ys tx (Some y)) t)) (ap outcome_of (sym is ∙ ap ys (sym q))) (subst (λ x. Like (outcome_of o) x) (ap outcome_of (sym (at-is ys tx (Some y) t q))) k)
+      | inl q ↦ subst (λ x. Like x (decisions (put ys tx (Some y)) t)) (ap outcome_of (sym fact ∙ ap ys (sym q))) (subst (λ x. Like (outcome_of o) x) (ap outcome_of (sym (at-is ys tx (Some y) t q))) k)
       | inr q ↦ like_same (decisions ys t) (decisions (put ys tx (Some y)) t) (ap outcome_of (sym (at-other ys tx (Some y) t q)))
     ]
 
 -- one group changes, and its effective record stays alike
 pub eff_change : (gs : Groups) (f f' : Decisions) (g : Draw) (s s' : Group) → gs g ≡ Some s → ((t : Draw) → Like (f t) (f' t)) → Alike (eff f (Some s)) (eff f' (Some s'))
     → (h : Draw) → Alike (eff f (gs h)) (eff f' (put gs g (Some s') h))
-eff_change gs f f' g s s' is k mine h =
+eff_change gs f f' g s s' fact k mine h =
     elim (draw_cases h g) [
       | inl q ↦ (
-          let a : eff f (gs h) ≡ eff f (Some s) = ap (eff f) (ap gs q ∙ is) in
+          let a : eff f (gs h) ≡ eff f (Some s) = ap (eff f) (ap gs q ∙ fact) in
           let b : eff f' (Some s') ≡ eff f' (put gs g (Some s') h) = ap (eff f') (sym (at-is gs g (Some s') h q)) in
           (ap arc_of a ∙ mine.0 ∙ ap arc_of b, ap succ_of a ∙ mine.1 ∙ ap succ_of b, ap pred_of a ∙ mine.2 ∙ ap pred_of b, ap pairs_of a ∙ mine.3 ∙ ap pairs_of b))
       | inr q ↦ alike_same (eff f (gs h)) (eff f' (put gs g (Some s') h)) (eff_like f f' k (gs h) ∙ ap (eff f') (sym (at-other gs g (Some s') h q)))
@@ -186,8 +186,8 @@ good_alike ring d e all w = (whole_agree (view_of d) (view_of e) (alike_view d e
 
 pub whole_change : (ring : Ring) (gs : Groups) (ys ys' : Stories) (g : Draw) (s s' : Group) → gs g ≡ Some s → ((t : Draw) → Like (decisions ys t) (decisions ys' t)) → Alike (eff (decisions ys) (Some s)) (eff (decisions ys') (Some s'))
     → Good ring (Old gs ys) → Good ring (Old (put gs g (Some s')) ys')
-whole_change ring gs ys ys' g s s' is k mine w =
-    good_alike ring (Old gs ys) (Old (put gs g (Some s')) ys') (eff_change gs (decisions ys) (decisions ys') g s s' is k mine) w
+whole_change ring gs ys ys' g s s' fact k mine w =
+    good_alike ring (Old gs ys) (Old (put gs g (Some s')) ys') (eff_change gs (decisions ys) (decisions ys') g s s' fact k mine) w
 
 -- ---- the effective record of one group by its lock
 
@@ -215,12 +215,12 @@ pub record IsParty (y : Story) (h tx : Draw) (lock : Lock) : Type 0 where
   pub cases : ((offer : Offer) × (lock ≡ Promised tx offer) × (y.offer ≡ Some (unsigned offer)) × (offer.part ≡ h)) ⊎ ((watch : Watch) × (lock ≡ Watching tx watch) × (y.watch ≡ Some (unsigned_watch watch)) × (watch.part ≡ h))
 
 pub party : (ys : Stories) (tx : Draw) (y : Story) (g h : Draw) (u : Group) → ys tx ≡ Some y → y.coordinator ≡ g → (h ≡ g → ⊥) → (l : Lock) → LockOk ys h u l → IsOf l tx → IsParty y h tx l
-party ys tx y g h u is coord ne Free ok of = absurd of
-party ys tx y g h u is coord ne (Coordinating t body order heard) ok of =
-    absurd (ne (sym ok.coordinator ∙ sym (ap (λ (z : Story). z.coordinator) (same_Some y ok.story (sym is ∙ ap ys (sym of) ∙ ok.is))) ∙ coord))
-party ys tx y g h u is coord ne (Promised t offer) ok of = record {
-  cases = inl (offer, ap (λ n. Promised n offer) of, ap (λ (z : Story). z.offer) (same_Some y ok.story (sym is ∙ ap ys (sym of) ∙ ok.is)) ∙ ok.offered, ok.part);
+party ys tx y g h u fact coord ne Free ok of = absurd of
+party ys tx y g h u fact coord ne (Coordinating t body order heard) ok of =
+    absurd (ne (sym ok.coordinator ∙ sym (ap (λ (z : Story). z.coordinator) (same_Some y ok.story (sym fact ∙ ap ys (sym of) ∙ ok.fact))) ∙ coord))
+party ys tx y g h u fact coord ne (Promised t offer) ok of = record {
+  cases = inl (offer, ap (λ n. Promised n offer) of, ap (λ (z : Story). z.offer) (same_Some y ok.story (sym fact ∙ ap ys (sym of) ∙ ok.fact)) ∙ ok.offered, ok.part);
 }
-party ys tx y g h u is coord ne (Watching t watch) ok of = record {
-  cases = inr (watch, ap (λ n. Watching n watch) of, ap (λ (z : Story). z.watch) (same_Some y ok.story (sym is ∙ ap ys (sym of) ∙ ok.is)) ∙ ok.asked, ok.part);
+party ys tx y g h u fact coord ne (Watching t watch) ok of = record {
+  cases = inr (watch, ap (λ n. Watching n watch) of, ap (λ (z : Story). z.watch) (same_Some y ok.story (sym fact ∙ ap ys (sym of) ∙ ok.fact)) ∙ ok.asked, ok.part);
 }

@@ -62,11 +62,11 @@ same_calm t s s' lock held dec vot = record { decided = dec; voted = vot; lock =
 
 -- a vote that the voter has no note of was not made
 pub unheard : (gs : Groups) (owner : Draw → Option Draw) (tx : Draw) (y : Story) (offer : Offer) (s : Group) → StoryOk owner gs tx y → y.offer ≡ Some (unsigned offer) → gs offer.part ≡ Some s → has_voted s.core tx ≡ false → (o : Option Vote) → y.vote ≡ o → y.vote ≡ None
-unheard gs owner tx y offer s k is there none None e = e
-unheard gs owner tx y offer s k is there none (Some v) e =
+unheard gs owner tx y offer s k fact there none None e = e
+unheard gs owner tx y offer s k fact there none (Some v) e =
     let r = k.voter v e in
-    let o : unsigned offer ≡ r.offer = same_Some (unsigned offer) r.offer (sym is ∙ r.offered) in
-    absurd (both_ways (has_voted s.core tx) none (subst (λ (b : Group). has_voted b.core tx ≡ true) (same_Some r.group s (sym r.is ∙ ap (λ (x : Offer). gs x.part) (sym o) ∙ there)) r.voted))
+    let o : unsigned offer ≡ r.offer = same_Some (unsigned offer) r.offer (sym fact ∙ r.offered) in
+    absurd (both_ways (has_voted s.core tx) none (subst (λ (b : Group). has_voted b.core tx ≡ true) (same_Some r.group s (sym r.fact ∙ ap (λ (x : Offer). gs x.part) (sym o) ∙ there)) r.voted))
 
 -- ---- a change without a story, of a group that is free or watches
 
@@ -84,12 +84,12 @@ abbrev pub IsOpen : Lock → Type 0
 IsOpen l = (l ≡ Free) ⊎ ((tx : Draw) × (watch : Watch) × (l ≡ Watching tx watch))
 
 watch_lock : (ys : Stories) (g : Draw) (s s' : Group) (tx : Draw) (watch : Watch) → s'.core.gone ≡ s.core.gone → LockOk ys g s (Watching tx watch) → LockOk ys g s' (Watching tx watch)
-watch_lock ys g s s' tx watch same r = record { story = r.story; is = r.is; asked = r.asked; part = r.part; here = same ∙ r.here }
+watch_lock ys g s s' tx watch same r = record { story = r.story; fact = r.fact; asked = r.asked; part = r.part; here = same ∙ r.here }
 
 pub plain_facts : (gs : Groups) (ys : Stories) (owner : Draw → Option Draw) (g : Draw) (s s' : Group) → Facts owner gs ys → gs g ≡ Some s → IsOpen s.core.lock → IsPlain s s' → Facts owner (put gs g (Some s')) ys
-plain_facts gs ys owner g s s' f is k p =
-    let ok = f.group g s is in
-    facts_quiet gs ys owner g s s' f is p.born
+plain_facts gs ys owner g s s' f fact k p =
+    let ok = f.group g s fact in
+    facts_quiet gs ys owner g s s' f fact p.born
     (record {
       named = p.id ∙ ok.named;
       lock_ok = elim k [
@@ -117,16 +117,16 @@ watch_begun s tx b order _ = refl
 pub begin_facts : (gs : Groups) (ys : Stories) (owner : Draw → Option Draw) (g : Draw) (s : Group) (tx : Draw) (body : Body) (order : ℕ) → Facts owner gs ys → gs g ≡ Some s → s.core.lock ≡ Free → s.core.gone ≡ None
     → ys tx ≡ None → owner tx ≡ Some g → ((at : ℕ) (child : Draw) → body ≡ At.Split at child → gs tx ≡ None) → (s.core.succ.group ≡ g → ⊥) → IsOwnBody body tx
     → Facts owner (put gs g (Some (begun_group s tx body order))) (put ys tx (Some (new_story s body)))
-begin_facts gs ys owner g s tx body order f is free here fresh mine unborn apart own =
+begin_facts gs ys owner g s tx body order f fact free here fresh mine unborn apart own =
     let s' = begun_group s tx body order in
     let y' = new_story s body in
-    let named = (f.group g s is).named in
-    facts_change gs ys (put ys tx (Some y')) owner g s s' f is (λ h b. b)
+    let named = (f.group g s fact).named in
+    facts_change gs ys (put ys tx (Some y')) owner g s s' f fact (λ h b. b)
     (record {
       named = named;
       lock_ok = record {
         story = y';
-        is = at-same ys tx (Some y');
+        fact = at-same ys tx (Some y');
         coordinator = named;
         same_body = refl;
         undecided = refl;
@@ -150,9 +150,9 @@ begin_facts gs ys owner g s tx body order f is free here fresh mine unborn apart
         earned = λ o q. absurd (some_none o (sym q));
         frozen = λ o h q. absurd (some_none (Ballot.Yes h) (sym q));
         agreed = λ o q. absurd (some_none Cast.Yes (sym q));
-        unborn = λ place child b o. keep_none gs g s s' tx is (unborn place child b);
+        unborn = λ place child b o. keep_none gs g s s' tx fact (unborn place child b);
       }))
-      | inr m ↦ story_keep gs owner g s s' t z is (free_calm t s s' free (λ n. n) (λ n. n)) (f.story t z m.1)
+      | inr m ↦ story_keep gs owner g s s' t z fact (free_calm t s s' free (λ n. n) (λ n. n)) (f.story t z m.1)
     ])
 
 -- ---- votes
@@ -174,27 +174,27 @@ vote_grown g y v none = record { offer = refl; votes = λ f q. absurd (some_none
 pub yes_facts : (gs : Groups) (ys : Stories) (owner : Draw → Option Draw) (g : Draw) (s : Group) (tx : Draw) (y : Story) (offer : Offer) → Facts owner gs ys → gs g ≡ Some s → s.core.lock ≡ Free → s.core.gone ≡ None → has_voted s.core tx ≡ false
     → ys tx ≡ Some y → y.offer ≡ Some (unsigned offer) → offer.part ≡ g
     → Facts owner (put gs g (Some (Votes s tx (Promised tx offer) Cast.Yes))) (put ys tx (Some (record y { vote = Some (Ballot.Yes (frozen_of s)) })))
-yes_facts gs ys owner g s tx y offer f is free here new there offered part =
+yes_facts gs ys owner g s tx y offer f fact free here new there offered part =
     let s' = Votes s tx (Promised tx offer) Cast.Yes in
     let y' : Story = record y { vote = Some (Ballot.Yes (frozen_of s)) } in
     let k = f.story tx y there in
-    let none = unheard gs owner tx y offer s k offered (ap gs part ∙ is) new y.vote refl in
+    let none = unheard gs owner tx y offer s k offered (ap gs part ∙ fact) new y.vote refl in
     let at_part = at-is gs g (Some s') offer.part part in
-    facts_told gs ys owner g s s' tx y y' f is there (λ h b. b)
-    (record { named = (f.group g s is).named; lock_ok = record { story = y'; is = at-same ys tx (Some y'); offered = offered; part = part; vote = refl; here = here } })
+    facts_told gs ys owner g s s' tx y y' f fact there (λ h b. b)
+    (record { named = (f.group g s fact).named; lock_ok = record { story = y'; fact = at-same ys tx (Some y'); offered = offered; part = part; vote = refl; here = here } })
     (vote_grown g y (Ballot.Yes (frozen_of s)) none)
     (λ t ne. free_calm t s s' free (λ n. n) (voted_keeps s tx (Promised tx offer) Cast.Yes t))
     (record {
       named = k.named;
-      known = keep_known gs g s s' tx y is (λ n. n) (λ r. absurd (no_coord s.core.lock tx y.body r.0 r.1 free r.2)) k.known;
+      known = keep_known gs g s s' tx y fact (λ n. n) (λ r. absurd (no_coord s.core.lock tx y.body r.0 r.1 free r.2)) k.known;
       there = keep_there gs g s' y.coordinator k.there;
-      voter = λ v e. record { offer = unsigned offer; offered = offered; group = s'; is = at_part; voted = voted_now s tx (Promised tx offer) Cast.Yes };
-      watcher = λ v e. keep_watcher gs g s s' tx y.watch is (voted_keeps s tx (Promised tx offer) Cast.Yes tx) (k.watcher v e);
+      voter = λ v e. record { offer = unsigned offer; offered = offered; group = s'; fact = at_part; voted = voted_now s tx (Promised tx offer) Cast.Yes };
+      watcher = λ v e. keep_watcher gs g s s' tx y.watch fact (voted_keeps s tx (Promised tx offer) Cast.Yes tx) (k.watcher v e);
       earned = λ o q na. (let r = (k.earned o q na).0 (unsigned offer) offered in absurd (some_none (Ballot.Yes r.0) (sym r.1 ∙ none)));
-      frozen = λ o h e. record { offer = offer; offered = offered; group = s'; is = at_part; lock = refl; same = same_frozen (frozen_of s) h e };
-      agreed = λ o v. (let r = keep_agreed gs g s s' tx y is (λ watch e. absurd (no_watch s.core.lock tx watch free e)) (k.agreed o v) in
-          record { watch = r.watch; asked = r.asked; group = r.group; is = r.is; lock = r.lock });
-      unborn = λ place child b o. keep_none gs g s s' tx is (k.unborn place child b o);
+      frozen = λ o h e. record { offer = offer; offered = offered; group = s'; fact = at_part; lock = refl; same = same_frozen (frozen_of s) h e };
+      agreed = λ o v. (let r = keep_agreed gs g s s' tx y fact (λ watch e. absurd (no_watch s.core.lock tx watch free e)) (k.agreed o v) in
+          record { watch = r.watch; asked = r.asked; group = r.group; fact = r.fact; lock = r.lock });
+      unborn = λ place child b o. keep_none gs g s s' tx fact (k.unborn place child b o);
     })
 
 -- the voter's own lock, where its story gets a first vote, a watch's vote, or nothing else that locks speak of
@@ -206,10 +206,10 @@ lock_story ys g s s' tx y y' there e votes same Free ok = tt
 lock_story ys g s s' tx y y' there e votes same (Coordinating t body order heard) r =
     elim (draw_cases t tx) [
       | inl q ↦ (
-          let y_is = same_Some y r.story (sym there ∙ ap ys (sym q) ∙ r.is) in
+          let y_is = same_Some y r.story (sym there ∙ ap ys (sym q) ∙ r.fact) in
           record {
             story = y';
-            is = at-is ys tx (Some y') t q;
+            fact = at-is ys tx (Some y') t q;
             coordinator = e.0 ∙ ap (λ (z : Story). z.coordinator) y_is ∙ r.coordinator;
             same_body = e.1 ∙ ap (λ (z : Story). z.body) y_is ∙ r.same_body;
             undecided = e.4 ∙ ap (λ (z : Story). z.outcome) y_is ∙ r.undecided;
@@ -223,7 +223,7 @@ lock_story ys g s s' tx y y' there e votes same (Coordinating t body order heard
           })
       | inr q ↦ record {
         story = r.story;
-        is = at-other ys tx (Some y') t q ∙ r.is;
+        fact = at-other ys tx (Some y') t q ∙ r.fact;
         coordinator = r.coordinator;
         same_body = r.same_body;
         undecided = r.undecided;
@@ -239,23 +239,23 @@ lock_story ys g s s' tx y y' there e votes same (Coordinating t body order heard
 lock_story ys g s s' tx y y' there e votes same (Promised t offer) r =
     elim (draw_cases t tx) [
       | inl q ↦ (
-          let y_is = same_Some y r.story (sym there ∙ ap ys (sym q) ∙ r.is) in
+          let y_is = same_Some y r.story (sym there ∙ ap ys (sym q) ∙ r.fact) in
           record {
             story = y';
-            is = at-is ys tx (Some y') t q;
+            fact = at-is ys tx (Some y') t q;
             offered = e.2 ∙ ap (λ (z : Story). z.offer) y_is ∙ r.offered;
             part = r.part;
             vote = votes (frozen_of s') (ap (λ (z : Story). z.vote) y_is ∙ r.vote ∙ ap (λ f. Some (Ballot.Yes f)) same.1);
             here = same.0 ∙ r.here;
           })
-      | inr q ↦ record { story = r.story; is = at-other ys tx (Some y') t q ∙ r.is; offered = r.offered; part = r.part; vote = r.vote ∙ ap (λ f. Some (Ballot.Yes f)) same.1; here = same.0 ∙ r.here }
+      | inr q ↦ record { story = r.story; fact = at-other ys tx (Some y') t q ∙ r.fact; offered = r.offered; part = r.part; vote = r.vote ∙ ap (λ f. Some (Ballot.Yes f)) same.1; here = same.0 ∙ r.here }
     ]
 lock_story ys g s s' tx y y' there e votes same (Watching t watch) r =
     elim (draw_cases t tx) [
       | inl q ↦ (
-          let y_is = same_Some y r.story (sym there ∙ ap ys (sym q) ∙ r.is) in
-          record { story = y'; is = at-is ys tx (Some y') t q; asked = e.3 ∙ ap (λ (z : Story). z.watch) y_is ∙ r.asked; part = r.part; here = same.0 ∙ r.here })
-      | inr q ↦ record { story = r.story; is = at-other ys tx (Some y') t q ∙ r.is; asked = r.asked; part = r.part; here = same.0 ∙ r.here }
+          let y_is = same_Some y r.story (sym there ∙ ap ys (sym q) ∙ r.fact) in
+          record { story = y'; fact = at-is ys tx (Some y') t q; asked = e.3 ∙ ap (λ (z : Story). z.watch) y_is ∙ r.asked; part = r.part; here = same.0 ∙ r.here })
+      | inr q ↦ record { story = r.story; fact = at-other ys tx (Some y') t q ∙ r.fact; asked = r.asked; part = r.part; here = same.0 ∙ r.here }
     ]
 
 offer_votes : (s : Group) (tx : Draw) (lock : Lock) (past : Past) (body : Body) → offer_for s.core body ≡ offer_for (Votes s tx lock past).core body
@@ -275,27 +275,27 @@ yes_no f why e = cc
 pub no_facts : (gs : Groups) (ys : Stories) (owner : Draw → Option Draw) (g : Draw) (s : Group) (tx : Draw) (y : Story) (offer : Offer) (why : No) → Facts owner gs ys → gs g ≡ Some s → has_voted s.core tx ≡ false
     → ys tx ≡ Some y → y.offer ≡ Some (unsigned offer) → offer.part ≡ g
     → Facts owner (put gs g (Some (Votes s tx s.core.lock (Cast.No why)))) (put ys tx (Some (record y { vote = Some (Ballot.No why) })))
-no_facts gs ys owner g s tx y offer why f is new there offered part =
+no_facts gs ys owner g s tx y offer why f fact new there offered part =
     let s' = Votes s tx s.core.lock (Cast.No why) in
     let y' : Story = record y { vote = Some (Ballot.No why) } in
     let k = f.story tx y there in
-    let none = unheard gs owner tx y offer s k offered (ap gs part ∙ is) new y.vote refl in
+    let none = unheard gs owner tx y offer s k offered (ap gs part ∙ fact) new y.vote refl in
     let at_part = at-is gs g (Some s') offer.part part in
-    let ok = f.group g s is in
-    facts_told gs ys owner g s s' tx y y' f is there (λ h b. b)
+    let ok = f.group g s fact in
+    facts_told gs ys owner g s s' tx y y' f fact there (λ h b. b)
     (record { named = ok.named; lock_ok = lock_story ys g s s' tx y y' there (refl, refl, refl, refl, refl, refl) (λ h q. absurd (some_none (Ballot.Yes h) (sym q ∙ none))) (refl, refl, offer_votes s tx s.core.lock (Cast.No why), watch_votes s tx s.core.lock (Cast.No why), refl) s.core.lock ok.lock_ok })
     (vote_grown g y (Ballot.No why) none)
     (λ t ne. same_calm t s s' refl refl (λ n. n) (voted_keeps s tx s.core.lock (Cast.No why) t))
     (record {
       named = k.named;
-      known = keep_known gs g s s' tx y is (λ n. n) (λ r. r) k.known;
+      known = keep_known gs g s s' tx y fact (λ n. n) (λ r. r) k.known;
       there = keep_there gs g s' y.coordinator k.there;
-      voter = λ v e. record { offer = unsigned offer; offered = offered; group = s'; is = at_part; voted = voted_now s tx s.core.lock (Cast.No why) };
-      watcher = λ v e. keep_watcher gs g s s' tx y.watch is (voted_keeps s tx s.core.lock (Cast.No why) tx) (k.watcher v e);
+      voter = λ v e. record { offer = unsigned offer; offered = offered; group = s'; fact = at_part; voted = voted_now s tx s.core.lock (Cast.No why) };
+      watcher = λ v e. keep_watcher gs g s s' tx y.watch fact (voted_keeps s tx s.core.lock (Cast.No why) tx) (k.watcher v e);
       earned = λ o q na. (let r = (k.earned o q na).0 (unsigned offer) offered in absurd (some_none (Ballot.Yes r.0) (sym r.1 ∙ none)));
       frozen = λ o h e. absurd (yes_no h why e);
-      agreed = λ o v. (let r = keep_agreed gs g s s' tx y is (λ watch e. refl) (k.agreed o v) in record { watch = r.watch; asked = r.asked; group = r.group; is = r.is; lock = r.lock });
-      unborn = λ place child b o. keep_none gs g s s' tx is (k.unborn place child b o);
+      agreed = λ o v. (let r = keep_agreed gs g s s' tx y fact (λ watch e. refl) (k.agreed o v) in record { watch = r.watch; asked = r.asked; group = r.group; fact = r.fact; lock = r.lock });
+      unborn = λ place child b o. keep_none gs g s s' tx fact (k.unborn place child b o);
     })
 
 -- ---- the watcher's votes
@@ -304,32 +304,32 @@ past_grown : (g : Draw) (y : Story) (p : Past) → IsGrown g y (record y { watch
 past_grown g y p = record { offer = refl; votes = λ f q. q; watch = λ w e. e; coordinator = λ h ne e. (e, refl, refl, refl, refl, λ f q. q) }
 
 pub not_passed : (gs : Groups) (g : Draw) (s : Group) (tx : Draw) (y : Story) (watch : Watch) → gs g ≡ Some s → has_voted s.core tx ≡ false → y.watch ≡ Some (unsigned_watch watch) → watch.part ≡ g → IsWatcher gs tx y.watch → ⊥
-not_passed gs g s tx y watch is new asked part r =
+not_passed gs g s tx y watch fact new asked part r =
     let o : unsigned_watch watch ≡ r.watch = same_Some (unsigned_watch watch) r.watch (sym asked ∙ r.is_asked) in
-    both_ways (has_voted s.core tx) new (subst (λ (b : Group). has_voted b.core tx ≡ true) (same_Some r.group s (sym r.is ∙ ap (λ (x : Watch). gs x.part) (sym o) ∙ ap gs part ∙ is)) r.voted)
+    both_ways (has_voted s.core tx) new (subst (λ (b : Group). has_voted b.core tx ≡ true) (same_Some r.group s (sym r.fact ∙ ap (λ (x : Watch). gs x.part) (sym o) ∙ ap gs part ∙ fact)) r.voted)
 
 pub agree_facts : (gs : Groups) (ys : Stories) (owner : Draw → Option Draw) (g : Draw) (s : Group) (tx : Draw) (y : Story) (watch : Watch) → Facts owner gs ys → gs g ≡ Some s → s.core.lock ≡ Free → s.core.gone ≡ None
     → ys tx ≡ Some y → y.watch ≡ Some (unsigned_watch watch) → watch.part ≡ g
     → Facts owner (put gs g (Some (Votes s tx (Watching tx watch) Cast.Yes))) (put ys tx (Some (record y { watch_vote = Some Cast.Yes })))
-agree_facts gs ys owner g s tx y watch f is free here there asked part =
+agree_facts gs ys owner g s tx y watch f fact free here there asked part =
     let s' = Votes s tx (Watching tx watch) Cast.Yes in
     let y' : Story = record y { watch_vote = Some Cast.Yes } in
     let k = f.story tx y there in
-    facts_told gs ys owner g s s' tx y y' f is there (λ h b. b)
-    (record { named = (f.group g s is).named; lock_ok = record { story = y'; is = at-same ys tx (Some y'); asked = asked; part = part; here = here } })
+    facts_told gs ys owner g s s' tx y y' f fact there (λ h b. b)
+    (record { named = (f.group g s fact).named; lock_ok = record { story = y'; fact = at-same ys tx (Some y'); asked = asked; part = part; here = here } })
     (past_grown g y Cast.Yes)
     (λ t ne. free_calm t s s' free (λ n. n) (voted_keeps s tx (Watching tx watch) Cast.Yes t))
     (record {
       named = k.named;
-      known = keep_known gs g s s' tx y is (λ n. n) (λ r. absurd (no_coord s.core.lock tx y.body r.0 r.1 free r.2)) k.known;
+      known = keep_known gs g s s' tx y fact (λ n. n) (λ r. absurd (no_coord s.core.lock tx y.body r.0 r.1 free r.2)) k.known;
       there = keep_there gs g s' y.coordinator k.there;
-      voter = λ v e. (let r = keep_voter gs g s s' tx y is (voted_keeps s tx (Watching tx watch) Cast.Yes tx) (k.voter v e) in record { offer = r.offer; offered = r.offered; group = r.group; is = r.is; voted = r.voted });
-      watcher = λ v e. record { watch = unsigned_watch watch; is_asked = asked; group = s'; is = at-is gs g (Some s') watch.part part; voted = voted_now s tx (Watching tx watch) Cast.Yes };
+      voter = λ v e. (let r = keep_voter gs g s s' tx y fact (voted_keeps s tx (Watching tx watch) Cast.Yes tx) (k.voter v e) in record { offer = r.offer; offered = r.offered; group = r.group; fact = r.fact; voted = r.voted });
+      watcher = λ v e. record { watch = unsigned_watch watch; is_asked = asked; group = s'; fact = at-is gs g (Some s') watch.part part; voted = voted_now s tx (Watching tx watch) Cast.Yes };
       earned = λ o q na. ((k.earned o q na).0, λ w e. refl);
-      frozen = λ o h e. (let r = keep_frozen gs g s s' tx y h is (λ offer q. absurd (no_promise s.core.lock tx offer free q)) (k.frozen o h e) in
-          record { offer = r.offer; offered = r.offered; group = r.group; is = r.is; lock = r.lock; same = r.same });
-      agreed = λ o v. record { watch = watch; asked = asked; group = s'; is = at-is gs g (Some s') watch.part part; lock = refl };
-      unborn = λ place child b o. keep_none gs g s s' tx is (k.unborn place child b o);
+      frozen = λ o h e. (let r = keep_frozen gs g s s' tx y h fact (λ offer q. absurd (no_promise s.core.lock tx offer free q)) (k.frozen o h e) in
+          record { offer = r.offer; offered = r.offered; group = r.group; fact = r.fact; lock = r.lock; same = r.same });
+      agreed = λ o v. record { watch = watch; asked = asked; group = s'; fact = at-is gs g (Some s') watch.part part; lock = refl };
+      unborn = λ place child b o. keep_none gs g s s' tx fact (k.unborn place child b o);
     })
 
 not_agreed : (why : No) → Some (Cast.No why) ≡ Some Cast.Yes → ⊥
@@ -338,24 +338,24 @@ not_agreed why e = cc
 pub deny_facts : (gs : Groups) (ys : Stories) (owner : Draw → Option Draw) (g : Draw) (s : Group) (tx : Draw) (y : Story) (watch : Watch) (why : No) → Facts owner gs ys → gs g ≡ Some s → has_voted s.core tx ≡ false
     → ys tx ≡ Some y → y.watch ≡ Some (unsigned_watch watch) → watch.part ≡ g
     → Facts owner (put gs g (Some (Votes s tx s.core.lock (Cast.No why)))) (put ys tx (Some (record y { watch_vote = Some (Cast.No why) })))
-deny_facts gs ys owner g s tx y watch why f is new there asked part =
+deny_facts gs ys owner g s tx y watch why f fact new there asked part =
     let s' = Votes s tx s.core.lock (Cast.No why) in
     let y' : Story = record y { watch_vote = Some (Cast.No why) } in
     let k = f.story tx y there in
-    let ok = f.group g s is in
-    facts_told gs ys owner g s s' tx y y' f is there (λ h b. b)
+    let ok = f.group g s fact in
+    facts_told gs ys owner g s s' tx y y' f fact there (λ h b. b)
     (record { named = ok.named; lock_ok = lock_story ys g s s' tx y y' there (refl, refl, refl, refl, refl, refl) (λ h q. q) (refl, refl, offer_votes s tx s.core.lock (Cast.No why), watch_votes s tx s.core.lock (Cast.No why), refl) s.core.lock ok.lock_ok })
     (past_grown g y (Cast.No why))
     (λ t ne. same_calm t s s' refl refl (λ n. n) (voted_keeps s tx s.core.lock (Cast.No why) t))
     (record {
       named = k.named;
-      known = keep_known gs g s s' tx y is (λ n. n) (λ r. r) k.known;
+      known = keep_known gs g s s' tx y fact (λ n. n) (λ r. r) k.known;
       there = keep_there gs g s' y.coordinator k.there;
-      voter = λ v e. (let r = keep_voter gs g s s' tx y is (voted_keeps s tx s.core.lock (Cast.No why) tx) (k.voter v e) in record { offer = r.offer; offered = r.offered; group = r.group; is = r.is; voted = r.voted });
-      watcher = λ v e. record { watch = unsigned_watch watch; is_asked = asked; group = s'; is = at-is gs g (Some s') watch.part part; voted = voted_now s tx s.core.lock (Cast.No why) };
-      earned = λ o q na. absurd (not_passed gs g s tx y watch is new asked part (k.watcher Cast.Yes ((k.earned o q na).1 (unsigned_watch watch) asked)));
-      frozen = λ o h e. (let r = keep_frozen gs g s s' tx y h is (λ offer q. (refl, refl)) (k.frozen o h e) in
-          record { offer = r.offer; offered = r.offered; group = r.group; is = r.is; lock = r.lock; same = r.same });
+      voter = λ v e. (let r = keep_voter gs g s s' tx y fact (voted_keeps s tx s.core.lock (Cast.No why) tx) (k.voter v e) in record { offer = r.offer; offered = r.offered; group = r.group; fact = r.fact; voted = r.voted });
+      watcher = λ v e. record { watch = unsigned_watch watch; is_asked = asked; group = s'; fact = at-is gs g (Some s') watch.part part; voted = voted_now s tx s.core.lock (Cast.No why) };
+      earned = λ o q na. absurd (not_passed gs g s tx y watch fact new asked part (k.watcher Cast.Yes ((k.earned o q na).1 (unsigned_watch watch) asked)));
+      frozen = λ o h e. (let r = keep_frozen gs g s s' tx y h fact (λ offer q. (refl, refl)) (k.frozen o h e) in
+          record { offer = r.offer; offered = r.offered; group = r.group; fact = r.fact; lock = r.lock; same = r.same });
       agreed = λ o v. absurd (not_agreed why v);
-      unborn = λ place child b o. keep_none gs g s s' tx is (k.unborn place child b o);
+      unborn = λ place child b o. keep_none gs g s s' tx fact (k.unborn place child b o);
     })

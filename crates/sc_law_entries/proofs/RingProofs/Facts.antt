@@ -43,11 +43,11 @@ pub keep_known : (gs : Groups) (g : Draw) (s s' : Group) (tx : Draw) (y : Story)
     → (Locks s tx y.body → Locks s' tx y.body)
     → ((u : Group) → gs y.coordinator ≡ Some u → has_decided u.core tx ≡ false → Locks u tx y.body)
     → (u : Group) → put gs g (Some s') y.coordinator ≡ Some u → has_decided u.core tx ≡ false → Locks u tx y.body
-keep_known gs g s s' tx y is dec lock k u e n =
+keep_known gs g s s' tx y fact dec lock k u e n =
     elim (from_at gs g (Some s') y.coordinator (Some u) e) [
       | inl m ↦ (
           let u_is = same_Some s' u m.1 in
-          let r = k s (ap gs m.0 ∙ is) (dec (subst (λ (b : Group). has_decided b.core tx ≡ false) (sym u_is) n)) in
+          let r = k s (ap gs m.0 ∙ fact) (dec (subst (λ (b : Group). has_decided b.core tx ≡ false) (sym u_is) n)) in
           subst (λ (b : Group). Locks b tx y.body) u_is (lock r))
       | inr m ↦ k u m.1 n
     ]
@@ -56,65 +56,65 @@ pub keep_there : (gs : Groups) (g : Draw) (s' : Group) (c : Draw) → (s : Group
 keep_there gs g s' c r = elim (draw_cases c g) [ inl q ↦ (s', at-is gs g (Some s') c q) | inr q ↦ (r.0, at-other gs g (Some s') c q ∙ r.1) ]
 
 pub keep_voter : (gs : Groups) (g : Draw) (s s' : Group) (tx : Draw) (y : Story) → gs g ≡ Some s → (has_voted s.core tx ≡ true → has_voted s'.core tx ≡ true) → IsVoter gs tx y → IsVoter (put gs g (Some s')) tx y
-keep_voter gs g s s' tx y is vot r =
+keep_voter gs g s s' tx y fact vot r =
     elim (draw_cases r.offer.part g) [
       | inl q ↦ (
-          let u_is = same_Some r.group s (sym r.is ∙ ap gs q ∙ is) in
-          record { offer = r.offer; offered = r.offered; group = s'; is = at-is gs g (Some s') r.offer.part q; voted = vot (subst (λ (b : Group). has_voted b.core tx ≡ true) u_is r.voted) })
-      | inr q ↦ record { offer = r.offer; offered = r.offered; group = r.group; is = at-other gs g (Some s') r.offer.part q ∙ r.is; voted = r.voted }
+          let u_is = same_Some r.group s (sym r.fact ∙ ap gs q ∙ fact) in
+          record { offer = r.offer; offered = r.offered; group = s'; fact = at-is gs g (Some s') r.offer.part q; voted = vot (subst (λ (b : Group). has_voted b.core tx ≡ true) u_is r.voted) })
+      | inr q ↦ record { offer = r.offer; offered = r.offered; group = r.group; fact = at-other gs g (Some s') r.offer.part q ∙ r.fact; voted = r.voted }
     ]
 
 pub keep_watcher : (gs : Groups) (g : Draw) (s s' : Group) (tx : Draw) (w : Option Watch) → gs g ≡ Some s → (has_voted s.core tx ≡ true → has_voted s'.core tx ≡ true) → IsWatcher gs tx w → IsWatcher (put gs g (Some s')) tx w
-keep_watcher gs g s s' tx w is vot r =
+keep_watcher gs g s s' tx w fact vot r =
     elim (draw_cases r.watch.part g) [
       | inl q ↦ (
-          let u_is = same_Some r.group s (sym r.is ∙ ap gs q ∙ is) in
-          record { watch = r.watch; is_asked = r.is_asked; group = s'; is = at-is gs g (Some s') r.watch.part q; voted = vot (subst (λ (b : Group). has_voted b.core tx ≡ true) u_is r.voted) })
-      | inr q ↦ record { watch = r.watch; is_asked = r.is_asked; group = r.group; is = at-other gs g (Some s') r.watch.part q ∙ r.is; voted = r.voted }
+          let u_is = same_Some r.group s (sym r.fact ∙ ap gs q ∙ fact) in
+          record { watch = r.watch; is_asked = r.is_asked; group = s'; fact = at-is gs g (Some s') r.watch.part q; voted = vot (subst (λ (b : Group). has_voted b.core tx ≡ true) u_is r.voted) })
+      | inr q ↦ record { watch = r.watch; is_asked = r.is_asked; group = r.group; fact = at-other gs g (Some s') r.watch.part q ∙ r.fact; voted = r.voted }
     ]
 
 pub keep_frozen : (gs : Groups) (g : Draw) (s s' : Group) (tx : Draw) (y : Story) (f : Frozen) → gs g ≡ Some s → ((offer : Offer) → s.core.lock ≡ Promised tx offer → (s'.core.lock ≡ s.core.lock) × (frozen_of s' ≡ frozen_of s))
     → IsFrozen gs tx y f → IsFrozen (put gs g (Some s')) tx y f
-keep_frozen gs g s s' tx y f is lock r =
+keep_frozen gs g s s' tx y f fact lock r =
     elim (draw_cases r.offer.part g) [
       | inl q ↦ (
-          let u_is = same_Some s r.group (sym is ∙ ap gs (sym q) ∙ r.is) in
+          let u_is = same_Some s r.group (sym fact ∙ ap gs (sym q) ∙ r.fact) in
           let was : s.core.lock ≡ Promised tx r.offer = ap (λ (b : Group). b.core.lock) u_is ∙ r.lock in
           record {
             offer = r.offer;
             offered = r.offered;
             group = s';
-            is = at-is gs g (Some s') r.offer.part q;
+            fact = at-is gs g (Some s') r.offer.part q;
             lock = (lock r.offer was).0 ∙ was;
             same = (lock r.offer was).1 ∙ ap (λ (b : Group). frozen_of b) u_is ∙ r.same;
           })
-      | inr q ↦ record { offer = r.offer; offered = r.offered; group = r.group; is = at-other gs g (Some s') r.offer.part q ∙ r.is; lock = r.lock; same = r.same }
+      | inr q ↦ record { offer = r.offer; offered = r.offered; group = r.group; fact = at-other gs g (Some s') r.offer.part q ∙ r.fact; lock = r.lock; same = r.same }
     ]
 
 pub keep_agreed : (gs : Groups) (g : Draw) (s s' : Group) (tx : Draw) (y : Story) → gs g ≡ Some s → ((watch : Watch) → s.core.lock ≡ Watching tx watch → s'.core.lock ≡ s.core.lock) → IsAgreed gs tx y → IsAgreed (put gs g (Some s')) tx y
-keep_agreed gs g s s' tx y is lock r =
+keep_agreed gs g s s' tx y fact lock r =
     elim (draw_cases r.watch.part g) [
       | inl q ↦ (
-          let u_is = same_Some s r.group (sym is ∙ ap gs (sym q) ∙ r.is) in
+          let u_is = same_Some s r.group (sym fact ∙ ap gs (sym q) ∙ r.fact) in
           let was : s.core.lock ≡ Watching tx r.watch = ap (λ (b : Group). b.core.lock) u_is ∙ r.lock in
-          record { watch = r.watch; asked = r.asked; group = s'; is = at-is gs g (Some s') r.watch.part q; lock = lock r.watch was ∙ was })
-      | inr q ↦ record { watch = r.watch; asked = r.asked; group = r.group; is = at-other gs g (Some s') r.watch.part q ∙ r.is; lock = r.lock }
+          record { watch = r.watch; asked = r.asked; group = s'; fact = at-is gs g (Some s') r.watch.part q; lock = lock r.watch was ∙ was })
+      | inr q ↦ record { watch = r.watch; asked = r.asked; group = r.group; fact = at-other gs g (Some s') r.watch.part q ∙ r.fact; lock = r.lock }
     ]
 
 pub keep_none : (gs : Groups) (g : Draw) (s s' : Group) (t : Draw) → gs g ≡ Some s → gs t ≡ None → put gs g (Some s') t ≡ None
-keep_none gs g s s' t is n = at-other gs g (Some s') t (λ q. some_none s (sym is ∙ ap gs (sym q) ∙ n)) ∙ n
+keep_none gs g s s' t fact n = at-other gs g (Some s') t (λ q. some_none s (sym fact ∙ ap gs (sym q) ∙ n)) ∙ n
 
 pub story_keep : (gs : Groups) (owner : Draw → Option Draw) (g : Draw) (s s' : Group) (tx : Draw) (y : Story) → gs g ≡ Some s → IsCalm tx s s' → StoryOk owner gs tx y → StoryOk owner (put gs g (Some s')) tx y
-story_keep gs owner g s s' tx y is calm k = record {
+story_keep gs owner g s s' tx y fact calm k = record {
   named = k.named;
-  known = keep_known gs g s s' tx y is calm.decided (λ r. (r.0, r.1, calm.lock (subst (λ l. IsOf l tx) (sym r.2) refl) ∙ r.2)) k.known;
+  known = keep_known gs g s s' tx y fact calm.decided (λ r. (r.0, r.1, calm.lock (subst (λ l. IsOf l tx) (sym r.2) refl) ∙ r.2)) k.known;
   there = keep_there gs g s' y.coordinator k.there;
-  voter = λ v e. keep_voter gs g s s' tx y is calm.voted (k.voter v e);
-  watcher = λ v e. keep_watcher gs g s s' tx y.watch is calm.voted (k.watcher v e);
+  voter = λ v e. keep_voter gs g s s' tx y fact calm.voted (k.voter v e);
+  watcher = λ v e. keep_watcher gs g s s' tx y.watch fact calm.voted (k.watcher v e);
   earned = k.earned;
-  frozen = λ o f v. keep_frozen gs g s s' tx y f is (λ offer e. (calm.lock (subst (λ l. IsOf l tx) (sym e) refl), calm.held offer e)) (k.frozen o f v);
-  agreed = λ o v. keep_agreed gs g s s' tx y is (λ watch e. calm.lock (subst (λ l. IsOf l tx) (sym e) refl)) (k.agreed o v);
-  unborn = λ place child b o. keep_none gs g s s' tx is (k.unborn place child b o);
+  frozen = λ o f v. keep_frozen gs g s s' tx y f fact (λ offer e. (calm.lock (subst (λ l. IsOf l tx) (sym e) refl), calm.held offer e)) (k.frozen o f v);
+  agreed = λ o v. keep_agreed gs g s s' tx y fact (λ watch e. calm.lock (subst (λ l. IsOf l tx) (sym e) refl)) (k.agreed o v);
+  unborn = λ place child b o. keep_none gs g s s' tx fact (k.unborn place child b o);
 }
 
 -- a change of a story by group g
@@ -127,15 +127,15 @@ pub record IsGrown (g : Draw) (y y' : Story) : Type 0 where
 
 lock_keep : (ys : Stories) (g tx : Draw) (y y' : Story) → ys tx ≡ Some y → IsGrown g y y'
     → (h : Draw) (u : Group) → (h ≡ g → ⊥) → (lock : Lock) → LockOk ys h u lock → LockOk (put ys tx (Some y')) h u lock
-lock_keep ys g tx y y' is grown h u ne Free k = tt
-lock_keep ys g tx y y' is grown h u ne (Coordinating t body order heard) r =
+lock_keep ys g tx y y' fact grown h u ne Free k = tt
+lock_keep ys g tx y y' fact grown h u ne (Coordinating t body order heard) r =
     elim (draw_cases t tx) [
       | inl q ↦ (
-          let y_is = same_Some y r.story (sym is ∙ ap ys (sym q) ∙ r.is) in
+          let y_is = same_Some y r.story (sym fact ∙ ap ys (sym q) ∙ r.fact) in
           let m = grown.coordinator h ne (ap (λ (z : Story). z.coordinator) y_is ∙ r.coordinator) in
           record {
             story = y';
-            is = at-is ys tx (Some y') t q;
+            fact = at-is ys tx (Some y') t q;
             coordinator = m.0;
             same_body = m.1 ∙ ap (λ (z : Story). z.body) y_is ∙ r.same_body;
             undecided = m.2 ∙ ap (λ (z : Story). z.outcome) y_is ∙ r.undecided;
@@ -149,7 +149,7 @@ lock_keep ys g tx y y' is grown h u ne (Coordinating t body order heard) r =
           })
       | inr q ↦ record {
         story = r.story;
-        is = at-other ys tx (Some y') t q ∙ r.is;
+        fact = at-other ys tx (Some y') t q ∙ r.fact;
         coordinator = r.coordinator;
         same_body = r.same_body;
         undecided = r.undecided;
@@ -162,23 +162,23 @@ lock_keep ys g tx y y' is grown h u ne (Coordinating t body order heard) r =
         own = r.own;
       }
     ]
-lock_keep ys g tx y y' is grown h u ne (Promised t offer) r =
+lock_keep ys g tx y y' fact grown h u ne (Promised t offer) r =
     elim (draw_cases t tx) [
       | inl q ↦ (
-          let y_is = same_Some y r.story (sym is ∙ ap ys (sym q) ∙ r.is) in
-          record { story = y'; is = at-is ys tx (Some y') t q; offered = grown.offer ∙ ap (λ (z : Story). z.offer) y_is ∙ r.offered; part = r.part; vote = grown.votes (frozen_of u) (ap (λ (z : Story). z.vote) y_is ∙ r.vote); here = r.here })
-      | inr q ↦ record { story = r.story; is = at-other ys tx (Some y') t q ∙ r.is; offered = r.offered; part = r.part; vote = r.vote; here = r.here }
+          let y_is = same_Some y r.story (sym fact ∙ ap ys (sym q) ∙ r.fact) in
+          record { story = y'; fact = at-is ys tx (Some y') t q; offered = grown.offer ∙ ap (λ (z : Story). z.offer) y_is ∙ r.offered; part = r.part; vote = grown.votes (frozen_of u) (ap (λ (z : Story). z.vote) y_is ∙ r.vote); here = r.here })
+      | inr q ↦ record { story = r.story; fact = at-other ys tx (Some y') t q ∙ r.fact; offered = r.offered; part = r.part; vote = r.vote; here = r.here }
     ]
-lock_keep ys g tx y y' is grown h u ne (Watching t watch) r =
+lock_keep ys g tx y y' fact grown h u ne (Watching t watch) r =
     elim (draw_cases t tx) [
       | inl q ↦ (
-          let y_is = same_Some y r.story (sym is ∙ ap ys (sym q) ∙ r.is) in
-          record { story = y'; is = at-is ys tx (Some y') t q; asked = grown.watch (unsigned_watch watch) (ap (λ (z : Story). z.watch) y_is ∙ r.asked); part = r.part; here = r.here })
-      | inr q ↦ record { story = r.story; is = at-other ys tx (Some y') t q ∙ r.is; asked = r.asked; part = r.part; here = r.here }
+          let y_is = same_Some y r.story (sym fact ∙ ap ys (sym q) ∙ r.fact) in
+          record { story = y'; fact = at-is ys tx (Some y') t q; asked = grown.watch (unsigned_watch watch) (ap (λ (z : Story). z.watch) y_is ∙ r.asked); part = r.part; here = r.here })
+      | inr q ↦ record { story = r.story; fact = at-other ys tx (Some y') t q ∙ r.fact; asked = r.asked; part = r.part; here = r.here }
     ]
 
 pub group_keep : (ys : Stories) (g tx : Draw) (y y' : Story) → ys tx ≡ Some y → IsGrown g y y' → (h : Draw) (u : Group) → (h ≡ g → ⊥) → GroupOk ys h u → GroupOk (put ys tx (Some y')) h u
-group_keep ys g tx y y' is grown h u ne k = record { named = k.named; lock_ok = lock_keep ys g tx y y' is grown h u ne u.core.lock k.lock_ok }
+group_keep ys g tx y y' fact grown h u ne k = record { named = k.named; lock_ok = lock_keep ys g tx y y' fact grown h u ne u.core.lock k.lock_ok }
 
 -- a story that is new
 new_other : (ys : Stories) (tx : Draw) (y' : Story) → ys tx ≡ None → (t : Draw) (z : Story) → ys t ≡ Some z → put ys tx (Some y') t ≡ Some z
@@ -188,7 +188,7 @@ lock_new : (ys : Stories) (tx : Draw) (y' : Story) → ys tx ≡ None → (h : D
 lock_new ys tx y' none h u Free r = tt
 lock_new ys tx y' none h u (Coordinating t body order heard) r = record {
   story = r.story;
-  is = new_other ys tx y' none t r.story r.is;
+  fact = new_other ys tx y' none t r.story r.fact;
   coordinator = r.coordinator;
   same_body = r.same_body;
   undecided = r.undecided;
@@ -200,8 +200,8 @@ lock_new ys tx y' none h u (Coordinating t body order heard) r = record {
   apart = r.apart;
   own = r.own;
 }
-lock_new ys tx y' none h u (Promised t offer) r = record { story = r.story; is = new_other ys tx y' none t r.story r.is; offered = r.offered; part = r.part; vote = r.vote; here = r.here }
-lock_new ys tx y' none h u (Watching t watch) r = record { story = r.story; is = new_other ys tx y' none t r.story r.is; asked = r.asked; part = r.part; here = r.here }
+lock_new ys tx y' none h u (Promised t offer) r = record { story = r.story; fact = new_other ys tx y' none t r.story r.fact; offered = r.offered; part = r.part; vote = r.vote; here = r.here }
+lock_new ys tx y' none h u (Watching t watch) r = record { story = r.story; fact = new_other ys tx y' none t r.story r.fact; asked = r.asked; part = r.part; here = r.here }
 
 pub group_new : (ys : Stories) (tx : Draw) (y' : Story) → ys tx ≡ None → (h : Draw) (u : Group) → GroupOk ys h u → GroupOk (put ys tx (Some y')) h u
 group_new ys tx y' none h u k = record { named = k.named; lock_ok = lock_new ys tx y' none h u u.core.lock k.lock_ok }
@@ -219,10 +219,10 @@ abbrev pub SameDecided : Group → Group → Type 0
 SameDecided s s' = (t : Draw) → has_decided s'.core t ≡ has_decided s.core t
 
 pub origin_keep : (gs : Groups) (owner : Draw → Option Draw) (g : Draw) (s s' : Group) → gs g ≡ Some s → StayBorn s s' → (h : Draw) → Origin owner gs h → Origin owner (put gs g (Some s')) h
-origin_keep gs owner g s s' is born h (inl e) = inl e
-origin_keep gs owner g s s' is born h (inr r) =
+origin_keep gs owner g s s' fact born h (inl e) = inl e
+origin_keep gs owner g s s' fact born h (inr r) =
     elim (draw_cases r.0 g) [
-      | inl q ↦ inr (g, s', r.2 ∙ ap Some q, at-same gs g (Some s'), born h (subst (λ (b : Group). has_born b.core h ≡ true) (same_Some r.1 s (sym r.3 ∙ ap gs q ∙ is)) r.4))
+      | inl q ↦ inr (g, s', r.2 ∙ ap Some q, at-same gs g (Some s'), born h (subst (λ (b : Group). has_born b.core h ≡ true) (same_Some r.1 s (sym r.3 ∙ ap gs q ∙ fact)) r.4))
       | inr q ↦ inr (r.0, r.1, r.2, at-other gs g (Some s') r.0 q ∙ r.3, r.4)
     ]
 
@@ -232,33 +232,33 @@ pub facts_change : (gs : Groups) (ys ys' : Stories) (owner : Draw → Option Dra
     → ((h : Draw) (u : Group) → (h ≡ g → ⊥) → GroupOk ys h u → GroupOk ys' h u)
     → ((tx : Draw) (y : Story) → ys' tx ≡ Some y → StoryOk owner (put gs g (Some s')) tx y)
     → Facts owner (put gs g (Some s')) ys'
-facts_change gs ys ys' owner g s s' f is born mine others stories = record {
+facts_change gs ys ys' owner g s s' f fact born mine others stories = record {
   group = λ h u e. elim (from_at gs g (Some s') h (Some u) e) [
     | inl m ↦ subst (λ (b : Group). GroupOk ys' h b) (same_Some s' u m.1) (subst (λ n. GroupOk ys' n s') (sym m.0) mine)
     | inr m ↦ others h u m.0 (f.group h u m.1)
   ];
   story = stories;
   origin = λ h u e. elim (from_at gs g (Some s') h (Some u) e) [
-    | inl m ↦ origin_keep gs owner g s s' is born h (f.origin h s (ap gs m.0 ∙ is))
-    | inr m ↦ origin_keep gs owner g s s' is born h (f.origin h u m.1)
+    | inl m ↦ origin_keep gs owner g s s' fact born h (f.origin h s (ap gs m.0 ∙ fact))
+    | inr m ↦ origin_keep gs owner g s s' fact born h (f.origin h u m.1)
   ];
 }
 
 -- one group changes, and no story
 pub facts_quiet : (gs : Groups) (ys : Stories) (owner : Draw → Option Draw) (g : Draw) (s s' : Group) → Facts owner gs ys → gs g ≡ Some s → StayBorn s s'
     → GroupOk ys g s' → ((tx : Draw) (y : Story) → ys tx ≡ Some y → IsCalm tx s s' ⊎ StoryOk owner (put gs g (Some s')) tx y) → Facts owner (put gs g (Some s')) ys
-facts_quiet gs ys owner g s s' f is born mine calm =
-    facts_change gs ys ys owner g s s' f is born mine (λ h u ne k. k)
-    (λ tx y e. elim (calm tx y e) [ inl k ↦ story_keep gs owner g s s' tx y is k (f.story tx y e) | inr k ↦ k ])
+facts_quiet gs ys owner g s s' f fact born mine calm =
+    facts_change gs ys ys owner g s s' f fact born mine (λ h u ne k. k)
+    (λ tx y e. elim (calm tx y e) [ inl k ↦ story_keep gs owner g s s' tx y fact k (f.story tx y e) | inr k ↦ k ])
 
 -- one group and one story change; the other stories see nothing
 pub facts_told : (gs : Groups) (ys : Stories) (owner : Draw → Option Draw) (g : Draw) (s s' : Group) (tx : Draw) (y y' : Story) → Facts owner gs ys → gs g ≡ Some s → ys tx ≡ Some y
     → StayBorn s s' → GroupOk (put ys tx (Some y')) g s' → IsGrown g y y'
     → ((t : Draw) → (t ≡ tx → ⊥) → IsCalm t s s') → StoryOk owner (put gs g (Some s')) tx y' → Facts owner (put gs g (Some s')) (put ys tx (Some y'))
-facts_told gs ys owner g s s' tx y y' f is there born mine grown calm told =
-    facts_change gs ys (put ys tx (Some y')) owner g s s' f is born mine
+facts_told gs ys owner g s s' tx y y' f fact there born mine grown calm recorded =
+    facts_change gs ys (put ys tx (Some y')) owner g s s' f fact born mine
     (λ h u ne k. group_keep ys g tx y y' there grown h u ne k)
     (λ t z e. elim (from_at ys tx (Some y') t (Some z) e) [
-      | inl m ↦ subst (StoryOk owner (put gs g (Some s')) t) (same_Some y' z m.1) (subst (λ n. StoryOk owner (put gs g (Some s')) n y') (sym m.0) told)
-      | inr m ↦ story_keep gs owner g s s' t z is (calm t m.0) (f.story t z m.1)
+      | inl m ↦ subst (StoryOk owner (put gs g (Some s')) t) (same_Some y' z m.1) (subst (λ n. StoryOk owner (put gs g (Some s')) n y') (sym m.0) recorded)
+      | inr m ↦ story_keep gs owner g s s' t z fact (calm t m.0) (f.story t z m.1)
     ])

@@ -7,6 +7,7 @@ use Rattle.std.proofs.lemmas.Bool.{cond-true, cond-false}
 use Rattle.sc_base.specs.Definitions.{Among, Each}
 use Rattle.sc_words.proofs.PaxosProofs.Lemmas.{Each-among, Each-filter, Each-from_All}
 use Rattle.sc_base.proofs.Lemmas.{AllPairs-head, AllPairs-tail}
+pub use Rattle.sc_law_walks.proofs.Lists.{map_among}
 
 pub some_none : {X : Type 0} (a : X) → Some a ≡ None → ⊥
 some_none a e = cc
@@ -30,11 +31,6 @@ pub find_skips : {X : Type 0} (p : X → Bool) (x : X) (xs : List X) → p x ≡
 find_skips p x xs t = cond-false (p x) (Some x) (find p xs) t
 
 -- ---- elements
-
-pub map_among : {X Y : Type 0} (f : X → Y) (xs : List X) (x : X) → Among x xs → Among (f x) (map f xs)
-map_among f [] x a = absurd a
-map_among f (y ∷ xs) x (inl e) = inl (ap f e)
-map_among f (y ∷ xs) x (inr a) = inr (map_among f xs x a)
 
 pub each_map : {X : Type 0} (P : X → Type 0) (f : X → X) → ((x : X) → P x → P (f x)) → (xs : List X) → Each P xs → Each P (map f xs)
 each_map P f keeps [] h = tt

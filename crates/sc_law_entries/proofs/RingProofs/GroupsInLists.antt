@@ -12,7 +12,7 @@ use Rattle.sc_words.specs.declared.commands.votes.Outcome.{Outcome}
 use Rattle.sc_group_table.specs.machine.Definitions.{Group, group_of}
 use Rattle.sc_meaning.specs.declared.entries.Transaction.{Transaction}
 use Rattle.sc_meaning.specs.entries.Definitions.{is_of, amended, concluded, with_outcome as concludes, with_watcher, transaction_in, decision, is_named, named_group, with_group, groups_after}
-use Rattle.sc_law_entries.specs.ring.Definitions.{Story, Stories, put, retold, with_decision, Groups}
+use Rattle.sc_law_entries.specs.ring.Definitions.{Story, Stories, put, with_story, with_decision, Groups}
 use Rattle.sc_meaning.proofs.EntriesProofs.Lemmas.{draw_cases, other_name, found_name}
 use Rattle.sc_law_entries.proofs.RingProofs.Cover.{at-same, at-is, at-other}
 use Rattle.sc_law_entries.proofs.RingProofs.Effects.{outcome_of}
@@ -44,10 +44,10 @@ replaced_other name after h ne None named = refl
 replaced_other name after h ne (Some u) named = ap Some (cond-false (is_named name u) after u (other_name u.core.id name (λ q. ne (sym (named u refl) ∙ q))))
 
 pub with_group_is : (name : Draw) (after s : Group) (groups : List Group) → after.core.id ≡ name → named_group name groups ≡ Some s → (h : Draw) → named_group h (with_group name after groups) ≡ put (groups_in groups) name (Some after) h
-with_group_is name after s groups id is h =
+with_group_is name after s groups id fact h =
     find_map (is_named h) (replaced name after) (replaced_name name after id h) groups
     ∙ elim (draw_cases h name) as (λ _. option_map (replaced name after) (named_group h groups) ≡ put (groups_in groups) name (Some after) h) [
-      | inl q ↦ replaced_same name after h q (named_group h groups) (λ u e. found_name h groups u e) s (ap (groups_in groups) q ∙ is) ∙ sym (at-is (groups_in groups) name (Some after) h q)
+      | inl q ↦ replaced_same name after h q (named_group h groups) (λ u e. found_name h groups u e) s (ap (groups_in groups) q ∙ fact) ∙ sym (at-is (groups_in groups) name (Some after) h q)
       | inr ne ↦ replaced_other name after h ne (named_group h groups) (λ u e. found_name h groups u e) ∙ sym (at-other (groups_in groups) name (Some after) h ne)
     ]
 
@@ -65,12 +65,12 @@ none_or None p e = refl
 none_or (Some x) p e = absurd (let f : Some x ≡ None = e in cc)
 
 one_found : (h : Draw) (base : Base) (o : Option Group) → (h ≡ base.core.id → o ≡ None) → (f : Groups) → f h ≡ o → option_or o (cond (is_named h (group_of base)) (Some (group_of base)) None) ≡ put f base.core.id (Some (group_of base)) h
-one_found h base o fresh f is =
+one_found h base o fresh f fact =
     elim (draw_cases h base.core.id) [
       | inl q ↦ none_or o (cond (is_named h (group_of base)) (Some (group_of base)) None) (fresh q)
           ∙ cond-true (is_named h (group_of base)) (Some (group_of base)) None (same_name base.core.id h (sym q)) ∙ sym (at-is f base.core.id (Some (group_of base)) h q)
       | inr ne ↦ ap (option_or o) (cond-false (is_named h (group_of base)) (Some (group_of base)) None (other_name base.core.id h (λ q. ne (sym q)))) ∙ or_none o
-          ∙ sym is ∙ sym (at-other f base.core.id (Some (group_of base)) h ne)
+          ∙ sym fact ∙ sym (at-other f base.core.id (Some (group_of base)) h ne)
     ]
 
 append_nil : {X : Type 0} (xs : List X) → xs ++ [] ≡ xs
@@ -80,12 +80,12 @@ append_nil (x ∷ xs) = ap (λ l. x ∷ l) (append_nil xs)
 -- the groups after an entry
 pub groups_are : (s after : Group) (child : Option Base) (groups : List Group) → after.core.id ≡ s.core.id → named_group s.core.id groups ≡ Some s → ((base : Base) → child ≡ Some base → put (groups_in groups) s.core.id (Some after) base.core.id ≡ None)
     → (h : Draw) → named_group h (groups_after s after child groups) ≡ with_child (put (groups_in groups) s.core.id (Some after)) child h
-groups_are s after None groups id is fresh h = ap (named_group h) (append_nil (with_group s.core.id after groups)) ∙ with_group_is s.core.id after s groups id is h
-groups_are s after (Some base) groups id is fresh h =
+groups_are s after None groups id fact fresh h = ap (named_group h) (append_nil (with_group s.core.id after groups)) ∙ with_group_is s.core.id after s groups id fact h
+groups_are s after (Some base) groups id fact fresh h =
     let f = put (groups_in groups) s.core.id (Some after) in
     find-append (is_named h) (with_group s.core.id after groups) (group_of base ∷ [])
     ∙ one_found h base (named_group h (with_group s.core.id after groups))
-    (λ q. with_group_is s.core.id after s groups id is h ∙ ap f q ∙ fresh base refl) f (sym (with_group_is s.core.id after s groups id is h))
+    (λ q. with_group_is s.core.id after s groups id fact h ∙ ap f q ∙ fresh base refl) f (sym (with_group_is s.core.id after s groups id fact h))
 
 -- each group is found by its name
 abbrev pub AreFound : List Group → Type 0
@@ -108,9 +108,9 @@ child_found f (Some base) u (inr a) = absurd a
 
 pub found_after : (s after : Group) (child : Option Base) (groups : List Group) → after.core.id ≡ s.core.id → named_group s.core.id groups ≡ Some s → ((base : Base) → child ≡ Some base → put (groups_in groups) s.core.id (Some after) base.core.id ≡ None)
     → AreFound groups → AreFound (groups_after s after child groups)
-found_after s after child groups id is fresh found u a =
+found_after s after child groups id fact fresh found u a =
     let f = put (groups_in groups) s.core.id (Some after) in
-    let all = groups_are s after child groups id is fresh in
+    let all = groups_are s after child groups id fact fresh in
     let old : (v : Group) → f v.core.id ≡ Some v → with_child f child v.core.id ≡ Some v =
     λ v e. child_keeps f child v e (λ base q. (λ w. some_none v (sym e ∙ ap f w ∙ fresh base q))) in
     elim (Among-either u (with_group s.core.id after groups) (map group_of (option_to_list child)) a) [
@@ -181,58 +181,58 @@ amended_found : (tx c : Draw) (change : Transaction → Transaction) → ((t : T
 amended_found tx c change keeps ts h = find_map (λ (t : Transaction). same_draw t.tx h) (amends tx c change) (amends_name tx c change keeps h) ts
 
 -- a transaction that is changed with its story
-module _ (ts : List Transaction) (ys : Stories) (tx c : Draw) (change : Transaction → Transaction) (keeps : (t : Transaction) → (change t).tx ≡ t.tx) (told : Story → Story) (agree : Agree ts ys) where
+module _ (ts : List Transaction) (ys : Stories) (tx c : Draw) (change : Transaction → Transaction) (keeps : (t : Transaction) → (change t).tx ≡ t.tx) (recorded : Story → Story) (agree : Agree ts ys) where
   other_told : (h : Draw) → (h ≡ tx → ⊥) → (o : Option Transaction) → ((t : Transaction) → o ≡ Some t → t.tx ≡ h) → option_map brief (option_map (amends tx c change) o) ≡ option_map brief o
   other_told h ne None named = refl
   other_told h ne (Some t) named = ap (λ (x : Transaction). Some (brief x)) (cond-false (is_of tx c t) (change t) t (and_left (same_draw t.tx tx) (same_draw t.coordinator c) (other_name t.tx tx (λ q. ne (sym (named t refl) ∙ q)))))
 
   same_told : (h : Draw) → h ≡ tx → (o : Option Transaction) → ((t : Transaction) → o ≡ Some t → t.tx ≡ h) → (p : Option Story) → option_map brief o ≡ option_map story_brief p
-      → ((t : Transaction) (y : Story) → o ≡ Some t → p ≡ Some y → brief t ≡ story_brief y → brief (amends tx c change t) ≡ story_brief (told y))
-      → option_map brief (option_map (amends tx c change) o) ≡ option_map story_brief (option_map told p)
+      → ((t : Transaction) (y : Story) → o ≡ Some t → p ≡ Some y → brief t ≡ story_brief y → brief (amends tx c change t) ≡ story_brief (recorded y))
+      → option_map brief (option_map (amends tx c change) o) ≡ option_map story_brief (option_map recorded p)
   same_told h q None named None e k = refl
   same_told h q None named (Some y) e k = absurd (let f : None ≡ Some (story_brief y) = e in cc)
   same_told h q (Some t) named None e k = absurd (let f : Some (brief t) ≡ None = e in cc)
   same_told h q (Some t) named (Some y) e k = ap Some (k t y refl refl (same_Some (brief t) (story_brief y) e))
 
-  agree_amended : ((t : Transaction) (y : Story) → t.tx ≡ tx → ys tx ≡ Some y → brief t ≡ story_brief y → brief (amends tx c change t) ≡ story_brief (told y)) → Agree (amended tx c change ts) (retold ys tx told)
+  agree_amended : ((t : Transaction) (y : Story) → t.tx ≡ tx → ys tx ≡ Some y → brief t ≡ story_brief y → brief (amends tx c change t) ≡ story_brief (recorded y)) → Agree (amended tx c change ts) (with_story ys tx recorded)
   agree_amended k h =
       ap (option_map brief) (amended_found tx c change keeps ts h)
-      ∙ elim (draw_cases h tx) as (λ _. option_map brief (option_map (amends tx c change) (transaction_in h ts)) ≡ option_map story_brief (retold ys tx told h)) [
+      ∙ elim (draw_cases h tx) as (λ _. option_map brief (option_map (amends tx c change) (transaction_in h ts)) ≡ option_map story_brief (with_story ys tx recorded h)) [
         | inl q ↦ same_told h q (transaction_in h ts) (λ t e. transaction_named h ts t e) (ys h) (agree h)
             (λ t y e p b. k t y (transaction_named h ts t e ∙ q) (ap ys (sym q) ∙ p) b)
-            ∙ ap (λ o. option_map story_brief (option_map told o)) (ap ys q) ∙ ap (option_map story_brief) (sym (at-is ys tx (option_map told (ys tx)) h q))
-        | inr ne ↦ other_told h ne (transaction_in h ts) (λ t e. transaction_named h ts t e) ∙ agree h ∙ ap (option_map story_brief) (sym (at-other ys tx (option_map told (ys tx)) h ne))
+            ∙ ap (λ o. option_map story_brief (option_map recorded o)) (ap ys q) ∙ ap (option_map story_brief) (sym (at-is ys tx (option_map recorded (ys tx)) h q))
+        | inr ne ↦ other_told h ne (transaction_in h ts) (λ t e. transaction_named h ts t e) ∙ agree h ∙ ap (option_map story_brief) (sym (at-other ys tx (option_map recorded (ys tx)) h ne))
       ]
 
-same_briefs : (told : Story → Story) → ((y : Story) → story_brief (told y) ≡ story_brief y) → (o : Option Story) → option_map story_brief (option_map told o) ≡ option_map story_brief o
-same_briefs told same None = refl
-same_briefs told same (Some y) = ap Some (same y)
+same_briefs : (recorded : Story → Story) → ((y : Story) → story_brief (recorded y) ≡ story_brief y) → (o : Option Story) → option_map story_brief (option_map recorded o) ≡ option_map story_brief o
+same_briefs recorded same None = refl
+same_briefs recorded same (Some y) = ap Some (same y)
 
 -- what changes no story's outcome
-pub agree_retold : (ts : List Transaction) (ys : Stories) (tx : Draw) (told : Story → Story) → Agree ts ys → ((y : Story) → story_brief (told y) ≡ story_brief y) → Agree ts (retold ys tx told)
-agree_retold ts ys tx told agree same h =
+pub agree_with_story : (ts : List Transaction) (ys : Stories) (tx : Draw) (recorded : Story → Story) → Agree ts ys → ((y : Story) → story_brief (recorded y) ≡ story_brief y) → Agree ts (with_story ys tx recorded)
+agree_with_story ts ys tx recorded agree same h =
     elim (draw_cases h tx) [
-      | inl q ↦ agree h ∙ ap (option_map story_brief) (ap ys q) ∙ sym (same_briefs told same (ys tx)) ∙ ap (option_map story_brief) (sym (at-is ys tx (option_map told (ys tx)) h q))
-      | inr ne ↦ agree h ∙ ap (option_map story_brief) (sym (at-other ys tx (option_map told (ys tx)) h ne))
+      | inl q ↦ agree h ∙ ap (option_map story_brief) (ap ys q) ∙ sym (same_briefs recorded same (ys tx)) ∙ ap (option_map story_brief) (sym (at-is ys tx (option_map recorded (ys tx)) h q))
+      | inr ne ↦ agree h ∙ ap (option_map story_brief) (sym (at-other ys tx (option_map recorded (ys tx)) h ne))
     ]
 
 -- a watcher that is named
 watcher_brief : (tx c : Draw) (watcher : Option Draw) (t : Transaction) → brief (amends tx c (with_watcher watcher) t) ≡ brief t
 watcher_brief tx c watcher t = cond_both (is_of tx c t) (with_watcher watcher t) t (λ (x : Transaction). brief x ≡ brief t) (λ e. refl) (λ e. refl)
 
-pub agree_watcher : (ts : List Transaction) (ys : Stories) (tx c : Draw) (watcher : Option Draw) (told : Story → Story) → Agree ts ys → ((y : Story) → story_brief (told y) ≡ story_brief y) → Agree (amended tx c (with_watcher watcher) ts) (retold ys tx told)
-agree_watcher ts ys tx c watcher told agree same =
-    agree_amended ts ys tx c (with_watcher watcher) (λ t. refl) told agree (λ t y named is b. watcher_brief tx c watcher t ∙ b ∙ sym (same y))
+pub agree_watcher : (ts : List Transaction) (ys : Stories) (tx c : Draw) (watcher : Option Draw) (recorded : Story → Story) → Agree ts ys → ((y : Story) → story_brief (recorded y) ≡ story_brief y) → Agree (amended tx c (with_watcher watcher) ts) (with_story ys tx recorded)
+agree_watcher ts ys tx c watcher recorded agree same =
+    agree_amended ts ys tx c (with_watcher watcher) (λ t. refl) recorded agree (λ t y named fact b. watcher_brief tx c watcher t ∙ b ∙ sym (same y))
 
 -- an outcome, of the group that coordinates
-pub agree_decided : (ts : List Transaction) (ys : Stories) (tx c : Draw) (o : Outcome) → Agree ts ys → ((y : Story) → ys tx ≡ Some y → y.coordinator ≡ c) → Agree (amended tx c (concludes (Some o)) ts) (retold ys tx (with_decision (Some o)))
+pub agree_decided : (ts : List Transaction) (ys : Stories) (tx c : Draw) (o : Outcome) → Agree ts ys → ((y : Story) → ys tx ≡ Some y → y.coordinator ≡ c) → Agree (amended tx c (concludes (Some o)) ts) (with_story ys tx (with_decision (Some o)))
 agree_decided ts ys tx c o agree coord =
     agree_amended ts ys tx c (concludes (Some o)) (λ t. refl) (with_decision (Some o)) agree
-    (λ t y named is b. (
-    let mine : t.coordinator ≡ c = ap (λ (x : Draw × Option Outcome). x.0) b ∙ coord y is in
+    (λ t y named fact b. (
+    let mine : t.coordinator ≡ c = ap (λ (x : Draw × Option Outcome). x.0) b ∙ coord y fact in
     ap brief (cond-true (is_of tx c t) (concludes (Some o) t) t (and_from (same_draw t.tx tx) (same_draw t.coordinator c) (same_name t.tx tx named) (same_name t.coordinator c mine)))
     ∙ ap (λ n. (n, Some o)) (ap (λ (x : Draw × Option Outcome). x.0) b)))
 
-pub agree_concluded : (ts : List Transaction) (ys : Stories) (tx c : Draw) (o : Option Outcome) → Agree ts ys → ((x : Outcome) → o ≡ Some x → (y : Story) → ys tx ≡ Some y → y.coordinator ≡ c) → Agree (concluded o tx c ts) (retold ys tx (with_decision o))
-agree_concluded ts ys tx c None agree coord = agree_retold ts ys tx (with_decision None) agree (λ y. refl)
+pub agree_concluded : (ts : List Transaction) (ys : Stories) (tx c : Draw) (o : Option Outcome) → Agree ts ys → ((x : Outcome) → o ≡ Some x → (y : Story) → ys tx ≡ Some y → y.coordinator ≡ c) → Agree (concluded o tx c ts) (with_story ys tx (with_decision o))
+agree_concluded ts ys tx c None agree coord = agree_with_story ts ys tx (with_decision None) agree (λ y. refl)
 agree_concluded ts ys tx c (Some o) agree coord = agree_decided ts ys tx c o agree (coord o refl)

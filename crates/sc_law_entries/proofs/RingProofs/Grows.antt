@@ -29,13 +29,13 @@ use Rattle.sc_meaning.specs.entries.Definitions.{named_group}
 use Rattle.sc_meaning.specs.declared.entries.LogEntry.{LogEntry}
 use Rattle.sc_words.specs.declared.commands.votes.Outcome.TheVariants as Is
 use Rattle.sc_law_walks.proofs.Lemmas.{vote_step, decided_walk, watch_step}
-use Rattle.sc_law_entries.specs.ring.Definitions.{Sources, IsVoteCast, IsWatchVoteCast, IsAllowed, AreAllowed, StoryWorld, first_recorded, recorded_stories, recorded_next, recorded_after, Story, Stories, put, retold, new_story, unsigned, unsigned_watch, watch_for, vote_in, watch_vote_in, with_vote, with_watch_vote, with_decision, with_asked, with_answer, stories_after, Groups, AllowedEntriesStayAllowed}
+use Rattle.sc_law_entries.specs.ring.Definitions.{Sources, IsVoteCast, IsWatchVoteCast, IsAllowed, AreAllowed, StoryWorld, first_recorded, recorded_stories, recorded_next, recorded_after, Story, Stories, put, with_story, new_story, unsigned, unsigned_watch, watch_for, vote_in, watch_vote_in, with_vote, with_watch_vote, with_decision, with_asked, with_answer, stories_after, Groups, AllowedEntriesStayAllowed}
 use Rattle.sc_meaning.proofs.EntriesProofs.Lemmas.{draw_cases}
 use Rattle.sc_law_entries.proofs.RingProofs.View.{Ring}
 use Rattle.sc_law_entries.proofs.RingProofs.Cover.{at-is, at-other}
 use Rattle.sc_law_entries.proofs.RingProofs.EntryKinds.{unheard, not_passed}
 use Rattle.sc_law_entries.proofs.RingProofs.Ends.{draw_new, own_story, same_lock}
-use Rattle.sc_law_entries.proofs.RingProofs.RequestsAndVotes.{Kept, named_cases}
+use Rattle.sc_law_entries.proofs.RingProofs.RequestsAndOrders.{Kept, named_cases}
 use Rattle.sc_law_entries.proofs.RingProofs.CutLookups.{arcs_in}
 use Rattle.sc_law_entries.proofs.RingProofs.GroupsInLists.{groups_in}
 use Rattle.sc_law_entries.proofs.RingProofs.Start.{at_start}
@@ -80,21 +80,21 @@ grows_then xs ys zs a b tx x e =
 grows_new : (ys : Stories) (tx : Draw) (y : Story) → ys tx ≡ None → Grows ys (put ys tx (Some y))
 grows_new ys tx y none t z e = (z, at-other ys tx (Some y) t (λ q. some_none z (sym e ∙ ap ys q ∙ none)) ∙ e, tells_same z)
 
-grows_told : (ys : Stories) (tx : Draw) (f : Story → Story) → ((y : Story) → ys tx ≡ Some y → RecordsOn y (f y)) → Grows ys (retold ys tx f)
+grows_told : (ys : Stories) (tx : Draw) (f : Story → Story) → ((y : Story) → ys tx ≡ Some y → RecordsOn y (f y)) → Grows ys (with_story ys tx f)
 grows_told ys tx f k t y e =
     elim (draw_cases t tx) [
       | inl q ↦ (f y, at-is ys tx (option_map f (ys tx)) t q ∙ ap (option_map f) (ap ys (sym q) ∙ e), k y (ap ys (sym q) ∙ e))
       | inr ne ↦ (y, at-other ys tx (option_map f (ys tx)) t ne ∙ e, tells_same y)
     ]
 
-module _ (sources : Sources) (ring : Ring) (gs : Groups) (ys : Stories) (g : Draw) (s : Group) (k : Kept sources.owner ring gs ys) (is : gs g ≡ Some s) where
+module _ (sources : Sources) (ring : Ring) (gs : Groups) (ys : Stories) (g : Draw) (s : Group) (k : Kept sources.owner ring gs ys) (fact : gs g ≡ Some s) where
   split_grows : (at : ℕ) (child : Draw) (order : ℕ) → sources.owner child ≡ Some g → Grows ys (stories_after s (Split at child order) (applied s (Split at child order)).1 ys)
   split_grows at child order mine =
       let story = new_story s (At.Split at child) in
       named_cases (λ r. Grows ys (stories_after s (Split at child order) r.1 ys)) s (split_group s at child order) child (Split at child order)
       (λ e q. subst (λ b. Grows ys (cond (b && not (is_alone s.core)) (put ys child (Some story)) ys)) (sym q) (grows_same ys))
       (λ o n. elim (not (is_alone s.core)) as (λ b. Grows ys (cond b (put ys child (Some story)) ys)) [
-        | true ↦ grows_new ys child story (draw_new gs ys sources.owner g child s k.0 mine is o.free n.undecided (ys child) refl)
+        | true ↦ grows_new ys child story (draw_new gs ys sources.owner g child s k.0 mine fact o.free n.undecided (ys child) refl)
         | false ↦ grows_same ys
       ])
 
@@ -103,7 +103,7 @@ module _ (sources : Sources) (ring : Ring) (gs : Groups) (ys : Stories) (g : Dra
       let story = new_story s body in
       named_cases (λ r. Grows ys (stories_after s (Begin tx body order) r.1 ys)) s (begun_group s tx body order) tx (Begin tx body order)
       (λ e q. subst (λ b. Grows ys (cond b (put ys tx (Some story)) ys)) (sym q) (grows_same ys))
-      (λ o n. grows_new ys tx story (draw_new gs ys sources.owner g tx s k.0 mine is o.free n.undecided (ys tx) refl))
+      (λ o n. grows_new ys tx story (draw_new gs ys sources.owner g tx s k.0 mine fact o.free n.undecided (ys tx) refl))
 
   vote_first : (y : Story) (v : Option Vote) → y.vote ≡ None → RecordsOn y (with_vote v y)
   vote_first y None none = tells_same y
@@ -111,11 +111,11 @@ module _ (sources : Sources) (ring : Ring) (gs : Groups) (ys : Stories) (g : Dra
 
   prepared_grows : (tx : Draw) (offer : Offer) (y : Story) → ys tx ≡ Some y → y.offer ≡ Some (unsigned offer) → offer.part ≡ g → Grows ys (stories_after s (Prepared tx offer) (applied s (Prepared tx offer)).1 ys)
   prepared_grows tx offer y there offered part =
-      cond_both (has_voted s.core tx) _ _ (λ (r : Group × Effect). Grows ys (retold ys tx (with_vote (vote_in s r.1))))
+      cond_both (has_voted s.core tx) _ _ (λ (r : Group × Effect). Grows ys (with_story ys tx (with_vote (vote_in s r.1))))
       (λ e. grows_told ys tx (with_vote None) (λ z w. tells_same z))
       (λ e. grows_told ys tx (with_vote (vote_in s (Was.Voted (past_of (vote_of s.core offer))))) (λ z w. (
       let same = same_Some y z (sym there ∙ w) in
-      let none = unheard gs sources.owner tx y offer s (k.0.story tx y there) offered (ap gs part ∙ is) e y.vote refl in
+      let none = unheard gs sources.owner tx y offer s (k.0.story tx y there) offered (ap gs part ∙ fact) e y.vote refl in
       vote_first z (vote_in s (Was.Voted (past_of (vote_of s.core offer)))) (ap (λ (x : Story). x.vote) (sym same) ∙ none))))
 
   watch_first : (y : Story) (v : Option Past) → (y.watch_vote ≡ Some Cast.Yes → ⊥) → RecordsOn y (with_watch_vote v y)
@@ -124,17 +124,17 @@ module _ (sources : Sources) (ring : Ring) (gs : Groups) (ys : Stories) (g : Dra
 
   watched_grows : (tx : Draw) (watch : Watch) (y : Story) → ys tx ≡ Some y → y.watch ≡ Some (unsigned_watch watch) → watch.part ≡ g → Grows ys (stories_after s (Watched tx watch) (applied s (Watched tx watch)).1 ys)
   watched_grows tx watch y there asked part =
-      cond_both (has_voted s.core tx) _ _ (λ (r : Group × Effect). Grows ys (retold ys tx (with_watch_vote (watch_vote_in r.1))))
+      cond_both (has_voted s.core tx) _ _ (λ (r : Group × Effect). Grows ys (with_story ys tx (with_watch_vote (watch_vote_in r.1))))
       (λ e. grows_told ys tx (with_watch_vote None) (λ z w. tells_same z))
       (λ e. grows_told ys tx (with_watch_vote (Some (past_of (watch_vote_of s.core watch)))) (λ z w. (
       let same = same_Some y z (sym there ∙ w) in
       watch_first z (Some (past_of (watch_vote_of s.core watch)))
-      (λ v. not_passed gs g s tx y watch is e asked part ((k.0.story tx y there).watcher Cast.Yes (ap (λ (x : Story). x.watch_vote) same ∙ v))))))
+      (λ v. not_passed gs g s tx y watch fact e asked part ((k.0.story tx y there).watcher Cast.Yes (ap (λ (x : Story). x.watch_vote) same ∙ v))))))
 
   undecided : (tx : Draw) (body : Body) (order : ℕ) (heard : Option Heard) → s.core.lock ≡ Coordinating tx body order heard → (y : Story) → ys tx ≡ Some y → (y.outcome ≡ None) × (y.watch ≡ watch_for s.core body heard)
   undecided tx body order heard lock y there =
-      let own = own_story gs ys sources.owner g s tx body order heard k.0 is lock in
-      let same = same_Some y own.story (sym there ∙ own.is) in
+      let own = own_story gs ys sources.owner g s tx body order heard k.0 fact lock in
+      let same = same_Some y own.story (sym there ∙ own.fact) in
       (ap (λ (z : Story). z.outcome) same ∙ own.undecided, ap (λ (z : Story). z.watch) same ∙ own.watch)
 
   outcome_first : (y : Story) (o : Option Outcome) → y.outcome ≡ None → RecordsOn y (with_decision o y)
@@ -146,34 +146,34 @@ module _ (sources : Sources) (ring : Ring) (gs : Groups) (ys : Stories) (g : Dra
   asked_first y (Ballot.No why) none = tells_same y
 
   -- a decision is told of a story that has none
-  decision_grows : (tx : Draw) (body : Body) (order : ℕ) (heard : Option Heard) → s.core.lock ≡ Coordinating tx body order heard → (outcome : Outcome) → Grows ys (retold ys tx (with_decision (Some outcome)))
+  decision_grows : (tx : Draw) (body : Body) (order : ℕ) (heard : Option Heard) → s.core.lock ≡ Coordinating tx body order heard → (outcome : Outcome) → Grows ys (with_story ys tx (with_decision (Some outcome)))
   decision_grows tx body order heard lock outcome = grows_told ys tx (with_decision (Some outcome)) (λ y w. outcome_first y (Some outcome) (undecided tx body order heard lock y w).0)
 
-  vote_quiet : (tx : Draw) (vote : Vote) → Grows ys (retold ys tx (with_answer s.core vote (Was.NoEffect tx)))
+  vote_quiet : (tx : Draw) (vote : Vote) → Grows ys (with_story ys tx (with_answer s.core vote (Was.NoEffect tx)))
   vote_quiet tx vote = grows_told ys tx (with_answer s.core vote (Was.NoEffect tx)) (λ y w. tells_same y)
 
-  vote_grows : (tx : Draw) (vote : Vote) (by : ℕ) → Grows ys (retold ys tx (with_answer s.core vote (vote_recorded s.core.lock s tx vote by).1))
+  vote_grows : (tx : Draw) (vote : Vote) (by : ℕ) → Grows ys (with_story ys tx (with_answer s.core vote (vote_recorded s.core.lock s tx vote by).1))
   vote_grows tx vote by =
-      vote_step s tx vote by (λ r. Grows ys (retold ys tx (with_answer s.core vote r.1))) (decided_walk s tx vote by (λ r. Grows ys (retold ys tx (with_answer s.core vote r.1))) (vote_quiet tx vote)
+      vote_step s tx vote by (λ r. Grows ys (with_story ys tx (with_answer s.core vote r.1))) (decided_walk s tx vote by (λ r. Grows ys (with_story ys tx (with_answer s.core vote r.1))) (vote_quiet tx vote)
       (λ order lock frozen votes. grows_told ys tx (with_answer s.core vote Was.Changed) (λ y w. asked_first y vote (undecided tx At.Merge order None lock y w).1))
       (λ body order lock after outcome stands. decision_grows tx body order None lock outcome))
 
-  outcome_quiet : (tx : Draw) → Grows ys (retold ys tx (with_decision None))
+  outcome_quiet : (tx : Draw) → Grows ys (with_story ys tx (with_decision None))
   outcome_quiet tx = grows_told ys tx (with_decision None) (λ y w. tells_same y)
 
-  watch_grows : (tx : Draw) (past : Past) → Grows ys (retold ys tx (with_decision (decided_in (watch_recorded s.core.lock s tx past).1)))
+  watch_grows : (tx : Draw) (past : Past) → Grows ys (with_story ys tx (with_decision (decided_in (watch_recorded s.core.lock s tx past).1)))
   watch_grows tx past =
-      watch_step s tx past (λ r. Grows ys (retold ys tx (with_decision (decided_in r.1)))) (record {
+      watch_step s tx past (λ r. Grows ys (with_story ys tx (with_decision (decided_in r.1)))) (record {
         quiet = outcome_quiet tx;
         aborts = λ body order got lock none. decision_grows tx body order got lock Is.Abort;
         divides = λ at child order got lock votes can. decision_grows tx (At.Split at child) order got lock Is.Divided;
         merges = λ order heard lock votes may. decision_grows tx At.Merge order (Some heard) lock _;
       })
 
-  give_up_grows : (tx : Draw) (l : Lock) → s.core.lock ≡ l → Grows ys (retold ys tx (with_decision (decided_in (cond (is_coordinating l tx) (aborted s tx) (s, Was.NoEffect tx)).1)))
+  give_up_grows : (tx : Draw) (l : Lock) → s.core.lock ≡ l → Grows ys (with_story ys tx (with_decision (decided_in (cond (is_coordinating l tx) (aborted s tx) (s, Was.NoEffect tx)).1)))
   give_up_grows tx Free e = outcome_quiet tx
   give_up_grows tx (Coordinating t body order heard) e =
-      cond_both (same_draw t tx) (aborted s tx) (s, Was.NoEffect tx) (λ (r : Group × Effect). Grows ys (retold ys tx (with_decision (decided_in r.1))))
+      cond_both (same_draw t tx) (aborted s tx) (s, Was.NoEffect tx) (λ (r : Group × Effect). Grows ys (with_story ys tx (with_decision (decided_in r.1))))
       (λ q. decision_grows tx body order heard (same_lock s.core.lock t tx body order heard e q) Is.Abort)
       (λ q. outcome_quiet tx)
   give_up_grows tx (Promised t offer) e = outcome_quiet tx

@@ -7,7 +7,7 @@ pub use Rattle.sc_law_entries.proofs.RingProofs.Notes.{any_keeps, any_new}
 pub use Rattle.sc_law_entries.proofs.RingProofs.EntryKinds.{unheard}
 pub use Rattle.sc_law_entries.proofs.RingProofs.Ends.{own_story, same_lock, group_none}
 pub use Rattle.sc_law_entries.proofs.RingProofs.Effects.{decisions, eff, arc_of, Old, succ_of, view_of, outcome_of, living, eff_by, eff_free, living_is, Decisions, settle_by, living_by}
-pub use Rattle.sc_law_entries.proofs.RingProofs.RequestsAndVotes.{serving, Kept, lock_free, watch_settled}
+pub use Rattle.sc_law_entries.proofs.RingProofs.RequestsAndOrders.{serving, Kept, lock_free, watch_settled}
 pub use Rattle.sc_law_entries.proofs.RingProofs.Finds.{some_none, Pairwise, map_among, pairwise_from, pairwise_filter, all_pairs}
 pub use Rattle.sc_law_entries.proofs.RingProofs.CutLookups.{arcs_in, arc_of_cut}
 pub use Rattle.sc_law_entries.proofs.RingProofs.GroupsInLists.{groups_in, with_child, groups_are, brief, story_brief, decision_is}

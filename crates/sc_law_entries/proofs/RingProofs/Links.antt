@@ -12,19 +12,19 @@ use Rattle.sc_law_entries.proofs.RingProofs.Finds.{some_none}
 
 -- a group with an arc is none without
 pub differ : (f : Ring) (g h : Draw) (a : Arc) → f g ≡ Some a → f h ≡ None → g ≡ h → ⊥
-differ f g h a is none e = some_none a (sym is ∙ ap f e ∙ none)
+differ f g h a fact none e = some_none a (sym fact ∙ ap f e ∙ none)
 
 -- the arc put n, edited put g, begins where it did
 lo_at : (f : Ring) (g : Draw) (arc arc' : Arc) → f g ≡ Some arc → arc'.lo ≡ arc.lo → (n : Draw) (b : Arc) → f n ≡ Some b → (c : Arc) × (put f g (Some arc') n ≡ Some c) × (c.lo ≡ b.lo)
-lo_at f g arc arc' is same n b e =
+lo_at f g arc arc' fact same n b e =
     elim (draw_cases n g) [
-      | inl k ↦ (arc', at-is f g (Some arc') n k, same ∙ ap (λ (x : Arc). x.lo) (same_Some arc b (sym is ∙ ap f (sym k) ∙ e)))
+      | inl k ↦ (arc', at-is f g (Some arc') n k, same ∙ ap (λ (x : Arc). x.lo) (same_Some arc b (sym fact ∙ ap f (sym k) ∙ e)))
       | inr k ↦ (b, at-other f g (Some arc') n k ∙ e, refl)
     ]
 
 pub linked_split : (v : View) (g : Draw) (arc : Arc) (place : ℕ) (child : Draw) → IsLinked v → IsOnRing arc → v.arc g ≡ Some arc → v.arc child ≡ None → place < 2 ^ 32 → Holds arc place
     → IsLinked (split_view v g arc place child)
-linked_split v g arc place child l ok is free fits held =
+linked_split v g arc place child l ok fact free fits held =
     let w = v.next g in
     let left = before arc place in
     let right = from arc place in
@@ -32,12 +32,12 @@ linked_split v g arc place child l ok is free fits held =
     let arcs : Ring = put mid child (Some right) in
     let next : Draw → Draw = put (put v.next g child) child w in
     let prev : Draw → Draw = put (put v.prev child g) w child in
-    let gc : g ≡ child → ⊥ = differ v.arc g child arc is free in
+    let gc : g ≡ child → ⊥ = differ v.arc g child arc fact free in
     let old : (h : Draw) → (h ≡ child → ⊥) → (a : Arc) → arcs h ≡ Some a → (b : Arc) × (v.arc h ≡ Some b) =
-    λ h nc a e. elim (draw_cases h g) [ inl k ↦ (arc, ap v.arc k ∙ is) | inr k ↦ (a, sym (at-other v.arc g (Some left) h k) ∙ sym (at-other mid child (Some right) h nc) ∙ e) ] in
+    λ h nc a e. elim (draw_cases h g) [ inl k ↦ (arc, ap v.arc k ∙ fact) | inr k ↦ (a, sym (at-other v.arc g (Some left) h k) ∙ sym (at-other mid child (Some right) h nc) ∙ e) ] in
     let still : (n : Draw) (b : Arc) → v.arc n ≡ Some b → (c : Arc) × (arcs n ≡ Some c) × (c.lo ≡ b.lo) =
-    λ n b e. (let k = lo_at v.arc g arc left is refl n b e in (k.0, at-other mid child (Some right) n (differ v.arc n child b e free) ∙ k.1, k.2)) in
-    let m = l.meets g arc is in
+    λ n b e. (let k = lo_at v.arc g arc left fact refl n b e in (k.0, at-other mid child (Some right) n (differ v.arc n child b e free) ∙ k.1, k.2)) in
+    let m = l.meets g arc fact in
     let wc : w ≡ child → ⊥ = differ v.arc w child m.0 m.1 free in
     let next_child : next child ≡ w = at-same (put v.next g child) child w in
     let next_g : next g ≡ child = at-other (put v.next g child) child w g gc ∙ at-same v.next g child in
@@ -70,14 +70,14 @@ linked_split v g arc place child l ok is free fits held =
               let b = old h nc a e in
               let n = l.meets h b.0 b.1 in
               ap prev (next_other h ng nc)
-              ∙ prev_other (v.next h) (λ q. ng (sym (l.back h b.0 b.1) ∙ ap v.prev q ∙ l.back g arc is)) (differ v.arc (v.next h) child n.0 n.1 free)
+              ∙ prev_other (v.next h) (λ q. ng (sym (l.back h b.0 b.1) ∙ ap v.prev q ∙ l.back g arc fact)) (differ v.arc (v.next h) child n.0 n.1 free)
               ∙ l.back h b.0 b.1)
         ]
       ];
       behind = λ h a e. elim (draw_cases h w) [
         | inl k ↦ (right, ap arcs (ap prev k ∙ prev_w) ∙ at-same mid child (Some right))
         | inr nw ↦ elim (draw_cases h child) [
-          | inl k ↦ (let s = still g arc is in (s.0, ap arcs (ap prev k ∙ prev_child) ∙ s.1))
+          | inl k ↦ (let s = still g arc fact in (s.0, ap arcs (ap prev k ∙ prev_child) ∙ s.1))
           | inr nc ↦ (
               let b = old h nc a e in
               let n = l.behind h b.0 b.1 in
@@ -192,9 +192,9 @@ linked_move v g p arc its a b l k same seam end =
               let s = still (v.next p) m.0 m.1 xp in
               (s.0, ap arcs (ap v.next q) ∙ s.1, s.2 ∙ m.2 ∙ sym end ∙ ap end_of (same_Some b c (sym at_p ∙ ap arcs (sym q) ∙ e))))
           | inr np ↦ (
-              let is = sym (at-other mid p (Some b) h np ∙ at-other v.arc g (Some a) h ng) ∙ e in
-              let n = l.meets h c is in
-              let s = still (v.next h) n.0 n.1 (λ q. ng (sym (l.back h c is) ∙ ap v.prev (q ∙ sym k.line) ∙ l.back g arc k.first)) in
+              let fact = sym (at-other mid p (Some b) h np ∙ at-other v.arc g (Some a) h ng) ∙ e in
+              let n = l.meets h c fact in
+              let s = still (v.next h) n.0 n.1 (λ q. ng (sym (l.back h c fact) ∙ ap v.prev (q ∙ sym k.line) ∙ l.back g arc k.first)) in
               (s.0, s.1, s.2 ∙ n.2))
         ]
       ];

@@ -92,10 +92,10 @@ IsWhole v = CoversBy v.arc × IsLinked v
 
 pub split_whole : (v : View) (g : Draw) (arc : Arc) (place : ℕ) (child : Draw) → IsWhole v → v.arc g ≡ Some arc → v.arc child ≡ None → place < 2 ^ 32 → Holds arc place → (place ≡ arc.lo → ⊥)
     → IsWhole (split_view v g arc place child)
-split_whole v g arc place child w is free fits held inside =
-    let ok = w.0.arcs g arc is in (
-      covers_recut v.arc g (Some arc) (Some (before arc place)) child None (Some (from arc place)) w.0 (differ v.arc g child arc is free) is free (split_recut arc place ok fits held inside),
-      linked_split v g arc place child w.1 ok is free fits held,
+split_whole v g arc place child w fact free fits held inside =
+    let ok = w.0.arcs g arc fact in (
+      covers_recut v.arc g (Some arc) (Some (before arc place)) child None (Some (from arc place)) w.0 (differ v.arc g child arc fact free) fact free (split_recut arc place ok fits held inside),
+      linked_split v g arc place child w.1 ok fact free fits held,
     )
 
 seam_of : (v : View) (g p : Draw) (arc its : Arc) → IsWhole v → IsPair v g p arc its → arc.len + its.len ≤ 2 ^ 32 → IsSeam arc its

@@ -21,7 +21,7 @@ use Rattle.sc_law_entries.proofs.RingProofs.Cover.{at-other}
 use Rattle.sc_law_entries.proofs.RingProofs.Finds.{Pairwise, pairwise_filter}
 use Rattle.sc_law_entries.proofs.RingProofs.CutLookups.{arcs_in, recut_is, without_is, divided_is, flat_none, none_each, apart_divided, apart_recut, no_cut}
 use Rattle.sc_law_entries.proofs.RingProofs.CommittedViews.{ring_split, ring_cut, ring_merge, ring_move, ring_out, ring_told}
-use Rattle.sc_law_entries.proofs.RingProofs.RequestsAndVotes.{same_fun}
+use Rattle.sc_law_entries.proofs.RingProofs.RequestsAndOrders.{same_fun}
 
 abbrev pub AreApart : List Cut → Type 0
 AreApart ring = Pairwise (λ (c o : Cut). c.group ≢ o.group) ring
@@ -41,9 +41,9 @@ module _ (ring : List Cut) (g p : Draw) (ne : g ≡ p → ⊥) where
   moved_is at (Some a) (Some b) ea eb h =
       let whole = joined a b in
       let mid = recut p (from whole at) ring in
-      let is = recut_is p (from whole at) b ring eb in
-      recut_is g (before whole at) a mid (is g ∙ at-other (arcs_in ring) p (Some (from whole at)) g ne ∙ ea) h
-      ∙ ap (λ (r : Ring). put r g (Some (before whole at)) h) (same_fun (arcs_in mid) (put (arcs_in ring) p (Some (from whole at))) is)
+      let fact = recut_is p (from whole at) b ring eb in
+      recut_is g (before whole at) a mid (fact g ∙ at-other (arcs_in ring) p (Some (from whole at)) g ne ∙ ea) h
+      ∙ ap (λ (r : Ring). put r g (Some (before whole at)) h) (same_fun (arcs_in mid) (put (arcs_in ring) p (Some (from whole at))) fact)
 
 -- after a decision
 decided_is : (ring : List Cut) (g p : Draw) (o : Option Outcome) → ((x : Outcome) → o ≡ Some x → g ≡ p → ⊥) → (h : Draw) → arc_in h (ring_decided o g p ring) ≡ ring_out o (arcs_in ring) g p h

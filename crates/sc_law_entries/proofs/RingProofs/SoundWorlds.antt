@@ -22,7 +22,7 @@ use Rattle.sc_law_entries.proofs.RingProofs.Finds.{all_pairs}
 use Rattle.sc_law_entries.proofs.RingProofs.CutLookups.{arcs_in, cut_of_arc, arc_of_cut}
 use Rattle.sc_law_entries.proofs.RingProofs.EntryKinds.{IsOpen}
 use Rattle.sc_law_entries.proofs.RingProofs.Effects.{decisions, settle_by, living_by, eff, arc_of, succ_of, pred_of, view_of, Old}
-use Rattle.sc_law_entries.proofs.RingProofs.RequestsAndVotes.{same_fun, serving}
+use Rattle.sc_law_entries.proofs.RingProofs.RequestsAndOrders.{same_fun, serving}
 use Rattle.sc_law_entries.proofs.RingProofs.GroupsInLists.{groups_in, Agree, decision_is}
 use Rattle.sc_law_entries.proofs.RingProofs.Worlds.{KeptWorld, kept_after}
 use Rattle.sc_law_entries.proofs.RingProofs.Start.{at_start, is_held, arc_some}
@@ -43,22 +43,22 @@ living_was (Some into) x e q = absurd (none-some e q)
 -- a record that has an arc
 pub record HasRecord (w : StoryWorld) (g : Draw) (a : Arc) : Type 0 where
   pub group : Group
-  pub is : effective w.store g ≡ Some group
+  pub fact : effective w.store g ≡ Some group
   pub here : group.core.gone ≡ None
   pub arc : group.core.arc ≡ a
   pub old : Old (groups_in w.store.groups) w.stories g ≡ Some group
 
 eff_has : (w : StoryWorld) (g : Draw) (a : Arc) (e : Group) → Agree w.store.transactions w.stories → e.core.arc ≡ a → (o : Option Group) → named_group g w.store.groups ≡ o → eff (decisions w.stories) o ≡ Some e → HasRecord w g a
-eff_has w g a e k arc None is q = absurd (none-some e q)
-eff_has w g a e k arc (Some u) is q =
+eff_has w g a e k arc None fact q = absurd (none-some e q)
+eff_has w g a e k arc (Some u) fact q =
     let x = settle_by u.core.lock (decisions w.stories) u in
     let r = living_was x.core.gone x e q in
     record {
       group = e;
-      is = ap (option_map (λ (z : Group). effective_by z.core.lock w.store.transactions z)) is ∙ ap Some (effective_is u.core.lock w.store.transactions w.stories u k ∙ r.0);
+      fact = ap (option_map (λ (z : Group). effective_by z.core.lock w.store.transactions z)) fact ∙ ap Some (effective_is u.core.lock w.store.transactions w.stories u k ∙ r.0);
       here = ap (λ (z : Group). z.core.gone) (sym r.0) ∙ r.1;
       arc = arc;
-      old = ap (eff (decisions w.stories)) is ∙ q;
+      old = ap (eff (decisions w.stories)) fact ∙ q;
     }
 
 -- two cuts with one arc and one group are one
@@ -108,7 +108,7 @@ module _ (owner : Draw → Option Draw) (w : StoryWorld) (k : KeptWorld owner w)
   record_of : (c : Cut) → Among c w.store.ring → HasRecord w c.group c.arc
   record_of c a =
       let r = arc_some (d c.group) c.arc (sym (k.kept.1.2 c.group) ∙ cut_arc c a) in
-      eff_has w c.group c.arc r.0 k.told r.2 (named_group c.group w.store.groups) refl r.1
+      eff_has w c.group c.arc r.0 k.recorded r.2 (named_group c.group w.store.groups) refl r.1
 
   -- the cut of a group that the view has an arc for
   view_cut : (g : Draw) (a : Arc) → (view_of d).arc g ≡ Some a → (c : Cut) × Among c w.store.ring × (c.group ≡ g) × (c.arc ≡ a)
@@ -130,7 +130,7 @@ module _ (owner : Draw → Option Draw) (w : StoryWorld) (k : KeptWorld owner w)
       let same : n.0 ≡ c.arc = same_Some n.0 c.arc (sym n.1 ∙ ap v.arc (l.forth c.group c.arc mine) ∙ mine) in
       record {
         group = r.group;
-        is = r.is;
+        fact = r.fact;
         here = r.here;
         arc = r.arc;
         succ = (s.0, s.1, ap (λ (x : Arc). x.lo) s.3 ∙ m.2, sym next ∙ sym s.2);
@@ -142,7 +142,7 @@ module _ (owner : Draw → Option Draw) (w : StoryWorld) (k : KeptWorld owner w)
       let p = and_parts (holds_key group.core.arc key && is_open group.core.lock) (is_none group.core.gone) h in
       let q = and_parts (holds_key group.core.arc key) (is_open group.core.lock) p.0 in
       let r = serving (decisions w.stories) group (not_gone group.core.gone p.1) (serves_open group.core.lock q.1) in
-      let old : d group.core.id ≡ Some r.e = ap (eff (decisions w.stories)) (k.found group a) ∙ r.is in
+      let old : d group.core.id ≡ Some r.e = ap (eff (decisions w.stories)) (k.found group a) ∙ r.fact in
       let c = cut_of_arc w.store.ring group.core.id group.core.arc (k.kept.1.2 group.core.id ∙ ap arc_of old ∙ ap Some r.arc) in
       (c.cut, c.there, c.group, ap (λ (x : Arc). holds_key x key) c.arc ∙ q.0)
 

@@ -74,8 +74,8 @@ module _ (owner : Draw → Option Draw) (ring : Ring) (gs : Groups) (ys : Storie
       let f' = decisions (put ys tx (Some y')) in
       let e : Draw → Option Group = λ h. eff f' (put mid tx (Some r) h) in
       let other : (h : Draw) → (h ≡ tx → ⊥) → New gs ys g l tx y' h ≡ e h = λ h n. ap (eff f') (sym (at-other mid tx (Some r) h n)) in
-      let gt : g ≡ tx → ⊥ = λ q. some_none s (sym d.is ∙ ap gs q ∙ none) in
-      let xt : a.watch.part ≡ tx → ⊥ = λ q. some_none a.group (sym a.is ∙ ap gs q ∙ none) in
+      let gt : g ≡ tx → ⊥ = λ q. some_none s (sym d.fact ∙ ap gs q ∙ none) in
+      let xt : a.watch.part ≡ tx → ⊥ = λ q. some_none a.group (sym a.fact ∙ ap gs q ∙ none) in
       let locked : splits_at_once s.core ≡ false = ap (λ l. not (is_some (locked_in l)) && is_alone s.core) d.lock in
       split_good ring (Old gs ys) e g tx a.watch.part s l r at (record {
         mine = mine_old owner gs ys g s tx (At.Split at tx) heard y d;
@@ -102,18 +102,18 @@ module _ (owner : Draw → Option Draw) (ring : Ring) (gs : Groups) (ys : Storie
 pub split_now : (ring : Ring) (gs : Groups) (ys : Stories) (g : Draw) (s : Group) (at : ℕ) (child : Draw) → gs g ≡ Some s → s.core.lock ≡ Free → s.core.gone ≡ None → s.core.id ≡ g → is_alone s.core ≡ true → gs child ≡ None
     → at < 2 ^ 32 → Holds s.core.arc at → (at ≡ s.core.arc.lo → ⊥) → Good ring (Old gs ys)
     → Good (ring_split (ring g) (record { at = at; child = child }) ring g) (λ h. eff (decisions ys) (put (put gs g (Some (left_group s at child))) child (Some (group_of (child_of s at child))) h))
-split_now ring gs ys g s at child is free here named alone none fits held inside w =
+split_now ring gs ys g s at child fact free here named alone none fits held inside w =
     let l = left_group s at child in
     let r = group_of (child_of s at child) in
     let mid : Groups = put gs g (Some l) in
     let f = decisions ys in
     let e : Draw → Option Group = λ h. eff f (put mid child (Some r) h) in
     let other : (h : Draw) → (h ≡ child → ⊥) → eff f (mid h) ≡ e h = λ h n. ap (eff f) (sym (at-other mid child (Some r) h n)) in
-    let gt : g ≡ child → ⊥ = λ q. some_none s (sym is ∙ ap gs q ∙ none) in
+    let gt : g ≡ child → ⊥ = λ q. some_none s (sym fact ∙ ap gs q ∙ none) in
     let self : s.core.succ.group ≡ g = draw_is s.core.succ.group s.core.id alone ∙ named in
     let at_once : splits_at_once s.core ≡ true = ap (λ l. not (is_some (locked_in l)) && is_alone s.core) free ∙ alone in
     split_good ring (Old gs ys) e g child g s l r at (record {
-      mine = ap (eff f) is ∙ eff_free f s here free;
+      mine = ap (eff f) fact ∙ eff_free f s here free;
       new = ap (eff f) none;
       left = sym (other g gt) ∙ ap (eff f) (at-same gs g (Some l)) ∙ eff_free f l here free;
       right = ap (eff f) (at-same mid child (Some r));

@@ -37,7 +37,7 @@ use Rattle.sc_law_entries.proofs.RingProofs.CommittedViews.{ring_cut, promise_se
 use Rattle.sc_law_entries.proofs.RingProofs.Moves.{IsCut}
 use Rattle.sc_law_entries.proofs.RingProofs.Splits.{split_now}
 use Rattle.sc_law_entries.proofs.RingProofs.Decisions.{born_too}
-use Rattle.sc_law_entries.proofs.RingProofs.RequestsAndVotes.{Kept, idle, named_cases, lock_taken, watch_settled}
+use Rattle.sc_law_entries.proofs.RingProofs.RequestsAndOrders.{Kept, idle, named_cases, lock_taken, watch_settled}
 use Rattle.sc_law_entries.proofs.RingProofs.Finds.{some_none}
 
 -- ---- a split
@@ -51,37 +51,37 @@ split_cut core at e =
           record { held = ltb-true (offset core.arc at) core.arc.len (not-false (holds core.arc at) p.1); inside = eqb-false at core.arc.lo p.0 })
     ]
 
-module _ (owner : Draw → Option Draw) (ring : Ring) (gs : Groups) (ys : Stories) (g : Draw) (s : Group) (k : Kept owner ring gs ys) (is : gs g ≡ Some s) where
+module _ (owner : Draw → Option Draw) (ring : Ring) (gs : Groups) (ys : Stories) (g : Draw) (s : Group) (k : Kept owner ring gs ys) (fact : gs g ≡ Some s) where
   abbrev Divides : ℕ → Draw → ℕ → Group × Effect → Type 0
   Divides at child order r =
       Kept owner (ring_cut (division_of s.core (Split at child order) r.1) ring s.core.id) (born_too s (put gs g (Some r.0)) (division_of s.core (Split at child order) r.1)) (stories_after s (Split at child order) r.1 ys)
 
   pub split_kept : (at : ℕ) (child : Draw) (order : ℕ) → owner child ≡ Some g → at < 2 ^ 32 → Divides at child order (ordered_by (Some child) (refusal_of s.core (Split at child order)) (split_group s at child order) s)
   split_kept at child order mine fits =
-      let named = (k.0.group g s is).named in
+      let named = (k.0.group g s fact).named in
       let div : Division = record { at = at; child = child } in
       let story = new_story s (At.Split at child) in
       named_cases (Divides at child order) s (split_group s at child order) child (Split at child order)
       (λ e q. subst (λ b. Kept owner (ring_cut (cond (b && is_alone s.core) (Some div) None) ring s.core.id) (born_too s (put gs g (Some s)) (cond (b && is_alone s.core) (Some div) None)) (cond (b && not (is_alone s.core)) (put ys child (Some story)) ys))
-      (sym q) (idle owner ring gs ys g s k is))
+      (sym q) (idle owner ring gs ys g s k fact))
       (λ o n. (
       let cut = split_cut s.core at o.fit in
-      let fresh = draw_new gs ys owner g child s k.0 mine is o.free n.undecided (ys child) refl in
-      let none = group_none gs ys owner g child s k.0 mine is n.unborn (gs child) refl in
+      let fresh = draw_new gs ys owner g child s k.0 mine fact o.free n.undecided (ys child) refl in
+      let none = group_none gs ys owner g child s k.0 mine fact n.unborn (gs child) refl in
       let l = left_group s at child in
       let b = begun_group s child (At.Split at child) order in
-      let gc : child ≡ g → ⊥ = λ q. some_none s (sym is ∙ ap gs (sym q) ∙ none) in
+      let gc : child ≡ g → ⊥ = λ q. some_none s (sym fact ∙ ap gs (sym q) ∙ none) in
       let Q : Bool → Type 0 = λ a. Kept owner (ring_cut (cond a (Some div) None) ring s.core.id) (born_too s (put gs g (Some (cond a l b))) (cond a (Some div) None)) (cond (not a) (put ys child (Some story)) ys) in
       elim (cases_Bool (is_alone s.core)) [
         | inl t ↦ subst Q (sym t) (
           born_facts (put gs g (Some l)) ys owner g child l (group_of (child_of s at child))
-              (plain_facts gs ys owner g s l k.0 is (inl o.free) (record { id = refl; lock = refl; here = refl; decided = λ t. refl; voted = λ t. refl; born = λ h e. any_keeps (λ c. same_draw c h) s.core.born (child ∷ []) e }))
+              (plain_facts gs ys owner g s l k.0 fact (inl o.free) (record { id = refl; lock = refl; here = refl; decided = λ t. refl; voted = λ t. refl; born = λ h e. any_keeps (λ c. same_draw c h) s.core.born (child ∷ []) e }))
               (at-other gs g (Some l) child gc ∙ none) refl refl mine (at-same gs g (Some l)) (any_new (λ c. same_draw c child) s.core.born child (same_name child child refl))
               (λ y p c there e u. some_none y (sym there ∙ fresh)),
           subst (λ m. Good (ring_cut (Some div) ring m) (Old (put (put gs g (Some l)) child (Some (group_of (child_of s at child)))) ys)) (sym named)
-              (split_now ring gs ys g s at child is o.free o.here named t none fits cut.held cut.inside k.1),
+              (split_now ring gs ys g s at child fact o.free o.here named t none fits cut.held cut.inside k.1),
         )
-        | inr t ↦ subst Q (sym t) (lock_taken owner ring gs ys g s k is child (At.Split at child) order o.free o.here fresh mine (λ p c e. none)
+        | inr t ↦ subst Q (sym t) (lock_taken owner ring gs ys g s k fact child (At.Split at child) order o.free o.here fresh mine (λ p c e. none)
             (λ e. names_differ s.core.succ.group s.core.id t (e ∙ sym named)) (fits, refl))
       ]))
 
@@ -136,7 +136,7 @@ promised_apart l t offer body tx order heard a b = let e = sym a ∙ b in cc
 watching_apart : (l : Lock) (t : Draw) (watch : Watch) (body : Body) (tx : Draw) (order : ℕ) (heard : Option Heard) → l ≡ Watching t watch → l ≡ Coordinating tx body order heard → ⊥
 watching_apart l t watch body tx order heard a b = let e = sym a ∙ b in cc
 
-module _ (owner : Draw → Option Draw) (ring : Ring) (gs : Groups) (ys : Stories) (g : Draw) (s : Group) (k : Kept owner ring gs ys) (is : gs g ≡ Some s) where
+module _ (owner : Draw → Option Draw) (ring : Ring) (gs : Groups) (ys : Stories) (g : Draw) (s : Group) (k : Kept owner ring gs ys) (fact : gs g ≡ Some s) where
   abbrev Finishes : Group × Effect → Type 0
   Finishes r = Kept owner ring (put gs g (Some r.0)) ys
 
@@ -144,8 +144,8 @@ module _ (owner : Draw → Option Draw) (ring : Ring) (gs : Groups) (ys : Storie
   end_kept : (tx : Draw) (o : Outcome) (y : Story) (s' : Group) → ys tx ≡ Some y → y.outcome ≡ Some o → IsOf s.core.lock tx → ((body : Body) (order : ℕ) (heard : Option Heard) → s.core.lock ≡ Coordinating tx body order heard → ⊥)
       → IsEnd s s' → Alike (eff (decisions ys) (Some s)) (eff (decisions ys) (Some s')) → Kept owner ring (put gs g (Some s')) ys
   end_kept tx o y s' there out of other ends alike = (
-    finish_facts gs ys owner g s s' tx y o k.0 is of other there out ends,
-    whole_change ring gs ys ys g s s' is (λ t. like_same (decisions ys t) (decisions ys t) refl) alike k.1,
+    finish_facts gs ys owner g s s' tx y o k.0 fact of other there out ends,
+    whole_change ring gs ys ys g s s' fact (λ t. like_same (decisions ys t) (decisions ys t) refl) alike k.1,
   )
 
   -- a party whose transaction is aborted stays as it is
@@ -157,12 +157,12 @@ module _ (owner : Draw → Option Draw) (ring : Ring) (gs : Groups) (ys : Storie
       (ap arc_of x ∙ ap Some (sym same.0) ∙ sym (ap arc_of z), ap succ_of x ∙ sym same.1 ∙ sym (ap succ_of z), ap pred_of x ∙ sym same.2 ∙ sym (ap pred_of z), ap pairs_of x ∙ sym same.3 ∙ sym (ap pairs_of z))
 
   party_kept : (t tx : Draw) (offer : Offer) (o : Outcome) (y : Story) → ys tx ≡ Some y → y.outcome ≡ Some o → s.core.lock ≡ Promised t offer → t ≡ tx → (z : Option Group) → participant_after o s offer ≡ z → Finishes (settled_in z s tx o)
-  party_kept t tx offer o y there out e q None m = idle owner ring gs ys g s k is
+  party_kept t tx offer o y there out e q None m = idle owner ring gs ys g s k fact
   party_kept t tx offer o y there out e q (Some after) m =
       let lock : s.core.lock ≡ Promised tx offer = e ∙ ap (λ n. Promised n offer) q in
-      let here = (subst (LockOk ys g s) lock (k.0.group g s is).lock_ok).here in
-      let told : decisions ys tx ≡ Some o = ap outcome_of there ∙ out in
-      let eff_s : eff (decisions ys) (Some s) ≡ living (after_outcome (Some o) tx s) = eff_by (decisions ys) s (Promised tx offer) lock ∙ ap (λ x. living (after_outcome x tx s)) told in
+      let here = (subst (LockOk ys g s) lock (k.0.group g s fact).lock_ok).here in
+      let recorded : decisions ys tx ≡ Some o = ap outcome_of there ∙ out in
+      let eff_s : eff (decisions ys) (Some s) ≡ living (after_outcome (Some o) tx s) = eff_by (decisions ys) s (Promised tx offer) lock ∙ ap (λ x. living (after_outcome x tx s)) recorded in
       end_kept tx o y (party_freed after tx) there out (subst (λ l. IsOf l tx) (sym lock) refl) (λ body order heard w. promised_apart s.core.lock tx offer body tx order heard lock w)
       (end_of_party s after tx (participant_same o s offer after m))
       (elim (cases_Bool (is_commit o)) [
@@ -177,9 +177,9 @@ module _ (owner : Draw → Option Draw) (ring : Ring) (gs : Groups) (ys : Storie
   watcher_kept : (t tx : Draw) (watch : Watch) (o : Outcome) (y : Story) → ys tx ≡ Some y → y.outcome ≡ Some o → s.core.lock ≡ Watching t watch → t ≡ tx → Finishes (watch_ended o s tx watch)
   watcher_kept t tx watch o y there out e q =
       let lock : s.core.lock ≡ Watching tx watch = e ∙ ap (λ n. Watching n watch) q in
-      let here = (subst (LockOk ys g s) lock (k.0.group g s is).lock_ok).here in
-      let told : decisions ys tx ≡ Some o = ap outcome_of there ∙ out in
-      let eff_s : eff (decisions ys) (Some s) ≡ living (after_outcome (Some o) tx s) = eff_by (decisions ys) s (Watching tx watch) lock ∙ ap (λ x. living (after_outcome x tx s)) told in
+      let here = (subst (LockOk ys g s) lock (k.0.group g s fact).lock_ok).here in
+      let recorded : decisions ys tx ≡ Some o = ap outcome_of there ∙ out in
+      let eff_s : eff (decisions ys) (Some s) ≡ living (after_outcome (Some o) tx s) = eff_by (decisions ys) s (Watching tx watch) lock ∙ ap (λ x. living (after_outcome x tx s)) recorded in
       let w = watcher_after o s watch in
       end_kept tx o y (party_freed w tx) there out (subst (λ l. IsOf l tx) (sym lock) refl) (λ body order heard z. watching_apart s.core.lock tx watch body tx order heard lock z)
       (end_of_party s w tx (record { id = refl; decided = refl; voted = refl; born = refl }))
@@ -192,11 +192,11 @@ module _ (owner : Draw → Option Draw) (ring : Ring) (gs : Groups) (ys : Storie
       ])
 
   pub finish_kept : (tx : Draw) (o : Outcome) (y : Story) → ys tx ≡ Some y → y.outcome ≡ Some o → (l : Lock) → s.core.lock ≡ l → Finishes (finished l s tx o)
-  finish_kept tx o y there out Free e = idle owner ring gs ys g s k is
-  finish_kept tx o y there out (Coordinating t body order heard) e = idle owner ring gs ys g s k is
+  finish_kept tx o y there out Free e = idle owner ring gs ys g s k fact
+  finish_kept tx o y there out (Coordinating t body order heard) e = idle owner ring gs ys g s k fact
   finish_kept tx o y there out (Promised t offer) e =
       cond_both (same_draw t tx) _ _ Finishes
-      (λ q. party_kept t tx offer o y there out e (draw_is t tx q) (participant_after o s offer) refl) (λ q. idle owner ring gs ys g s k is)
+      (λ q. party_kept t tx offer o y there out e (draw_is t tx q) (participant_after o s offer) refl) (λ q. idle owner ring gs ys g s k fact)
   finish_kept tx o y there out (Watching t watch) e =
       cond_both (same_draw t tx) _ _ Finishes
-      (λ q. watcher_kept t tx watch o y there out e (draw_is t tx q)) (λ q. idle owner ring gs ys g s k is)
+      (λ q. watcher_kept t tx watch o y there out e (draw_is t tx q)) (λ q. idle owner ring gs ys g s k fact)

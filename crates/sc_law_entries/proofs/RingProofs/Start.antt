@@ -24,7 +24,7 @@ use Rattle.sc_law_entries.proofs.RingProofs.CutLookups.{arcs_in, cut_of_arc, arc
 use Rattle.sc_law_entries.proofs.RingProofs.Effects.{decisions, eff, arc_of, succ_of, pred_of, view_of, IsInside, Good, Old, eff_free}
 use Rattle.sc_law_entries.proofs.RingProofs.Insides.{holds_first}
 use Rattle.sc_law_entries.proofs.RingProofs.GroupsInLists.{groups_in}
-use Rattle.sc_law_entries.proofs.RingProofs.RequestsAndVotes.{same_fun}
+use Rattle.sc_law_entries.proofs.RingProofs.RequestsAndOrders.{same_fun}
 use Rattle.sc_law_entries.proofs.RingProofs.Rings.{AreApart}
 use Rattle.sc_law_entries.proofs.RingProofs.Worlds.{KeptWorld}
 use Rattle.std.proofs.lemmas.Option.{none-some, same_Some}
@@ -97,12 +97,12 @@ base_found (x ∷ bases) k b (inr a) =
 pub record IsBase (bases : List Base) (u : Group) : Type 0 where
   pub base : Base
   pub there : Among base bases
-  pub is : group_of base ≡ u
+  pub fact : group_of base ≡ u
 
 found_base : (bases : List Base) (h : Draw) (u : Group) → named_group h (map group_of bases) ≡ Some u → IsBase bases u
 found_base bases h u e =
     let r = from_map group_of bases u (find_found (is_named h) (map group_of bases) u e).0 in
-    record { base = r.0; there = r.1; is = r.2 }
+    record { base = r.0; there = r.1; fact = r.2 }
 
 -- the cuts have the groups' arcs
 cut_arc : (h : Draw) (bases : List Base) → arc_in h (map first_cut bases) ≡ arc_of (named_group h (map group_of bases))
@@ -140,7 +140,7 @@ module _ (sources : Sources) (bases : List Base) (start : BeginInPlace sources b
   same_eff h None e = refl
   same_eff h (Some u) e =
       let r = is_first h u e in
-      eff_free (decisions no_stories) u (ap (λ (x : Group). x.core.gone) (sym r.0.is) ∙ r.1.here) (ap (λ (x : Group). x.core.lock) (sym r.0.is) ∙ r.1.free)
+      eff_free (decisions no_stories) u (ap (λ (x : Group). x.core.gone) (sym r.0.fact) ∙ r.1.here) (ap (λ (x : Group). x.core.lock) (sym r.0.fact) ∙ r.1.free)
 
   records : Old gs no_stories ≡ gs
   records = same_fun (Old gs no_stories) gs (λ h. same_eff h (gs h) refl)
@@ -188,7 +188,7 @@ module _ (sources : Sources) (bases : List Base) (start : BeginInPlace sources b
   base_of g a e =
       let r = arc_some (gs g) a e in
       let k = found_base bases g r.0 r.1 in
-      (k.base, k.there, ap (λ (x : Group). x.core.id) k.is ∙ found_name g (map group_of bases) r.0 r.1, ap (λ (x : Group). x.core.arc) k.is ∙ r.2)
+      (k.base, k.there, ap (λ (x : Group). x.core.id) k.fact ∙ found_name g (map group_of bases) r.0 r.1, ap (λ (x : Group). x.core.arc) k.fact ∙ r.2)
 
   linked : IsLinked v
   linked = record {
@@ -218,7 +218,7 @@ module _ (sources : Sources) (bases : List Base) (start : BeginInPlace sources b
   good : Good (arcs_in ring) (Old gs no_stories)
   good = subst (Good (arcs_in ring)) (sym records) (
     (cover, linked),
-    λ h u e. (let r = is_first h u e in subst IsInside r.0.is (empty_inside r.0.base r.1.empty)),
+    λ h u e. (let r = is_first h u e in subst IsInside r.0.fact (empty_inside r.0.base r.1.empty)),
     λ h. ap (λ (f : Ring). f h) arcs,
   )
 
@@ -226,10 +226,10 @@ module _ (sources : Sources) (bases : List Base) (start : BeginInPlace sources b
   facts = record {
     group = λ h u e. (let r = is_first h u e in record {
       named = found_name h (map group_of bases) u e;
-      lock_ok = subst (LockOk no_stories h u) (sym (ap (λ (x : Group). x.core.lock) (sym r.0.is) ∙ r.1.free)) tt;
+      lock_ok = subst (LockOk no_stories h u) (sym (ap (λ (x : Group). x.core.lock) (sym r.0.fact) ∙ r.1.free)) tt;
     });
     story = λ tx y e. absurd (none-some y e);
-    origin = λ h u e. (let r = is_first h u e in inl (ap sources.owner (sym (found_name h (map group_of bases) u e) ∙ ap (λ (x : Group). x.core.id) (sym r.0.is)) ∙ r.1.unowned));
+    origin = λ h u e. (let r = is_first h u e in inl (ap sources.owner (sym (found_name h (map group_of bases) u e) ∙ ap (λ (x : Group). x.core.id) (sym r.0.fact)) ∙ r.1.unowned));
   }
 
   pub at_start : KeptWorld sources.owner (first_recorded bases)
@@ -238,5 +238,5 @@ module _ (sources : Sources) (bases : List Base) (start : BeginInPlace sources b
     found = λ u a. (let r = from_map group_of bases u a in
         ap (λ (x : Group). named_group x.core.id (map group_of bases)) (sym r.2) ∙ base_found bases ids r.0 r.1 ∙ ap Some r.2);
     apart = apart;
-    told = λ tx. refl;
+    recorded = λ tx. refl;
   }

@@ -124,7 +124,7 @@ RequestOf = ℕ → ℕ → Op
 -- a request may take effect at a group whose arc holds its key, where its number is above the one that the table notes of its client
 pub record MayServe (request : RequestOf) (holdings : Holdings) (group : Draw) (client seq : ℕ) (op : Op) : Type 0 where
   pub holding : Holding
-  pub is : holdings group ≡ Some holding
+  pub fact : holdings group ≡ Some holding
   pub its : IsTrue (holds_key holding.arc (key_of op))
   pub above : (noted : Noted) → get holding.clients client ≡ Some noted → noted.seq < seq
   pub asked : op ≡ request client seq
@@ -132,7 +132,7 @@ pub record MayServe (request : RequestOf) (holdings : Holdings) (group : Draw) (
 -- a group may be divided at a position inside its arc, where its child holds nothing yet
 pub record MayDivide (holdings : Holdings) (group : Draw) (at : ℕ) (child : Draw) : Type 0 where
   pub holding : Holding
-  pub is : holdings group ≡ Some holding
+  pub fact : holdings group ≡ Some holding
   pub fits : at < 2 ^ 32
   pub cut : CanCut holding.arc at
   pub free : holdings child ≡ None
@@ -140,7 +140,7 @@ pub record MayDivide (holdings : Holdings) (group : Draw) (at : ℕ) (child : Dr
 -- two groups each hold something, and the two holdings stand in this relation
 pub record IsBetween (holdings : Holdings) (group next : Draw) (fit : Holding → Holding → Type 0) : Type 0 where
   pub holding : Holding
-  pub is : holdings group ≡ Some holding
+  pub fact : holdings group ≡ Some holding
   pub other : Holding
   pub next_is : holdings next ≡ Some other
   pub apart : group ≢ next
@@ -213,7 +213,7 @@ pub record MatchesHoldings (request : RequestOf) (history : List Entry) (holding
   pub legal : Legal history
   pub asked : (entry : Entry) → Among entry history → entry.op ≡ request entry.client entry.seq
   pub disjoint : AreDisjoint holdings
-  pub told : (group : Draw) (holding : Holding) → holdings group ≡ Some holding → IsReportedOf history holding
+  pub recorded : (group : Draw) (holding : Holding) → holdings group ≡ Some holding → IsReportedOf history holding
 
 -- a holding with no pairs and an empty client table
 pub record IsBare (holding : Holding) : Type 0 where

@@ -11,8 +11,8 @@ use Rattle.sc_words.specs.ideal.Definitions.{Legal}
 use Rattle.sc_group_table.specs.machine.Definitions.{Group}
 use Rattle.sc_meaning.specs.declared.entries.Cut.{Cut}
 use Rattle.sc_meaning.specs.declared.entries.LogEntry.{LogEntry}
-use Rattle.sc_meaning.specs.entries.Definitions.{effective, HoldsItsPart, Covers, arc_in, first_cut, StoreWorld, first_world, named_group, told, world_of}
-use Rattle.sc_law_entries.specs.history.Laws.{LeavesWhole}
+use Rattle.sc_meaning.specs.entries.Definitions.{effective, HoldsItsPart, Covers, arc_in, first_cut, StoreWorld, first_world, named_group, recorded, world_of}
+use Rattle.sc_law_entries.specs.history.LogHistories.{LeavesWhole}
 use Rattle.sc_law_entries.specs.history.Moves.{Holding, Holdings, Move, RequestOf, HasNotes, MayMake, MatchesHoldings, entries_by, holding_of, holdings_after}
 
 -- what each group with a range holds, by its effective record
@@ -57,7 +57,7 @@ LogNotesStay bases entries = (prefix more : List LogEntry) → entries ≡ prefi
 -- the history of a world is legal and matches what all groups hold, and each range's group has its part of the map
 pub record HistoryMatchesWorld (request : RequestOf) (world : StoreWorld) : Type 0 where
   pub legal : Legal world.history
-  pub told : MatchesHoldings request world.history (holdings_in world)
+  pub recorded : MatchesHoldings request world.history (holdings_in world)
   pub parts : (cut : Cut) → Among cut world.ring → HoldsItsPart world cut
 
 -- after such entries the history of the requests that took effect is legal and matches what all groups hold, the ranges are those of the start, and the notes of all logs stay in the history
@@ -89,12 +89,12 @@ pub record IsMoveTo (request : RequestOf) (before after : StoreWorld) : Type 0 w
 
 -- an entry makes a move
 abbrev pub MakesMove : RequestOf → StoreWorld → LogEntry → Type 0
-MakesMove request world entry = IsMoveTo request world (told world entry)
+MakesMove request world entry = IsMoveTo request world (recorded world entry)
 
 -- each entry makes a move when its turn comes
 abbrev pub AllMakeMoves : RequestOf → StoreWorld → List LogEntry → Type 0
 AllMakeMoves request world [] = Unit {0}
-AllMakeMoves request world (entry ∷ entries) = MakesMove request world entry × AllMakeMoves request (told world entry) entries
+AllMakeMoves request world (entry ∷ entries) = MakesMove request world entry × AllMakeMoves request (recorded world entry) entries
 
 -- the effective record of a range's group has the arc of the range
 abbrev pub HasCutArc : StoreWorld → Cut → Type 0
@@ -102,7 +102,7 @@ HasCutArc world cut = (group : Group) → effective world cut.group ≡ Some gro
 
 -- the history matches what all groups hold, each range's group has its part of the map where its record has the range's arc, and the notes of all logs stay in the history
 pub record MatchByMoves (request : RequestOf) (bases : List Base) (entries : List LogEntry) : Type 0 where
-  pub told : MatchesHoldings request (world_of bases entries).history (holdings_in (world_of bases entries))
+  pub recorded : MatchesHoldings request (world_of bases entries).history (holdings_in (world_of bases entries))
   pub parts : (cut : Cut) → Among cut (world_of bases entries).ring → HasCutArc (world_of bases entries) cut → HoldsItsPart (world_of bases entries) cut
   pub notes : LogNotesStay bases entries
 

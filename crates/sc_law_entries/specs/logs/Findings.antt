@@ -75,7 +75,7 @@ pub record IsDecidedAt (ahead : Ahead) (bases : List Base) (rows : Rows) (place 
   pub row : Row Mail OrderLine
   pub later : Rows
   pub are : rows ≡ before ++ row ∷ later
-  pub is_told : row_of_entry ahead bases place rows ≡ Some (length before + 1)
+  pub is_recorded : row_of_entry ahead bases place rows ≡ Some (length before + 1)
   -- the history has the entry after the row, and not before
   pub not_before : length (history_at ahead bases before) ≤ place
   pub after : place < length (history_at ahead bases (before ++ row ∷ []))
@@ -90,4 +90,4 @@ pub record StayRecorded (ahead : Ahead) (bases : List Base) (rows more : Rows) :
   pub logs : (base : Base) → Among base (groups_at ahead bases rows) → Continues (decided_log ahead base rows) (log_at ahead bases (rows ++ more) base.core.id)
   pub entries : (later : List LogEntry) × (entries_at ahead bases (rows ++ more) ≡ entries_at ahead bases rows ++ later)
   pub history : (later : List Entry) × (history_at ahead bases (rows ++ more) ≡ history_at ahead bases rows ++ later)
-  pub told : (place at : ℕ) → row_of_entry ahead bases place rows ≡ Some at → row_of_entry ahead bases place (rows ++ more) ≡ Some at
+  pub recorded : (place at : ℕ) → row_of_entry ahead bases place rows ≡ Some at → row_of_entry ahead bases place (rows ++ more) ≡ Some at

@@ -6,7 +6,7 @@ use Rattle.sc_client_table.specs.table.Definitions.{Client as ClientState}
 use Rattle.sc_words.specs.declared.commands.bodies.Body.TheVariants as At
 use Rattle.sc_words.specs.declared.commands.effects.Effect.TheVariants as Was
 use Rattle.sc_words.specs.declared.commands.orders.OrderRefusal.TheVariants as Why
-use Rattle.sc_words.specs.declared.commands.orders.OrderResult.TheVariants as Tells
+use Rattle.sc_words.specs.declared.commands.orders.OrderResult.TheVariants as Results
 use Rattle.sc_words.specs.declared.commands.votes.No.TheVariants as Because
 use Rattle.sc_words.specs.declared.commands.votes.Outcome.TheVariants as Is
 use Rattle.sc_words.specs.declared.commands.votes.Past.TheVariants as Cast
@@ -137,10 +137,10 @@ EffectNames K (Was.Refused why) = RefusalNames K why
 
 -- all names in a result that the desk gets are of kind K
 abbrev pub ResultNames : (Draw → Type 0) → OrderResult → Type 0
-ResultNames K Tells.Done = Unit {0}
-ResultNames K Tells.Committed = Unit {0}
-ResultNames K Tells.Aborted = Unit {0}
-ResultNames K (Tells.Refused why) = RefusalNames K why
+ResultNames K Results.Done = Unit {0}
+ResultNames K Results.Committed = Unit {0}
+ResultNames K Results.Aborted = Unit {0}
+ResultNames K (Results.Refused why) = RefusalNames K why
 
 -- all names in an answer to a client are of kind K
 abbrev pub AnswerNames : (Draw → Type 0) → AnswerBody → Type 0
@@ -181,11 +181,11 @@ pub record MailNames (K : Draw → Type 0) (mail : Mail) : Type 0 where
 -- ---- names in players
 
 -- all names in what a replica holds are of kind K: in its group's record, its log, what it accepted, the reports that its leader got, what is in flight, what is ready, and what is queued
-pub record HeldNames (K : Draw → Type 0) (of : Core) (entries : List Command) (voted told : List (Report Command)) (flying : List (Flight Command)) (counted : List (ℕ × Command)) (parties others : List Command) : Type 0 where
+pub record HeldNames (K : Draw → Type 0) (of : Core) (entries : List Command) (voted recorded : List (Report Command)) (flying : List (Flight Command)) (counted : List (ℕ × Command)) (parties others : List Command) : Type 0 where
   pub core : CoreNames K of
   pub log : Each (CommandNames K) entries
   pub accepted : ReportsNames K voted
-  pub reports : ReportsNames K told
+  pub reports : ReportsNames K recorded
   pub flights : Each (λ (flight : Flight Command). CommandNames K flight.value) flying
   pub ready : Each (λ (e : ℕ × Command). CommandNames K e.1) counted
   pub acts : Each (CommandNames K) parties

@@ -6,7 +6,7 @@ use Rattle.sc_meaning.specs.sound.Definitions.{Ahead, Lawful, decided_log}
 use Rattle.sc_law_entries.specs.ring.Definitions.{IsAllowed, draw_of, Stories}
 use Rattle.sc_scenario.specs.declared.scenario.scenarios.Scenario.{Scenario}
 use Rattle.sc_law_entries.specs.names.Fresh.{BeginsUndrawn}
-use Rattle.sc_law_entries.specs.names.Laws.{IsDrawn}
+use Rattle.sc_law_entries.specs.names.NameLaws.{IsDrawn}
 use Rattle.sc_law_entries.specs.names.Owners.{Rows, owner_in}
 
 -- a Begin or a Split that is allowed in the log of a group brings a name that a node drew for the group: no group of a scenario has it

@@ -13,7 +13,7 @@ use Rattle.sc_words.specs.declared.commands.votes.Vote.{Vote}
 use Rattle.sc_words.specs.declared.commands.votes.Vote.TheVariants as Ballot
 use Rattle.sc_group_table.specs.machine.Definitions.{Group, applied}
 use Rattle.sc_meaning.specs.declared.entries.LogEntry.{LogEntry}
-use Rattle.sc_meaning.specs.entries.Definitions.{StoreWorld, first_world, named_group, told}
+use Rattle.sc_meaning.specs.entries.Definitions.{StoreWorld, first_world, named_group, recorded}
 use Rattle.sc_law_entries.specs.ring.Stories.{Story, Stories, no_stories, unsigned, unsigned_watch, stories_after}
 
 -- two functions that are fixed beside the logs: whose a name is, and what a client asks
@@ -75,7 +75,7 @@ recorded_stories stories (Some group) command = stories_after group command (app
 -- the world and the stories after one entry
 abbrev pub recorded_next : StoryWorld → LogEntry → StoryWorld
 recorded_next world entry = record {
-  store = told world.store entry;
+  store = recorded world.store entry;
   stories = recorded_stories world.stories (named_group entry.group world.store.groups) entry.command;
 }
 

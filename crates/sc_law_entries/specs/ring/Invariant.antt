@@ -43,7 +43,7 @@ IsOwnBody (At.Split at child) tx = (at < 2 ^ 32) × (child ≡ tx)
 -- a group coordinates by its lock: the story is open, and the group's record, pairs and client table are those at the entry that began the transaction
 pub record IsCoordinating (stories : Stories) (name : Draw) (group : Group) (tx : Draw) (body : Body) (heard : Option Heard) : Type 0 where
   pub story : Story
-  pub is : stories tx ≡ Some story
+  pub fact : stories tx ≡ Some story
   pub coordinator : story.coordinator ≡ name
   pub same_body : story.body ≡ body
   pub undecided : story.outcome ≡ None
@@ -58,7 +58,7 @@ pub record IsCoordinating (stories : Stories) (name : Draw) (group : Group) (tx 
 -- a participant has voted Yes: what it has is what it handed over
 pub record IsPromised (stories : Stories) (name : Draw) (group : Group) (tx : Draw) (offer : Offer) : Type 0 where
   pub story : Story
-  pub is : stories tx ≡ Some story
+  pub fact : stories tx ≡ Some story
   pub offered : story.offer ≡ Some (unsigned offer)
   pub part : offer.part ≡ name
   pub vote : story.vote ≡ Some (Ballot.Yes (frozen_of group))
@@ -67,7 +67,7 @@ pub record IsPromised (stories : Stories) (name : Draw) (group : Group) (tx : Dr
 -- a watcher has voted Yes to what it was asked
 pub record IsWatching (stories : Stories) (name : Draw) (group : Group) (tx : Draw) (watch : Watch) : Type 0 where
   pub story : Story
-  pub is : stories tx ≡ Some story
+  pub fact : stories tx ≡ Some story
   pub asked : story.watch ≡ Some (unsigned_watch watch)
   pub part : watch.part ≡ name
   pub here : group.core.gone ≡ None
@@ -89,7 +89,7 @@ pub record IsFrozen (groups : Groups) (tx : Draw) (story : Story) (frozen : Froz
   pub offer : Offer
   pub offered : story.offer ≡ Some (unsigned offer)
   pub group : Group
-  pub is : groups offer.part ≡ Some group
+  pub fact : groups offer.part ≡ Some group
   pub lock : group.core.lock ≡ Promised tx offer
   pub same : frozen_of group ≡ frozen
 
@@ -98,7 +98,7 @@ pub record IsAgreed (groups : Groups) (tx : Draw) (story : Story) : Type 0 where
   pub watch : Watch
   pub asked : story.watch ≡ Some (unsigned_watch watch)
   pub group : Group
-  pub is : groups watch.part ≡ Some group
+  pub fact : groups watch.part ≡ Some group
   pub lock : group.core.lock ≡ Watching tx watch
 
 -- the participant of a story is there and has voted
@@ -106,7 +106,7 @@ pub record IsVoter (groups : Groups) (tx : Draw) (story : Story) : Type 0 where
   pub offer : Offer
   pub offered : story.offer ≡ Some offer
   pub group : Group
-  pub is : groups offer.part ≡ Some group
+  pub fact : groups offer.part ≡ Some group
   pub voted : has_voted group.core tx ≡ true
 
 -- the group that is asked to watch is there and has voted
@@ -114,7 +114,7 @@ pub record IsWatcher (groups : Groups) (tx : Draw) (asked : Option Watch) : Type
   pub watch : Watch
   pub is_asked : asked ≡ Some watch
   pub group : Group
-  pub is : groups watch.part ≡ Some group
+  pub fact : groups watch.part ≡ Some group
   pub voted : has_voted group.core tx ≡ true
 
 -- a commit had the votes that it needs

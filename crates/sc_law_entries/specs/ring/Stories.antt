@@ -54,8 +54,8 @@ abbrev pub put : {X : Type 0} → (Draw → X) → Draw → X → Draw → X
 put known name value other = if same_draw other name then value else known other
 
 -- the stories, with the one of this name changed, where there is one
-abbrev pub retold : Stories → Draw → (Story → Story) → Stories
-retold stories tx change = put stories tx (option_map change (stories tx))
+abbrev pub with_story : Stories → Draw → (Story → Story) → Stories
+with_story stories tx change = put stories tx (option_map change (stories tx))
 
 -- ---- what is asked
 
@@ -154,11 +154,11 @@ abbrev pub stories_after : Group → Command → Effect → Stories → Stories
 stories_after group (Split at child order) effect stories =
     if is_changed effect && not (is_alone group.core) then put stories child (Some (new_story group (At.Split at child))) else stories
 stories_after group (Begin tx body order) effect stories = if is_changed effect then put stories tx (Some (new_story group body)) else stories
-stories_after group (Prepared tx offer) effect stories = retold stories tx (with_vote (vote_in group effect))
-stories_after group (Watched tx watch) effect stories = retold stories tx (with_watch_vote (watch_vote_in effect))
-stories_after group (RecordVote tx vote by) effect stories = retold stories tx (with_answer group.core vote effect)
-stories_after group (RecordWatch tx vote by) effect stories = retold stories tx (with_decision (decided_in effect))
-stories_after group (GiveUp tx) effect stories = retold stories tx (with_decision (decided_in effect))
+stories_after group (Prepared tx offer) effect stories = with_story stories tx (with_vote (vote_in group effect))
+stories_after group (Watched tx watch) effect stories = with_story stories tx (with_watch_vote (watch_vote_in effect))
+stories_after group (RecordVote tx vote by) effect stories = with_story stories tx (with_answer group.core vote effect)
+stories_after group (RecordWatch tx vote by) effect stories = with_story stories tx (with_decision (decided_in effect))
+stories_after group (GiveUp tx) effect stories = with_story stories tx (with_decision (decided_in effect))
 stories_after group Noop effect stories = stories
 stories_after group (Call client seq op) effect stories = stories
 stories_after group (Join node order) effect stories = stories

@@ -172,11 +172,11 @@ module _ (ahead : Ahead) (base : Base) (made : Command → Type 0) (heard : Mail
   -- an acceptor's step
   acceptor_replica : (s : Step Command) (h : Steps) (r : ReplicaState) (acceptor : AcceptorState Command) → Replica h r → Mirrors acceptor (state_of (first ahead base) me (s ∷ h))
       → ((b : Ballot) (slot : ℕ) (c : Command) → s ≡ Offered b slot c → ⊥) → ((b : Ballot) (from : ℕ) → s ≡ Prepared b from → ⊥) → Replica (s ∷ h) (record r { acceptor = acceptor })
-  acceptor_replica s h r acceptor k is no_offer no_prepare = record {
+  acceptor_replica s h r acceptor k fact no_offer no_prepare = record {
     me_is = k.me_is;
     whole = k.whole;
     log_is = later_has ahead base made s h k.whole r.log r.group k.log_is;
-    acceptor_is = is;
+    acceptor_is = fact;
     tops = λ b slot c a own. elim a [ inl e ↦ absurd (no_offer b slot c e) | inr o ↦ k.tops b slot c o own ];
     prepares = λ b from a own. elim a [ inl e ↦ absurd (no_prepare b from e) | inr o ↦ k.prepares b from o own ];
     count = k.count;
@@ -206,13 +206,13 @@ module _ (ahead : Ahead) (base : Base) (made : Command → Type 0) (heard : Mail
       → IsLawfulStep (rule ahead base) (first ahead base) s (f.newer ++ before) → Mirrors acceptor (state_of (first ahead base) me (s ∷ f.newer ++ before))
       → ((b : Ballot) (slot : ℕ) (c : Command) → s ≡ Offered b slot c → ⊥) → ((b : Ballot) (from : ℕ) → s ≡ Prepared b from → ⊥)
       → IsOwn ahead base heard mail.body → IsTrue ahead base made heard (s ∷ f.newer ++ before) mail mail.body → Ended ahead base made heard me before after (hinted b (record r { acceptor = acceptor }), mails ++ mail ∷ [])
-  acceptor_ended s b r mails mail acceptor after f are by law_of is no_offer no_prepare own t = record {
+  acceptor_ended s b r mails mail acceptor after f are by law_of fact no_offer no_prepare own t = record {
     newer = s ∷ f.newer;
     are = are;
     by = (by, f.by);
     lawful = (law_of, f.lawful);
     requested = λ d slot c a. elim a [ inl e ↦ absurd (no_offer d slot c e) | inr o ↦ f.requested d slot c o ];
-    replica = hinted_replica (s ∷ f.newer ++ before) b (record r { acceptor = acceptor }) (acceptor_replica s (f.newer ++ before) r acceptor f.replica is no_offer no_prepare);
+    replica = hinted_replica (s ∷ f.newer ++ before) b (record r { acceptor = acceptor }) (acceptor_replica s (f.newer ++ before) r acceptor f.replica fact no_offer no_prepare);
     mails = λ m a. elim (Among-either m mails (mail ∷ []) a) [
       | inl old ↦ grown_true ahead base made made (λ c p. p) heard heard (λ b p. p) (s ∷ []) (f.newer ++ before) m m.body (f.mails m (subst (Among m) f.sent_is old))
       | inr (inl e) ↦ subst (λ (x : Mail). IsTrue ahead base made heard (s ∷ f.newer ++ before) x x.body) e t

@@ -290,15 +290,15 @@ module _ (ahead : Ahead) (base : Base) (made : Command → Type 0) (heard : Mail
       let logged = log_before ahead base made heard me older before (r, mails) f (log ++ c ∷ []) has.is_log in
       let speech : (who : ℕ) → AreSaid heard (went_on who g (before_of r.group.core) effect c []) = λ who. (
       subst (λ (x : Group). AreSaid heard (went_on who (applied x c).0 (before_of x.core) (applied x c).1 c [])) (sym k.log_is.group_is) (speaks.goes_on log c logged k.log_is.all_made m who)) in
-      let replies : (client seq : ℕ) (op : Op) (reply : Reply) → c ≡ Call client seq op → IsReplied effect reply → IsReplyAt ahead base h client seq reply = λ client seq op reply is replied. (
+      let replies : (client seq : ℕ) (op : Op) (reply : Reply) → c ≡ Call client seq op → IsReplied effect reply → IsReplyAt ahead base h client seq reply = λ client seq op reply fact replied. (
       record {
         prefix = log;
         op = op;
-        is_log = subst (λ d. IsLog (rule ahead base) h (log ++ d ∷ [])) is has.is_log;
-        replied = subst (λ (g : Group). IsReplied (applied g (Call client seq op)).1 reply) k.log_is.group_is (subst (λ d. IsReplied (applied r.group d).1 reply) is replied);
+        is_log = subst (λ d. IsLog (rule ahead base) h (log ++ d ∷ [])) fact has.is_log;
+        replied = subst (λ (g : Group). IsReplied (applied g (Call client seq op)).1 reply) k.log_is.group_is (subst (λ d. IsReplied (applied r.group d).1 reply) fact replied);
       }) in
-      let answers : (client seq : ℕ) (op : Op) (answer : AnswerBody) → c ≡ Call client seq op → answer_of effect ≡ Some answer → IsTrueAnswer ahead base h (client_actor client) seq answer = λ client seq op answer is e.
-      (true_answer h client seq effect (λ reply replied. replies client seq op reply is replied) answer e) in
+      let answers : (client seq : ℕ) (op : Op) (answer : AnswerBody) → c ≡ Call client seq op → answer_of effect ≡ Some answer → IsTrueAnswer ahead base h (client_actor client) seq answer = λ client seq op answer fact e.
+      (true_answer h client seq effect (λ reply replied. replies client seq op reply fact replied) answer e) in
       let start : Past counted (next r) c g (entered c r, mails) = record { fine = place; group_is = entered_group c r; learnt_is = t; executed_is = up; runs_is = λ e. entered_runs c r ∙ runs e } in
       let answered_it : Past counted (next r) c g (cond counted (answered_or_put_back (answer_of effect) c (entered c r, mails)) (entered c r, mails)) = (
       cond_both counted (answered_or_put_back (answer_of effect) c (entered c r, mails)) (entered c r, mails) (Past counted (next r) c g)
@@ -338,10 +338,10 @@ module _ (ahead : Ahead) (base : Base) (made : Command → Type 0) (heard : Mail
     where
       go : ((p : Place) → Ok p → Ok (executed_ready es p).0) → (o : Option Command) → next_ready place.0 ≡ o
           → OkAfter (elim o [ None ↦ childless place | Some command ↦ ending (next_child command place.0) (executed_ready es (executed_one true command place)) ])
-      go rest None is = f
-      go rest (Some c) is =
-          let t = Each-among _ place.0.ready (next place.0, c) f.replica.ready (next_ready_among place.0 c is) in
-          fine_pumped ahead base made heard me older before speaks some _ (rest _ (fine_executed_one true c place.0 place.1 f t (learnt_made place f (next place.0) c t) (λ _. next_ready_runs place.0 c is)))
+      go rest None fact = f
+      go rest (Some c) fact =
+          let t = Each-among _ place.0.ready (next place.0, c) f.replica.ready (next_ready_among place.0 c fact) in
+          fine_pumped ahead base made heard me older before speaks some _ (rest _ (fine_executed_one true c place.0 place.1 f t (learnt_made place f (next place.0) c t) (λ _. next_ready_runs place.0 c fact)))
 
   -- Execute
   pub fine_executed : (counted : Bool) (c : Command) (r : ReplicaState) (mails : List Mail) → (f : Ok (r, mails)) → IsLearnt (rule ahead base) (f.newer ++ before) (next r) c → (counted ≡ true → r.running ≡ true) → Ok (executed counted c (r, mails)).0

@@ -17,6 +17,14 @@ use Rattle.sc_law_groups.proofs.GroupProofs.FirstRows.{Journal, or_now, issue-pu
 use Rattle.sc_paxos_law.proofs.Lemmas.{get_pushed}
 use Rattle.sc_base.proofs.Lemmas.{same_name}
 
+-- it holds of each client section of a scenario
+abbrev pub EachClient : Scenario → (Asks → Type 0) → Type 0
+EachClient scenario P = (asks : Asks) → Among asks scenario.clients → P asks
+
+-- one client number stands in one section
+abbrev pub HaveOneSection : Scenario → Type 0
+HaveOneSection scenario = (one other : Asks) → Among one scenario.clients → Among other scenario.clients → one.client ≡ other.client → one ≡ other
+
 -- ---- requests
 
 -- a request of the scenario with a number, and the row that issued it
@@ -90,18 +98,18 @@ SendsAsked asks sent = (sent ≡ []) ⊎ ((group : Draw) × (target : ℕ) × (r
 
 asked_op : (requests : List Op) (seq n : ℕ) (request : ℕ × Op) → seq ≡ n + 1 → (o : Option Op) → slice_get requests (seq - 1) ≡ o → option_map (λ op. (seq, op)) o ≡ Some request
     → (1 ≤ request.0) × (slice_get requests (request.0 - 1) ≡ Some request.1)
-asked_op requests seq n request is None at e = cc
-asked_op requests seq n request is (Some op) at e =
+asked_op requests seq n request fact None at e = cc
+asked_op requests seq n request fact (Some op) at e =
     let pair : (seq, op) ≡ request = cc in
-    subst (λ (r : ℕ × Op). (1 ≤ r.0) × (slice_get requests (r.0 - 1) ≡ Some r.1)) pair (omega (arith, is), at)
+    subst (λ (r : ℕ × Op). (1 ≤ r.0) × (slice_get requests (r.0 - 1) ≡ Some r.1)) pair (omega (arith, fact), at)
 
 asked_at : (requests : List Op) (waiting : Option ℕ) (n : ℕ) (request : ℕ × Op) → IsNextOf waiting n → request_at requests waiting ≡ Some request → (1 ≤ request.0) × (slice_get requests (request.0 - 1) ≡ Some request.1)
-asked_at requests None n request is e = cc
-asked_at requests (Some seq) n request is e = asked_op requests seq n request is (slice_get requests (seq - 1)) refl e
+asked_at requests None n request fact e = cc
+asked_at requests (Some seq) n request fact e = asked_op requests seq n request fact (slice_get requests (seq - 1)) refl e
 
 next_of : (o : Option ℕ) (n m : ℕ) → (o ≡ Some m) ⊎ (o ≡ None) → m ≡ n + 1 → IsNextOf o n
-next_of o n m (inl e) is = subst (λ x. IsNextOf x n) (sym e) is
-next_of o n m (inr e) is = subst (λ x. IsNextOf x n) (sym e) tt
+next_of o n m (inl e) fact = subst (λ x. IsNextOf x n) (sym e) fact
+next_of o n m (inr e) fact = subst (λ x. IsNextOf x n) (sym e) tt
 
 module _ (ahead : Ahead) (bases : List Base) where
   -- a reply is that of an entry of the log of one of the groups
@@ -195,9 +203,9 @@ module _ (ahead : Ahead) (bases : List Base) where
     client_sends =
         elim turn.sends [
           | inl none ↦ inl none
-          | inr (group, target, request, is, sends) ↦ (
+          | inr (group, target, request, fact, sends) ↦ (
               let now = client_after.0 in
-              let ask = asked_at after.requests after.waiting (length after.replies) request now.waits is in
+              let ask = asked_at after.requests after.waiting (length after.replies) request now.waits fact in
               inr (
                 group,
                 target,

@@ -1,18 +1,17 @@
 -- Promises and votes that are counted.
-use Rattle.std.proofs.Common.{◌≡◌, ℕ, ◌+◌, ◌-◌, ◌<◌, ◌≤◌, ◌&&◌, ◌||◌, not, nat_lt, Bool, true, eqb, List, [], ◌∷◌, ◌++◌, length, filter, Option, Some, None, ◌⊎◌, inl, inr, refl, sym, ◌∙◌, ap, subst, append-nil, append_assoc, arith}
+use Rattle.std.proofs.Common.{◌≡◌, ℕ, ◌+◌, ◌-◌, ◌<◌, ◌≤◌, ◌&&◌, not, nat_lt, Bool, true, eqb, List, [], ◌∷◌, ◌++◌, length, Option, Some, None, ◌⊎◌, inl, inr, refl, sym, ◌∙◌, ap, subst, append-nil, append_assoc, arith}
 use Rattle.std.specs.Prelude.{slice_get}
 use Rattle.std.specs.List.{flat_map}
-use Rattle.std.proofs.lemmas.Bool.{cases_Bool, eqb-true, eqb-false, ltb-true, ltb-false, and_parts, cond_both}
+use Rattle.std.proofs.lemmas.Bool.{cases_Bool, eqb-true, eqb-false, ltb-false, and_parts, cond_both}
 use Rattle.sc_node_table.specs.Values.{Ballot, Command, Base, Mail, MailBody, Counted, Chosen, NotYet, Flight, Report}
-use Rattle.sc_base.specs.Definitions.{same_ballot, is_member, with_member, is_majority, Among, Each}
-use Rattle.sc_words.specs.paxos.Definitions.{LeaderState, flight_at, without_flight_at, promise_counted, kept_voters, add_voter, voters_after, with_voters, vote_at, counted}
-use Rattle.sc_words.proofs.PaxosProofs.Lemmas.{Each-among, Each-weaker, Each-append, Each-filter, find_found}
-use Rattle.sc_paxos_law.specs.Definitions.{Prepared, Promised, Offered, Accepted, needed, members_of, CountedPromise}
-use Rattle.sc_paxos_law.proofs.Lemmas.{was_offered, one_offer}
+use Rattle.sc_base.specs.Definitions.{same_ballot, is_member, is_majority, Among, Each}
+use Rattle.sc_words.specs.paxos.Definitions.{LeaderState, flight_at, without_flight_at, promise_counted, kept_voters, voters_after, with_voters, vote_at, counted}
+use Rattle.sc_words.proofs.PaxosProofs.Lemmas.{Each-among, Each-weaker, Each-append, find_found}
+use Rattle.sc_paxos_law.specs.Definitions.{Prepared, Promised, Accepted, needed, members_of, CountedPromise}
 use Rattle.sc_node_table.specs.Definitions.{with_slot, ReplicaState, Place, Executed, next, set_at, has_room, leads, promise_row, readied, vote_tallied, voted, accepted_row}
 use Rattle.sc_meaning.specs.sound.Definitions.{Ahead}
 use Rattle.sc_law_groups.proofs.GroupProofs.Growth.{IsLearnt}
-use Rattle.sc_law_groups.proofs.GroupProofs.Invariant.{Steps, rule, first, IsFlying, IsTaken, IsReplica, next_after}
+use Rattle.sc_law_groups.proofs.GroupProofs.Invariant.{Steps, rule, IsFlying, IsTaken, IsReplica, next_after}
 use Rattle.sc_law_groups.proofs.GroupProofs.Speech.{Speaks}
 use Rattle.sc_law_groups.proofs.GroupProofs.Midway.{Fine, turn}
 use Rattle.sc_law_groups.proofs.GroupProofs.WithoutOne.{among_without_flight, Each-without_flight}
@@ -20,21 +19,11 @@ use Rattle.sc_law_groups.proofs.GroupProofs.ChosenEntries.{fine_executed}
 use Rattle.std.proofs.lemmas.List.{map-append}
 use Rattle.sc_law_groups.proofs.GroupProofs.Offering.{fine_pumped}
 use Rattle.sc_base.proofs.Lemmas.{ballot_is}
+use Rattle.sc_law_groups.proofs.GroupProofs.MajorityVotes.{same_value, accepted_by, learnt_here}
 
 reports_push : (votes : List (CountedPromise Command)) (vote : CountedPromise Command) → flat_map (λ (v : CountedPromise Command). v.reports) (votes ++ vote ∷ []) ≡ flat_map (λ (v : CountedPromise Command). v.reports) votes ++ vote.reports
 reports_push [] vote = append-nil vote.reports
 reports_push (v ∷ votes) vote = ap (λ rs. v.reports ++ rs) (reports_push votes vote) ∙ sym (append_assoc v.reports (flat_map (λ (x : CountedPromise Command). x.reports) votes) vote.reports)
-
--- ---- kept voters
-
-pub each_voter : (P : ℕ → Type 0) (node : ℕ) (o : Option (List ℕ)) → P node → Each P (kept_voters o) → Each P (kept_voters (add_voter node o))
-each_voter P node None p e = (p, tt)
-each_voter P node (Some voters) p e =
-    cond_both (is_member voters node || eqb (length voters) 9) (Some voters) (Some (with_member voters node)) (λ o. Each P (kept_voters o)) (λ _. e)
-    (λ _. Each-append P (filter (λ m. nat_lt m node) voters) (node ∷ filter (λ m. nat_lt node m) voters) (Each-filter P (λ m. nat_lt m node) voters e) (p, Each-filter P (λ m. nat_lt node m) voters e))
-
-pub each_after : (P : ℕ → Type 0) (members : List ℕ) (node : ℕ) (o : Option (List ℕ)) → P node → Each P (kept_voters o) → Each P (kept_voters (voters_after members node o))
-each_after P members node o p e = cond_both (is_member members node) (add_voter node o) o (λ x. Each P (kept_voters x)) (λ _. each_voter P node o p e) (λ _. e)
 
 each_with_voters : (P : Flight Command → Type 0) (slot : ℕ) (voters : Option (List ℕ)) (fs : List (Flight Command)) → Each P fs → ((f : Flight Command) → Among f fs → f.slot ≡ slot → P (record f { voters = voters }))
     → Each P (with_voters slot voters fs)
@@ -214,42 +203,12 @@ module _ (ahead : Ahead) (base : Base) (made : Command → Type 0) (heard : Mail
 
   module _ (from : ℕ) (slot : ℕ) (set : List ℕ) (r : ReplicaState) (mails : List Mail) (f : Ok (r, mails)) (runs : r.running ≡ true)
       (d : Command) (did : Among (Accepted from r.leader.ballot slot d) (f.newer ++ before))
-      (is : set ≡ members_of (rule ahead base) f.replica.whole slot) (known : needed (rule ahead base) slot ≤ length f.replica.whole) where
+      (fact : set ≡ members_of (rule ahead base) f.replica.whole slot) (known : needed (rule ahead base) slot ≤ length f.replica.whole) where
     abbrev h : Steps
     h = f.newer ++ before
 
     abbrev b : Ballot
     b = r.leader.ballot
-
-    -- what is in flight at the slot is what was accepted there
-    same_value : (g : Flight Command) → Among g r.leader.flights → g.slot ≡ slot → d ≡ g.value
-    same_value g a e =
-        let flies = Each-among _ r.leader.flights g f.replica.flights a in
-        one_offer (rule ahead base) (first ahead base) h b slot d g.value f.lawful (was_offered (rule ahead base) (first ahead base) h from b slot d f.lawful did)
-        (subst (λ n. Among (Offered b n g.value) h) e flies.0)
-
-    accepted_by : (flight : Flight Command) → Among flight r.leader.flights → flight.slot ≡ slot → Each (λ n. Among (Accepted n b slot d) h) (kept_voters (voters_after set from flight.voters))
-    accepted_by flight a e =
-        let flies = Each-among _ r.leader.flights flight f.replica.flights a in
-        each_after (λ n. Among (Accepted n b slot d) h) set from flight.voters did
-        (Each-weaker _ _ (λ n x. subst (λ v. Among (Accepted n b slot v) h) (sym (same_value flight a e)) (subst (λ m. Among (Accepted n b m flight.value) h) e x)) (kept_voters flight.voters) flies.1)
-
-    learnt_here : (flight : Flight Command) → Among flight r.leader.flights → flight.slot ≡ slot → is_majority set (kept_voters (voters_after set from flight.voters)) ≡ true → IsLearnt (rule ahead base) h slot flight.value
-    learnt_here flight a e most =
-        subst (IsLearnt (rule ahead base) h slot) (same_value flight a e)
-        (record {
-          log = f.replica.whole;
-          is_log = f.replica.log_is.is_log;
-          chosen = record {
-            known = known;
-            chosen = record {
-              ballot = b;
-              voters = kept_voters (voters_after set from flight.voters);
-              each = accepted_by flight a e;
-              majority = ltb-true _ _ (subst (λ ms. is_majority ms (kept_voters (voters_after set from flight.voters)) ≡ true) is most);
-            };
-          };
-        })
 
     voted_at : (o : Option (Flight Command)) → flight_at slot r.leader.flights ≡ o → Ok (vote_tallied slot (vote_at from slot set o r.leader) (r, mails)).0
     voted_at None e = f
@@ -258,11 +217,11 @@ module _ (ahead : Ahead) (base : Base) (made : Command → Type 0) (heard : Mail
         let at = eqb-true flight.slot slot there.1 in
         let voters = voters_after set from flight.voters in
         cond_both (is_majority set (kept_voters voters)) _ _ (λ (x : Counted Command × LeaderState Command). Ok (vote_tallied slot x (r, mails)).0)
-        (λ most. readied_place slot flight.value r mails f (learnt_here flight there.0 at most) runs)
+        (λ most. readied_place slot flight.value r mails f (learnt_here ahead base made me h f.lawful from slot set r f.replica d did fact known flight there.0 at most) runs)
         (λ _. turn ahead base made heard me older before r (record r { leader = record r.leader { flights = with_voters slot voters r.leader.flights } }) mails f
         (voters_replica h slot voters r f.replica (λ g a same. (
         let flies = Each-among _ r.leader.flights g f.replica.flights a in
-        (flies.0, Each-weaker _ _ (λ n x. subst (λ v. Among (Accepted n b g.slot v) h) (same_value g a same) (subst (λ m. Among (Accepted n b m d) h) (sym same) x)) (kept_voters voters) (accepted_by flight there.0 at))))))
+        (flies.0, Each-weaker _ _ (λ n x. subst (λ v. Among (Accepted n b g.slot v) h) (same_value ahead base made me h f.lawful from slot set r f.replica d did fact known g a same) (subst (λ m. Among (Accepted n b m d) h) (sym same) x)) (kept_voters voters) (accepted_by ahead base made me h f.lawful from slot set r f.replica d did fact known flight there.0 at))))))
 
     counted_place : Ok (vote_tallied slot (counted from b slot set r.leader) (r, mails)).0
     counted_place =
@@ -276,7 +235,7 @@ module _ (ahead : Ahead) (base : Base) (made : Command → Type 0) (heard : Mail
       count_at (Some flight) e =
           let there = find_found (λ (g : Flight Command). eqb g.slot slot) r.leader.flights flight e in
           let at = eqb-true flight.slot slot there.1 in
-          cond_both (is_majority set (kept_voters (voters_after set from flight.voters))) _ _ Q (λ most. chosen flight.value (learnt_here flight there.0 at most)) (λ _. other _ _)
+          cond_both (is_majority set (kept_voters (voters_after set from flight.voters))) _ _ Q (λ most. chosen flight.value (learnt_here ahead base made me h f.lawful from slot set r f.replica d did fact known flight there.0 at most)) (λ _. other _ _)
 
       pub count_is : Q (counted from b slot set r.leader)
       count_is = cond_both (same_ballot b r.leader.ballot) _ _ Q (λ _. count_at (flight_at slot r.leader.flights) refl) (λ _. other 0 r.leader)

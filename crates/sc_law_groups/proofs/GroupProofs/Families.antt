@@ -21,7 +21,7 @@ use Rattle.sc_law_groups.proofs.GroupProofs.Names.{IsNamedIn, named_later}
 use Rattle.sc_law_groups.proofs.GroupProofs.GroupNodes.{IsNode}
 use Rattle.sc_law_groups.proofs.GroupProofs.Projected.{log_only, only_steps}
 use Rattle.sc_law_groups.proofs.GroupProofs.FirstRows.{Journal, split_at}
-use Rattle.sc_law_groups.proofs.GroupProofs.Clients.{IsClient, Grew}
+use Rattle.sc_law_groups.proofs.GroupProofs.Clients.{IsClient, Grew, EachClient}
 
 -- the steps of a journal for each group
 abbrev pub h_of : Journal → Base → Steps
@@ -34,8 +34,8 @@ decided_is ahead base rows = ap (log_of (rule ahead base)) (sym (only_steps base
 -- what is chosen was offered
 pub chosen_offered : (ahead : Ahead) (base : Base) (h : Steps) → IsLawfulHistory (rule ahead base) (first ahead base) h → (log : List Command) (slot : ℕ) (c : Command) → IsChosenAfter (rule ahead base) h log slot c
     → (b : Ballot) × Among (Offered b slot c) h
-chosen_offered ahead base h l log slot c is =
-    let k = is.chosen in
+chosen_offered ahead base h l log slot c fact =
+    let k = fact.chosen in
     let voter = shared_member (members_of (rule ahead base) log slot) k.voters k.voters k.majority k.majority in
     (k.ballot, was_offered (rule ahead base) (first ahead base) h voter.0 k.ballot slot c l (Each-among _ k.voters voter.0 k.each voter.1))
 
@@ -56,13 +56,13 @@ module _ (ahead : Ahead) (scenario : Scenario) (firsts bases : List Base) (route
   pub record IsNodeAt (since rows : Journal) (n : ℕ) : Type 0 where
     pub node : NodeState
     pub value_is : value player_table (node_seat ahead firsts scenario.policy n) rows ≡ ANode node
-    pub is : IsNode ahead bases (made since) (h_of rows) n node
+    pub fact : IsNode ahead bases (made since) (h_of rows) n node
 
   -- a client of the journal as the steps say
   pub record IsClientAt (rows : Journal) (asks : Asks) : Type 0 where
     pub client : Client
     pub value_is : value player_table (client_seat route asks) rows ≡ AClient client
-    pub is : IsClient ahead bases (h_of rows) asks client
+    pub fact : IsClient ahead bases (h_of rows) asks client
     pub fresh : has_started rows (client_actor asks.client) ≡ false → (client.replies ≡ []) × (client.waiting ≡ None)
 
   -- a client's replies in a journal
@@ -84,7 +84,7 @@ module _ (ahead : Ahead) (scenario : Scenario) (firsts bases : List Base) (route
     pub named : (m : Mail) → Among m (mails rows) → IsNamedIn (heard rows) bases m.body
     -- nodes and clients are as the steps say
     pub nodes : (n : ℕ) → 1 ≤ n → n ≤ scenario.nodes → IsNodeAt rows rows n
-    pub clients : (asks : Asks) → Among asks scenario.clients → IsClientAt rows asks
+    pub clients : EachClient scenario (IsClientAt rows)
 
   -- ---- one more row
 
@@ -141,7 +141,7 @@ module _ (ahead : Ahead) (scenario : Scenario) (firsts bases : List Base) (route
           | inr new ↦ m.named x new
         ];
         nodes = λ n some most. (let at = m.nodes n some most in
-            record { node = at.node; value_is = at.value_is; is = node_made (made rows) (made next) later.made_later (h_of next) n at.node at.is });
+            record { node = at.node; value_is = at.value_is; fact = node_made (made rows) (made next) later.made_later (h_of next) n at.node at.fact });
         clients = λ asks stands. (m.clients asks stands).after;
       }
 

@@ -1,154 +1,27 @@
 -- What holds of a node with its replicas, and what comes of mail and orders.
-use Rattle.std.proofs.Common.{◌≡◌, ℕ, ◌||◌, not, nat_lt, true, false, cond, eqb, List, [], ◌∷◌, ◌++◌, length, Option, Some, None, is_some, inl, inr, refl, sym, ◌∙◌, ap, subst, append-nil}
+use Rattle.std.proofs.Common.{◌≡◌, ℕ, ◌||◌, not, nat_lt, true, false, cond, eqb, List, [], ◌∷◌, ◌++◌, length, Option, Some, None, is_some, inl, inr, refl, sym, ◌∙◌, ap, subst}
 use Rattle.std.proofs.lemmas.Bool.{cases_Bool, cond_both}
-use Rattle.sc_node_table.specs.Values.{Draw, Command, Base, OrderLine, Mail, MailBody, Request, Answer, Prepare, Promise, Accept, Accepted as AcceptedMail, Nack, Learn, Ask, Install, TxPrepare, TxVote, TxOutcome, TxElsewhere, TxWatch, TxWatched, Told, OrderResult, Refused, Event}
+use Rattle.sc_node_table.specs.Values.{Draw, Command, Base, OrderLine, Mail, MailBody, Install, OrderResult, Refused, Event}
 use Rattle.sc_base.specs.Definitions.{same_draw, Among, Each, Drawer, next_name}
 use Rattle.sc_words.specs.declared.commands.orders.OrderRefusal.TheVariants.{NotLeader}
 use Rattle.sc_words.proofs.PaxosProofs.Lemmas.{Each-among, Each-from, Each-weaker, find_found}
 use Rattle.sc_paxos_law.specs.Definitions.{IsLawfulHistory}
-use Rattle.sc_node_table.specs.Definitions.{NodeState, replica_of, with_replica, with_new, group_of_mail, absent, with_made, unknown, may_come, with_born, with_children, taken_by, routed, on_mail, group_of_order, ordered_of, on_order, ordered_command, ordered_row, names_after, untaken, slots_ahead, result_sent, ReplicaState, Place, name_of, born_replica, last_slot, prepare_row, made_by, mailed}
+use Rattle.sc_node_table.specs.Definitions.{NodeState, replica_of, with_replica, with_new, group_of_mail, absent, with_made, unknown, may_come, with_born, with_children, taken_by, routed, on_mail, group_of_order, ordered_of, on_order, ordered_command, ordered_row, names_after, untaken, slots_ahead, result_sent, ReplicaState, Place, name_of, born_replica, last_slot, made_by, mailed}
 use Rattle.sc_meaning.specs.sound.Definitions.{Ahead}
 use Rattle.sc_law_groups.specs.group.Definitions.{asked_in}
-use Rattle.sc_law_groups.proofs.GroupProofs.Growth.{By}
 use Rattle.sc_law_groups.proofs.GroupProofs.Invariant.{Steps, rule, first, IsReplica, IsTrue, OffersMade}
 use Rattle.sc_law_groups.proofs.GroupProofs.Speech.{AnyoneHears, Speaks}
-use Rattle.sc_law_groups.proofs.GroupProofs.Transacting.{fine_offer_row, fine_vote_row, fine_outcome_row, fine_elsewhere_row, fine_watch_row, fine_watched_row}
-use Rattle.sc_law_groups.proofs.GroupProofs.Midway.{Fine}
-use Rattle.sc_law_groups.proofs.GroupProofs.Installs.{fine_install_row, made_place, fine_ordered_row}
+use Rattle.sc_law_groups.proofs.GroupProofs.Installs.{made_place, fine_ordered_row}
 use Rattle.sc_law_groups.proofs.GroupProofs.Sending.{name_is}
-use Rattle.sc_law_groups.proofs.GroupProofs.Counting.{fine_promise_row, fine_accepted_row}
-use Rattle.sc_law_groups.proofs.GroupProofs.LearningRows.{fine_nack_row, fine_learn_row, fine_ask_row, fine_request_row}
 use Rattle.sc_law_groups.proofs.GroupProofs.Names.{quiet_steps, absent_replies, IsOneOf, IsNamedIn, own_named, absent_named, absent_true}
-use Rattle.sc_law_groups.proofs.GroupProofs.AcceptorRows.{ArePlain, promised_in, Ended, ended_by, prepare_ended, accept_ended}
+use Rattle.sc_law_groups.proofs.GroupProofs.AcceptorRows.{ArePlain, Ended, ended_by}
 use Rattle.sc_law_groups.proofs.GroupProofs.Frames.{steps_of, AreFar, own_far, far_true, far_all, far_steps}
-use Rattle.sc_law_groups.proofs.GroupProofs.Offspring.{IsChildOf, learnt_are, accepted_are}
+use Rattle.sc_law_groups.proofs.GroupProofs.Offspring.{IsChildOf}
 use Rattle.sc_law_groups.proofs.GroupProofs.Newborn.{born_replica_is}
 use Rattle.sc_law_groups.proofs.GroupProofs.Holding.{each_with, each_new, Holds, held, none_held, with_held, with_far, new_held, new_far}
 use Rattle.sc_base.proofs.Lemmas.{same_name, draw_is}
 use Rattle.sc_meaning.proofs.EntriesProofs.Lemmas.{names_differ}
-
--- ---- one group's replica
-
-module _ (ahead : Ahead) (base : Base) (made : Command → Type 0) (heard : MailBody → Type 0) (me : ℕ) (before : Steps) (speaks : Speaks ahead base made heard before)
-    (some : (log : List Command) → Each made log → (node : ℕ) × (rest : List ℕ) × ((rule ahead base).members log ≡ node ∷ rest))
-    (lawful : IsLawfulHistory (rule ahead base) (first ahead base) before)
-    (requested : OffersMade made before) where
-  abbrev group : Draw
-  group = base.core.id
-
-  -- the replica's part of a row begins, behind what the node's other replicas have sent
-  pub start : (older : List Mail) (r : ReplicaState) → IsReplica ahead base made before me r → Fine ahead base made heard me older before (r, older)
-  start older r k = record {
-    sent = [];
-    sent_is = sym (append-nil older);
-    newer = [];
-    are = refl;
-    by = tt;
-    lawful = lawful;
-    requested = requested;
-    replica = k;
-    mails = λ m a. absurd a;
-    own = λ m a. absurd a;
-  }
-
-  abbrev RowEnded : Event OrderLine → MailBody → Place → Type 0
-  RowEnded event body place = Ended ahead base made heard me before (steps_of group me event body place.1 before) place
-
-  by_fine : (event : Event OrderLine) (body : MailBody) (place : Place) → Fine ahead base made heard me [] before place → steps_of group me event body place.1 before ≡ asked_in group place.1 before → RowEnded event body place
-  by_fine event body place f e = ended_by ahead base made heard me before speaks some place _ f e
-
-  -- a mail comes for it
-  mailed_ended : (event : Event OrderLine) (mail : Mail) (body : MailBody) (r : ReplicaState) → IsReplica ahead base made before me r → (g : Draw) → group_of_mail body ≡ Some g → g ≡ group
-      → IsTrue ahead base made heard before mail body → RowEnded event body (mailed mail.from body (r, [])).0
-  unfolding mailed start
-  mailed_ended event mail (Request g client seq op) r k named into is t =
-      by_fine event (Request g client seq op) _ (fine_request_row ahead base made heard me [] before speaks some client seq op r [] (start [] r k) t) refl
-  mailed_ended event mail (Prepare g b start_slot) r k named into is t =
-      let same : g ≡ group = (let one : g ≡ named = cc in one ∙ is) in
-      let place = prepare_row mail.from b start_slot (r, []) in
-      subst (λ (x : Steps). Ended ahead base made heard me before (x ++ asked_in group place.1 before) place) (sym (append-nil (promised_in group me b start_slot place.1)))
-      (prepare_ended ahead base made heard me before speaks some mail.from b start_slot r (start [] r k) (t (same_name g group same)))
-  mailed_ended event mail (Promise g b reports) r k named into is t =
-      let same : g ≡ group = (let one : g ≡ named = cc in one ∙ is) in
-      let told = t (same_name g group same) in
-      by_fine event (Promise g b reports) _ (fine_promise_row ahead base made heard me [] before speaks some mail.from b reports told.0 r [] (start [] r k) told.1 told.2) refl
-  mailed_ended event mail (Accept g b slot c) r k named into is t =
-      let same : g ≡ group = (let one : g ≡ named = cc in one ∙ is) in
-      subst (λ d. RowEnded event (Accept d b slot c) (mailed mail.from (Accept g b slot c) (r, [])).0) (sym same)
-      (accept_ended ahead base made heard me before speaks some mail.from b slot c r (start [] r k) (t (same_name g group same)))
-  mailed_ended event mail (AcceptedMail g b slot) r k named into is t =
-      let same : g ≡ group = (let one : g ≡ named = cc in one ∙ is) in
-      let told = t (same_name g group same) in
-      by_fine event (AcceptedMail g b slot) _ (fine_accepted_row ahead base made heard me [] before speaks some mail.from b slot told.0 r [] (start [] r k) told.1) refl
-  mailed_ended event mail (Nack g promised) r k named into is t = by_fine event (Nack g promised) _ (fine_nack_row ahead base made heard me [] before speaks some promised r [] (start [] r k)) refl
-  mailed_ended event mail (Learn g slot c) r k named into is t =
-      let same : g ≡ group = (let one : g ≡ named = cc in one ∙ is) in
-      by_fine event (Learn g slot c) _ (fine_learn_row ahead base made heard me [] before speaks some mail.from slot c r [] (start [] r k) (t (same_name g group same))) refl
-  mailed_ended event mail (Ask g start_slot) r k named into is t = by_fine event (Ask g start_slot) _ (fine_ask_row ahead base made heard me [] before speaks some mail.from start_slot r [] (start [] r k)) refl
-  mailed_ended event mail (Install g slot state sets) r k named into is t =
-      let same : g ≡ group = (let one : g ≡ named = cc in one ∙ is) in
-      by_fine event (Install g slot state sets) _ (fine_install_row ahead base made heard me [] before speaks some mail.from slot state sets r [] (start [] r k) (t (same_name g group same))) refl
-  mailed_ended event mail (Answer g seq answer) r k named into is t = cc
-  mailed_ended event mail (Told number result) r k named into is t = cc
-  mailed_ended event mail (TxPrepare tx offer) r k named into is t =
-      let same : offer.part ≡ group = (let one : offer.part ≡ named = cc in one ∙ is) in
-      by_fine event (TxPrepare tx offer) _ (fine_offer_row ahead base made heard me [] before speaks some mail.from tx offer r [] (start [] r k) t same) refl
-  mailed_ended event mail (TxVote tx coord part vote) r k named into is t =
-      let same : coord ≡ group = (let one : coord ≡ named = cc in one ∙ is) in
-      by_fine event (TxVote tx coord part vote) _ (fine_vote_row ahead base made heard me [] before speaks some mail.from tx coord part vote r [] (start [] r k) t same) refl
-  mailed_ended event mail (TxOutcome tx part outcome) r k named into is t =
-      let same : part ≡ group = (let one : part ≡ named = cc in one ∙ is) in
-      by_fine event (TxOutcome tx part outcome) _ (fine_outcome_row ahead base made heard me [] before speaks some tx part outcome r [] (start [] r k) t same) refl
-  mailed_ended event mail (TxElsewhere tx coord hint) r k named into is t =
-      let same : coord ≡ group = (let one : coord ≡ named = cc in one ∙ is) in
-      by_fine event (TxElsewhere tx coord hint) _ (fine_elsewhere_row ahead base made heard me [] before speaks some mail.from tx coord hint r [] (start [] r k) t same) refl
-  mailed_ended event mail (TxWatch tx watch) r k named into is t =
-      let same : watch.part ≡ group = (let one : watch.part ≡ named = cc in one ∙ is) in
-      by_fine event (TxWatch tx watch) _ (fine_watch_row ahead base made heard me [] before speaks some mail.from tx watch r [] (start [] r k) t same) refl
-  mailed_ended event mail (TxWatched tx coord part vote) r k named into is t =
-      let same : coord ≡ group = (let one : coord ≡ named = cc in one ∙ is) in
-      by_fine event (TxWatched tx coord part vote) _ (fine_watched_row ahead base made heard me [] before speaks some mail.from tx coord part vote r [] (start [] r k) t same) refl
-
-  -- the children that a mail makes are those of prefixes of the log
-  mailed_kids : (mail : Mail) (body : MailBody) (r : ReplicaState) → IsReplica ahead base made before me r → (g : Draw) → group_of_mail body ≡ Some g → g ≡ group
-      → IsTrue ahead base made heard before mail body → Each (IsChildOf ahead base made me before) (mailed mail.from body (r, [])).1
-  unfolding mailed start
-  mailed_kids mail (AcceptedMail g b slot) r k named into is t =
-      let same : g ≡ group = (let one : g ≡ named = cc in one ∙ is) in
-      let told = t (same_name g group same) in
-      accepted_are ahead base made heard me before speaks some mail.from b slot told.0 r [] (start [] r k) told.1
-  mailed_kids mail (Learn g slot c) r k named into is t =
-      let same : g ≡ group = (let one : g ≡ named = cc in one ∙ is) in
-      learnt_are ahead base made heard me before speaks some mail.from slot c r [] (start [] r k) (t (same_name g group same))
-  mailed_kids mail _ r k named into is t = tt
-
-  -- the end of a row of a node, as the group sees it
-  pub record PartEnded (after : Steps) (step : NodeState × List Mail) : Type 0 where
-    pub newer : Steps
-    pub are : after ≡ newer ++ before
-    pub by : Each (By me) newer
-    pub lawful_is : IsLawfulHistory (rule ahead base) (first ahead base) (newer ++ before)
-    pub requested_is : OffersMade made (newer ++ before)
-    pub holds : Holds ahead base made me (newer ++ before) step.0.replicas
-    pub mails : (mail : Mail) → Among mail step.1 → IsTrue ahead base made heard (newer ++ before) mail mail.body
-
-  -- the group takes no step
-  no_part : (after : Steps) (step : NodeState × List Mail) → after ≡ before → Holds ahead base made me before step.0.replicas → ((mail : Mail) → Among mail step.1 → IsTrue ahead base made heard before mail mail.body) → PartEnded after step
-  no_part after step same holds true_mails = record { newer = []; are = same; by = tt; lawful_is = lawful; requested_is = requested; holds = holds; mails = true_mails }
-
-  -- its replica's row ends
-  own_part : (after : Steps) (place : Place) (step : NodeState × List Mail) → step.1 ≡ place.1 → (e : Ended ahead base made heard me before after place) → Holds ahead base made me (e.newer ++ before) step.0.replicas → PartEnded after step
-  own_part after place step same e holds = record {
-    newer = e.newer;
-    are = e.are;
-    by = e.by;
-    lawful_is = e.lawful;
-    requested_is = e.requested;
-    holds = holds;
-    mails = λ m a. e.mails m (subst (Among m) same a);
-  }
-
--- ---- a node
+use Rattle.sc_law_groups.proofs.GroupProofs.PartsOfNodes.{start, by_fine, mailed_ended, mailed_kids, PartEnded, no_part, own_part}
 
 module _ (ahead : Ahead) (bases : List Base) (made : Base → Command → Type 0) where
   -- a node as the steps of all groups say
@@ -216,8 +89,8 @@ module _ (ahead : Ahead) (bases : List Base) (made : Base → Command → Type 0
         let there = find_found (λ (s : ReplicaState). same_draw (name_of s) g) node.replicas r found in
         let named : name_of r ≡ g = draw_is (name_of r) g there.1 in
         let mine = Each-among (λ s. IsOneOf bases (name_of s)) node.replicas r k.known there.0 in
-        let is : g ≡ mine.0.core.id = sym named ∙ mine.2 in
-        let e = ends mine.0 mine.1 is (held ahead mine.0 (made mine.0) me (h mine.0) node.replicas (k.holds mine.0 mine.1) r there.0 mine.2) in
+        let fact : g ≡ mine.0.core.id = sym named ∙ mine.2 in
+        let e = ends mine.0 mine.1 fact (held ahead mine.0 (made mine.0) me (h mine.0) node.replicas (k.holds mine.0 mine.1) r there.0 mine.2) in
         let new_name = ended_name mine.0 mine.1 (h mine.0) (after mine.0) place e in
         let step : NodeState × List Mail = (record node { replicas = with_replica g place.0 node.replicas }, place.1) in
         record {
@@ -231,10 +104,10 @@ module _ (ahead : Ahead) (bases : List Base) (made : Base → Command → Type 0
                 own_part ahead base (made base) heard me (h base) (speaks base a) (some base a) (lawful base a) (requested base a) (after base) place step refl ended
                 (with_held ahead base (made base) me (h base) (ended.newer ++ h base) g same place.0 (ended_name base a (h base) (after base) place ended) ended.replica node.replicas r (k.holds base a) found))
             | inr f ↦ (
-                let apart_from : same_draw mine.0.core.id base.core.id ≡ false = ap (λ d. same_draw d base.core.id) (sym is) ∙ f in
+                let apart_from : same_draw mine.0.core.id base.core.id ≡ false = ap (λ d. same_draw d base.core.id) (sym fact) ∙ f in
                 let sent = far_sent mine.0 mine.1 (h mine.0) (after mine.0) place e base.core.id apart_from in
                 no_part ahead base (made base) heard me (h base) (speaks base a) (some base a) (lawful base a) (requested base a) (after base) step (far base a f sent)
-                (with_far ahead base (made base) me (h base) g f place.0 (λ same. names_differ g base.core.id f (is ∙ sym new_name ∙ same)) node.replicas (k.holds base a))
+                (with_far ahead base (made base) me (h base) g f place.0 (λ same. names_differ g base.core.id f (fact ∙ sym new_name ∙ same)) node.replicas (k.holds base a))
                 (λ m b. far_true ahead base (made base) heard (h base) m m.body (Each-among _ place.1 m sent b)))
           ];
         }
@@ -260,10 +133,10 @@ module _ (ahead : Ahead) (bases : List Base) (made : Base → Command → Type 0
           | inl t ↦ (
               let same = draw_is child.core.id base.core.id t in
               let free = none_held ahead base (made base) me steps child.core.id same node.replicas p.holds none in
-              let is = born_replica_is ahead base (made base) steps me free.1 in
+              let fact = born_replica_is ahead base (made base) steps me free.1 in
               let it : born_replica ahead.slots me base ≡ born_replica slots_ahead node.me child =
               ap (λ n. born_replica n me base) new.open_slots ∙ ap (λ n. born_replica slots_ahead n base) (sym mine) ∙ ap (born_replica slots_ahead node.me) (new.alone base a (sym same)) in
-              new_held ahead base (made base) me steps (born_replica slots_ahead node.me child) same (subst (IsReplica ahead base (made base) steps me) it is) node.replicas free.0)
+              new_held ahead base (made base) me steps (born_replica slots_ahead node.me child) same (subst (IsReplica ahead base (made base) steps me) it fact) node.replicas free.0)
           | inr f ↦ new_far ahead base (made base) me steps (born_replica slots_ahead node.me child) (λ same. (let no_way : true ≡ false = sym (same_name child.core.id base.core.id same) ∙ f in absurd (cc))) node.replicas p.holds
         ] in
         record { newer = p.newer; are = p.are; by = p.by; lawful_is = p.lawful_is; requested_is = p.requested_is; holds = holds; mails = p.mails }
@@ -318,10 +191,10 @@ module _ (ahead : Ahead) (bases : List Base) (made : Base → Command → Type 0
         let place = made_by node.me mail.from g slot state sets in
         let body = Install g slot state sets in
         let step : NodeState × List Mail = (record node { replicas = with_new place.0 node.replicas }, place.1) in
-        let ends = λ (base : Base) (a : Among base bases) (is : g ≡ base.core.id). (
-        let fresh = none_held ahead base (made base) me (h base) g is node.replicas (k.holds base a) none in
+        let ends = λ (base : Base) (a : Among base bases) (fact : g ≡ base.core.id). (
+        let fresh = none_held ahead base (made base) me (h base) g fact node.replicas (k.holds base a) none in
         by_fine ahead base (made base) heard me (h base) (speaks base a) (some base a) (lawful base a) (requested base a) event body place
-        (made_place ahead base (made base) heard me [] (h base) (speaks base a) (some base a) refl node.me mail.from g slot state sets k.me_is is fresh.1 (lawful base a) (requested base a) (t base a (same_name g base.core.id is))) refl) in
+        (made_place ahead base (made base) heard me [] (h base) (speaks base a) (some base a) refl node.me mail.from g slot state sets k.me_is fact fresh.1 (lawful base a) (requested base a) (t base a (same_name g base.core.id fact))) refl) in
         let e = ends one.0 one.1 one.2 in
         let new_name = ended_name one.0 one.1 (h one.0) _ place e in
         record {
@@ -360,10 +233,10 @@ module _ (ahead : Ahead) (bases : List Base) (made : Base → Command → Type 0
         let there = find_found (λ (s : ReplicaState). same_draw (name_of s) g) node.replicas r found in
         let named : name_of r ≡ g = draw_is (name_of r) g there.1 in
         let mine = Each-among (λ s. IsOneOf bases (name_of s)) node.replicas r k.known there.0 in
-        let (base, a, is) = mine in
-        let was = held ahead base (made base) me (h base) node.replicas (k.holds base a) r there.0 is in
+        let (base, a, fact) = mine in
+        let was = held ahead base (made base) me (h base) node.replicas (k.holds base a) r there.0 fact in
         Each-weaker _ _ (offspring base a) (mailed mail.from body (r, [])).1
-        (mailed_kids ahead base (made base) heard me (h base) (speaks base a) (some base a) (lawful base a) (requested base a) mail body r was g into (sym named ∙ is) (t base a))
+        (mailed_kids ahead base (made base) heard me (h base) (speaks base a) (some base a) (lawful base a) (requested base a) mail body r was g into (sym named ∙ fact) (t base a))
 
     taken_ended : (event : Event OrderLine) (mail : Mail) (body : MailBody) (g : Draw) → HasOffspring → group_of_mail body ≡ Some g → (node : NodeState) → IsNode h me node → IsNamedIn heard bases body → IsTrueOfAll mail body
         → (o : Option ReplicaState) → replica_of g node.replicas ≡ o → Goal event body (taken_by o g mail.from body node)
@@ -372,7 +245,7 @@ module _ (ahead : Ahead) (bases : List Base) (made : Base → Command → Type 0
         let place = (mailed mail.from body (r, [])).0 in
         born_all (λ base. steps_of base.core.id me event body place.1 (h base)) (mailed mail.from body (r, [])).1 _ place.1 (new_kids mail body g offspring into node k t r e)
         (one_row g r node k e place (λ base. steps_of base.core.id me event body place.1 (h base))
-        (λ base a is was. mailed_ended ahead base (made base) heard me (h base) (speaks base a) (some base a) (lawful base a) (requested base a) event mail body r was g into is (t base a))
+        (λ base a fact was. mailed_ended ahead base (made base) heard me (h base) (speaks base a) (some base a) (lawful base a) (requested base a) event mail body r was g into fact (t base a))
         (λ base a f sent. far_steps heard base.core.id me event g f body into place.1 (h base) sent))
 
     routed_ended : (event : Event OrderLine) (mail : Mail) (body : MailBody) → HasOffspring → (o : Option Draw) → group_of_mail body ≡ o → (node : NodeState) → IsNode h me node → IsNamedIn heard bases body → IsTrueOfAll mail body
@@ -411,8 +284,8 @@ module _ (ahead : Ahead) (bases : List Base) (made : Base → Command → Type 0
         let place = ordered_row node.draws line (r, []) in
         redrawn (λ base. asked_in base.core.id place.1 (h base)) (record node { replicas = with_replica (group_of_order line.order) place.0 node.replicas }) (names_after node.draws line r) place.1
         (one_row (group_of_order line.order) r node k e place (λ base. asked_in base.core.id place.1 (h base))
-        (λ base a is was. ended_by ahead base (made base) heard me (h base) (speaks base a) (some base a) place _
-        (fine_ordered_row ahead base (made base) heard me [] (h base) (speaks base a) (some base a) node.draws line r (may base a is r e) []
+        (λ base a fact was. ended_by ahead base (made base) heard me (h base) (speaks base a) (some base a) place _
+        (fine_ordered_row ahead base (made base) heard me [] (h base) (speaks base a) (some base a) node.draws line r (may base a fact r e) []
         (start ahead base (made base) heard me (h base) (speaks base a) (some base a) (lawful base a) (requested base a) [] r was)) refl)
         (λ base a f sent. far_all heard base.core.id place.1 (h base) sent))
 

@@ -52,33 +52,33 @@ module _ (ahead : Ahead) (base : Base) (made : Command → Type 0) (me : ℕ) wh
   -- the replica with the group's name is as the steps say
   pub held : (h : Steps) (rs : List ReplicaState) → Holds h rs → (r : ReplicaState) → Among r rs → name_of r ≡ name → IsReplica ahead base made h me r
   held h [] fresh r a e = absurd a
-  held h (s ∷ rs) (inl (is, k, none)) r (inl same) e = subst (IsReplica ahead base made h me) same k
-  held h (s ∷ rs) (inl (is, k, none)) r (inr a) e = absurd (Each-among (IsOther name) rs r none a e)
+  held h (s ∷ rs) (inl (fact, k, none)) r (inl same) e = subst (IsReplica ahead base made h me) same k
+  held h (s ∷ rs) (inl (fact, k, none)) r (inr a) e = absurd (Each-among (IsOther name) rs r none a e)
   held h (s ∷ rs) (inr (o, holds)) r (inl same) e = absurd (o (ap (λ (x : ReplicaState). name_of x) same ∙ e))
   held h (s ∷ rs) (inr (o, holds)) r (inr a) e = held h rs holds r a e
 
   -- where none is found, the node has taken no step
   pub none_held : (h : Steps) (g : Draw) → g ≡ name → (rs : List ReplicaState) → Holds h rs → replica_of g rs ≡ None → Each (IsOther name) rs × IsFresh me h
-  none_held h g is [] fresh e = (tt, fresh)
-  none_held h g is (r ∷ rs) (inl (named, k, none)) e =
-      let found : replica_of g (r ∷ rs) ≡ Some r = cond-true (same_draw (name_of r) g) (Some r) (replica_of g rs) (same_name (name_of r) g (named ∙ sym is)) in
+  none_held h g fact [] fresh e = (tt, fresh)
+  none_held h g fact (r ∷ rs) (inl (named, k, none)) e =
+      let found : replica_of g (r ∷ rs) ≡ Some r = cond-true (same_draw (name_of r) g) (Some r) (replica_of g rs) (same_name (name_of r) g (named ∙ sym fact)) in
       let no_way : Some r ≡ None = sym found ∙ e in
       absurd (cc)
-  none_held h g is (r ∷ rs) (inr (o, holds)) e =
-      let out = other_false g r (λ same. o (same ∙ is)) in
-      let later = none_held h g is rs holds (sym (cond-false (same_draw (name_of r) g) (Some r) (replica_of g rs) out) ∙ e) in
+  none_held h g fact (r ∷ rs) (inr (o, holds)) e =
+      let out = other_false g r (λ same. o (same ∙ fact)) in
+      let later = none_held h g fact rs holds (sym (cond-false (same_draw (name_of r) g) (Some r) (replica_of g rs) out) ∙ e) in
       ((o, later.0), later.1)
 
   -- its replica takes another value
   pub with_held : (h after : Steps) (g : Draw) → g ≡ name → (new : ReplicaState) → name_of new ≡ name → IsReplica ahead base made after me new
       → (rs : List ReplicaState) (r : ReplicaState) → Holds h rs → replica_of g rs ≡ Some r → Holds after (with_replica g new rs)
-  with_held h after g is new named k [] r fresh e = cc
-  with_held h after g is new named k (s ∷ rs) r (inl (mine, was, none)) e =
-      subst (Holds after) (sym (cond-true (same_draw (name_of s) g) (new ∷ rs) (s ∷ with_replica g new rs) (same_name (name_of s) g (mine ∙ sym is)))) (inl (named, k, none))
-  with_held h after g is new named k (s ∷ rs) r (inr (o, holds)) e =
-      let out = other_false g s (λ same. o (same ∙ is)) in
+  with_held h after g fact new named k [] r fresh e = cc
+  with_held h after g fact new named k (s ∷ rs) r (inl (mine, was, none)) e =
+      subst (Holds after) (sym (cond-true (same_draw (name_of s) g) (new ∷ rs) (s ∷ with_replica g new rs) (same_name (name_of s) g (mine ∙ sym fact)))) (inl (named, k, none))
+  with_held h after g fact new named k (s ∷ rs) r (inr (o, holds)) e =
+      let out = other_false g s (λ same. o (same ∙ fact)) in
       subst (Holds after) (sym (cond-false (same_draw (name_of s) g) (new ∷ rs) (s ∷ with_replica g new rs) out))
-      (inr (o, with_held h after g is new named k rs r holds (sym (cond-false (same_draw (name_of s) g) (Some s) (replica_of g rs) out) ∙ e)))
+      (inr (o, with_held h after g fact new named k rs r holds (sym (cond-false (same_draw (name_of s) g) (Some s) (replica_of g rs) out) ∙ e)))
 
   -- a replica of another group takes another value
   pub with_far : (h : Steps) (g : Draw) → same_draw g name ≡ false → (new : ReplicaState) → IsOther name new → (rs : List ReplicaState) → Holds h rs → Holds h (with_replica g new rs)

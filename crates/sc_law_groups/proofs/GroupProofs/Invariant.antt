@@ -78,14 +78,14 @@ module _ (ahead : Ahead) (base : Base) where
   -- one entry more
   pub pushed_has : (made : Command → Type 0) (h : Steps) (whole : List Command) (log : LogState Command) (group : Group) (c : Command) → HasLog made h whole log group → made c → IsLog rule h (whole ++ c ∷ [])
       → HasLog made h (whole ++ c ∷ []) (record log { entries = log.entries ++ c ∷ [] }) (applied group c).0
-  pushed_has made h whole log group c k m is =
+  pushed_has made h whole log group c k m fact =
       let low = k.low in
       let longer = length_push whole c in
       record {
         low = omega (arith, low, longer);
         entries_are = ap (λ es. es ++ c ∷ []) k.entries_are ∙ sym (drop-append-le log.base whole (c ∷ []) low);
         group_is = ap (λ g. (applied g c).0) k.group_is ∙ sym (state_push birth whole c);
-        is_log = is;
+        is_log = fact;
         all_made = Each-append made whole (c ∷ []) k.all_made (m, tt);
       }
 

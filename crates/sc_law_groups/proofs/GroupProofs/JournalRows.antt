@@ -1,23 +1,21 @@
 -- What each row of a lawful journal does to what holds, whatever may be queued and said of transactions: the rows of nodes, of clients and of the network.
 use Rattle.std.proofs.Common.{◌≡◌, ℕ, ◌≤◌, ◌&&◌, Bool, true, false, eqb, List, [], ◌∷◌, ◌++◌, map, Some, None, inl, inr, refl, sym, ◌∙◌, ap, subst, arith}
 use Rattle.std.specs.Option.{option_map}
-use Rattle.std.specs.List.{list_any}
-use Rattle.std.proofs.lemmas.Bool.{cases_Bool, eqb-true, eqb-false, eq-eqb, ne_eqb, and_from, or_left, cond-true, cond-false}
-use Rattle.sc_node_table.specs.Values.{Draw, Op, Command, Call, Base, OrderLine, Mail, MailBody, Row, Event, Deliver, Tick, Go, Crash, Drop, Again, Input, Got, Seat, Ballot, Route, Node as ANode, Client as AClient}
+use Rattle.std.proofs.lemmas.Bool.{cases_Bool, eqb-true, eqb-false, eq-eqb, ne_eqb}
+use Rattle.sc_node_table.specs.Values.{Command, Base, OrderLine, Mail, MailBody, Row, Event, Deliver, Tick, Go, Crash, Drop, Again, Input, Got, Seat, Ballot, Route, Node as ANode, Client as AClient}
 use Rattle.sc_actor.specs.declared.rows.Event.TheVariants.{Told}
 use Rattle.sc_actor.specs.declared.rows.Input.TheVariants.{Tick as TickInput, Go as GoInput, Told as ToldInput}
-use Rattle.sc_actor.specs.Definitions.{mails, value, acted, input_of, row_of, network, has_started, is_go, IsOpen, ActorStep, IsStep}
-use Rattle.sc_actor.proofs.Lemmas.{value-snoc}
-use Rattle.sc_client_table.specs.table.Definitions.{Client, table, request_of, InTurn}
+use Rattle.sc_actor.specs.Definitions.{mails, value, acted, input_of, row_of, network, is_go, IsOpen, ActorStep, IsStep}
+use Rattle.sc_client_table.specs.table.Definitions.{Client, table, InTurn}
 use Rattle.sc_client_table.proofs.TableProofs.TurnLemmas.{sends_in_turn}
 use Rattle.sc_node_table.specs.Definitions.{NodeState, group_of_order, replica_of, on_mail, on_tick, on_order, ReplicaState, ordered_command, untaken, numbers_from}
-use Rattle.sc_base.specs.Definitions.{next_name, Among, Each, client_actor, most_nodes}
+use Rattle.sc_base.specs.Definitions.{next_name, Among, client_actor}
 use Rattle.sc_words.proofs.PaxosProofs.Lemmas.{Each-among, find_found}
 use Rattle.sc_paxos_law.proofs.Lemmas.{Among-either, from_map}
 use Rattle.sc_paxos_law.specs.Definitions.{Offered, IsLawfulHistory}
 use Rattle.sc_scenario.specs.declared.scenario.scenarios.Asks.{Asks}
 use Rattle.sc_scenario.specs.declared.scenario.scenarios.Scenario.{Scenario}
-use Rattle.sc_meaning.specs.sound.Definitions.{Ahead, node_seat, births, system_of, player_table, client_seat, Player, replies_of, issues, asks_for}
+use Rattle.sc_meaning.specs.sound.Definitions.{Ahead, node_seat, births, system_of, player_table, client_seat, Player, replies_of}
 use Rattle.sc_meaning.proofs.SoundProofs.Lemmas.{any_push}
 use Rattle.sc_law_groups.specs.group.Definitions.{steps_at}
 use Rattle.sc_law_groups.proofs.GroupProofs.Invariant.{Steps, rule, first, IsTrue, grown_true}
@@ -28,21 +26,12 @@ use Rattle.sc_law_groups.proofs.GroupProofs.Names.{IsNamedIn, named_later}
 use Rattle.sc_law_groups.proofs.GroupProofs.Offspring.{IsChildOf}
 use Rattle.sc_law_groups.proofs.GroupProofs.GroupNodes.{IsNewborn, NodeEnded, unchanged, ends_as, mail_ended, order_ended}
 use Rattle.sc_law_groups.proofs.GroupProofs.Ticks.{MayTick, tick_ended}
-use Rattle.sc_law_groups.proofs.GroupProofs.AcceptorRows.{ArePlain}
 use Rattle.sc_law_groups.proofs.GroupProofs.Projected.{steps-push}
 use Rattle.sc_law_groups.proofs.GroupProofs.FirstRows.{Journal}
-use Rattle.sc_law_groups.proofs.GroupProofs.Clients.{IsIssued, issued_now, SendsAsked, HaveGrown, IsClient, Grew, later_client, client_after, client_sends}
+use Rattle.sc_law_groups.proofs.GroupProofs.Clients.{EachClient, issued_now, SendsAsked, HaveGrown, IsClient, Grew, later_client, client_after, client_sends}
 use Rattle.sc_law_groups.proofs.GroupProofs.Families.{h_of, IsNodeAt, IsClientAt, replies_in, Kept, Stepped, IsLater, PartMoved, ClientMoved, Moved}
 use Rattle.sc_law_groups.proofs.GroupProofs.Speech.{AnyoneHears, Speaks}
-
--- what a family of groups rests on: how the players begin, whatever the rows; what clients issue may be queued, and each group has members
-pub record HasPlayers (ahead : Ahead) (scenario : Scenario) (firsts bases : List Base) (route : Route) (made : Journal → Base → Command → Type 0) : Type 0 where
-  pub seats : births ahead scenario ≡ map (node_seat ahead firsts scenario.policy) (numbers_from 1 scenario.nodes) ++ map (client_seat route) scenario.clients
-  pub nodes : scenario.nodes ≤ most_nodes
-  pub numbered : Each (λ asks. 1 ≤ asks.client) scenario.clients
-  pub once : (one other : Asks) → Among one scenario.clients → Among other scenario.clients → one.client ≡ other.client → one ≡ other
-  pub issued : (rows : Journal) (b : Base) (client seq : ℕ) (op : Op) → IsIssued scenario rows client seq op → made rows b (Call client seq op)
-  pub some : (rows : Journal) (b : Base) → Among b bases → (log : List Command) → Each (made rows b) log → (node : ℕ) × (rest : List ℕ) × ((rule ahead b).members log ≡ node ∷ rest)
+use Rattle.sc_law_groups.proofs.GroupProofs.JournalPlayers.{HasPlayers, other_value, own_value, still_gone, sends_plain, issues_it}
 
 module _ (ahead : Ahead) (words : ℕ → ℕ → ℕ × ℕ) (scenario : Scenario) (firsts bases : List Base) (route : Route) (made_by : Journal → Base → Command → Type 0) (heard_by : Journal → MailBody → Type 0)
     (has : HasPlayers ahead scenario firsts bases route made_by) where
@@ -59,32 +48,22 @@ module _ (ahead : Ahead) (words : ℕ → ℕ → ℕ × ℕ) (scenario : Scenar
   M = Moved ahead scenario firsts bases route made_by heard_by
 
   -- what an order asks for may be queued at its group, if a node gets one and takes it, and what policies order at a tick
-  abbrev pub MayTell : Journal → ℕ → Event OrderLine → Type 0
-  MayTell rows n (Told line) =
+  abbrev pub MayGiveOrder : Journal → ℕ → Event OrderLine → Type 0
+  MayGiveOrder rows n (Told line) =
       1 ≤ n → n ≤ scenario.nodes → (node : NodeState) → value player_table (nseat n) rows ≡ ANode node → (b : Base) → Among b bases → group_of_order line.order ≡ b.core.id
       → (r : ReplicaState) → replica_of (group_of_order line.order) node.replicas ≡ Some r → untaken node.draws line r ≡ None → made_by rows b (ordered_command (next_name node.draws) line.number line.order)
-  MayTell rows n (Deliver number) = Unit {0}
-  MayTell rows n Go = Unit {0}
-  MayTell rows n Tick = 1 ≤ n → n ≤ scenario.nodes → (node : NodeState) → value player_table (nseat n) rows ≡ ANode node → MayTick bases (made_by rows) node.policy node.draws node.replicas
-  MayTell rows n Crash = Unit {0}
-  MayTell rows n (Drop number) = Unit {0}
-  MayTell rows n (Again number) = Unit {0}
+  MayGiveOrder rows n (Deliver number) = Unit {0}
+  MayGiveOrder rows n Go = Unit {0}
+  MayGiveOrder rows n Tick = 1 ≤ n → n ≤ scenario.nodes → (node : NodeState) → value player_table (nseat n) rows ≡ ANode node → MayTick bases (made_by rows) node.policy node.draws node.replicas
+  MayGiveOrder rows n Crash = Unit {0}
+  MayGiveOrder rows n (Drop number) = Unit {0}
+  MayGiveOrder rows n (Again number) = Unit {0}
 
   -- each child of a group is one of the groups
   abbrev pub KnowsOffspring : Journal → Type 0
   KnowsOffspring rows = (n : ℕ) (b : Base) → Among b bases → (child : Base) → IsChildOf ahead b (made_by rows b) n (h_of rows b) child → IsNewborn ahead bases (made_by rows) child
 
   -- ---- players that do not act
-
-  other_value : (seat : Seat Player) (rows : Journal) (row : Row Mail OrderLine) → eqb row.who seat.who ≡ false → value player_table seat (rows ++ row ∷ []) ≡ value player_table seat rows
-  other_value seat rows row f = value-snoc player_table seat rows row ∙ cond-false (eqb row.who seat.who) _ _ f
-
-  own_value : (seat : Seat Player) (rows : Journal) (row : Row Mail OrderLine) → row.who ≡ seat.who
-      → value player_table seat (rows ++ row ∷ []) ≡ (acted player_table (value player_table seat rows) (input_of (mails rows) row.event)).0
-  own_value seat rows row e = value-snoc player_table seat rows row ∙ cond-true (eqb row.who seat.who) _ _ (eq-eqb row.who seat.who e)
-
-  still_gone : (rows : Journal) (row : Row Mail OrderLine) (who : ℕ) → has_started (rows ++ row ∷ []) who ≡ false → has_started rows who ≡ false
-  still_gone rows row who e = (any_push (λ r. eqb r.who who && is_go r.event) rows row e).0
 
   client_still : (rows : Journal) (row : Row Mail OrderLine) → HaveGrown ahead bases (h_of rows) (h_of (rows ++ row ∷ [])) → (asks : Asks) → IsClientAt ahead scenario firsts bases route made_by heard_by rows asks → eqb row.who (client_actor asks.client) ≡ false
       → ClientMoved ahead scenario firsts bases route made_by heard_by rows row asks
@@ -94,13 +73,13 @@ module _ (ahead : Ahead) (words : ℕ → ℕ → ℕ × ℕ) (scenario : Scenar
         after = record {
           client = c.client;
           value_is = same ∙ c.value_is;
-          is = later_client ahead bases (h_of rows) (h_of (rows ++ row ∷ [])) grown asks c.client c.is;
+          fact = later_client ahead bases (h_of rows) (h_of (rows ++ row ∷ [])) grown asks c.client c.fact;
           fresh = λ e. c.fresh (still_gone rows row (client_actor asks.client) e);
         };
         grew = inl (ap replies_of same);
       }
 
-  some_client : (asks : Asks) → Among asks scenario.clients → 1 ≤ asks.client
+  some_client : EachClient scenario (λ asks. 1 ≤ asks.client)
   some_client asks a = Each-among _ scenario.clients asks has.numbered a
 
   -- ---- rows of nodes
@@ -171,7 +150,7 @@ module _ (ahead : Ahead) (words : ℕ → ℕ → ℕ × ℕ) (scenario : Scenar
                 (record {
                   node = step.0;
                   value_is = own_value (nseat n) rows row refl ∙ ap (λ x. x.0) acts;
-                  is = record {
+                  fact = record {
                     me_is = ended.me_is;
                     known = ended.known;
                     holds = λ b a. subst (λ g. Holds ahead b (made b) n g step.0.replicas) (sym (are b a)) (ended.parts b a).holds;
@@ -181,11 +160,11 @@ module _ (ahead : Ahead) (words : ℕ → ℕ → ℕ × ℕ) (scenario : Scenar
                 record {
                   node = at.node;
                   value_is = other_value (nseat j) rows row f ∙ at.value_is;
-                  is = record {
-                    me_is = at.is.me_is;
-                    known = at.is.known;
+                  fact = record {
+                    me_is = at.fact.me_is;
+                    known = at.fact.known;
                     holds = λ b a. subst (λ g. Holds ahead b (made b) j g at.node.replicas) (sym (are b a))
-                        (still_holds ahead b (made b) j n (ended.parts b a).newer (h b) (ended.parts b a).by (eqb-false n j f) at.node.replicas (at.is.holds b a));
+                        (still_holds ahead b (made b) j n (ended.parts b a).newer (h b) (ended.parts b a).by (eqb-false n j f) at.node.replicas (at.fact.holds b a));
                   };
                 })
           ];
@@ -193,7 +172,7 @@ module _ (ahead : Ahead) (words : ℕ → ℕ → ℕ × ℕ) (scenario : Scenar
               client_still rows row (λ b a. ((ended.parts b a).newer, are b a)) asks (k.clients asks stands) (ne_eqb n (client_actor asks.client) (λ e. absurd (omega (arith, e, up, high, limit)))));
         }
 
-    node_event : (n : ℕ) → 1 ≤ n → n ≤ scenario.nodes → (event : Event OrderLine) → MayTell rows n event → IsOpen (system_of ahead words scenario) rows n event → M rows (row_of player_table (nseat n) rows event)
+    node_event : (n : ℕ) → 1 ≤ n → n ≤ scenario.nodes → (event : Event OrderLine) → MayGiveOrder rows n event → IsOpen (system_of ahead words scenario) rows n event → M rows (row_of player_table (nseat n) rows event)
     node_event n low high event may open_ = by event may open_
       where
         at : IsNodeAt ahead scenario firsts bases route made_by heard_by rows rows n
@@ -206,19 +185,19 @@ module _ (ahead : Ahead) (words : ℕ → ℕ → ℕ × ℕ) (scenario : Scenar
             subst (λ (sent : List Mail). M rows (node_row n e sent)) (sym (ap (λ x. x.1) all)) (node_moved n low high e step all ended)
 
         quiet : (e : Event OrderLine) → Ends n (λ b. steps_at b.core.id (mails rows) (node_row n e []) (h b)) (at.node, [])
-        quiet e = unchanged ahead bases made heard elsewhere n h speaks (has.some rows) lawful requested (λ b. steps_at b.core.id (mails rows) (node_row n e []) (h b)) at.node [] at.is (λ b a. steps_plain b.core.id (mails rows) n e [] (h b) tt) (λ m a. absurd a) (λ b a m o. absurd o)
+        quiet e = unchanged ahead bases made heard elsewhere n h speaks (has.some rows) lawful requested (λ b. steps_at b.core.id (mails rows) (node_row n e []) (h b)) at.node [] at.fact (λ b a. steps_plain b.core.id (mails rows) n e [] (h b) tt) (λ m a. absurd a) (λ b a m o. absurd o)
 
-        by : (e : Event OrderLine) → MayTell rows n e → IsOpen (system_of ahead words scenario) rows n e → M rows (row_of player_table (nseat n) rows e)
+        by : (e : Event OrderLine) → MayGiveOrder rows n e → IsOpen (system_of ahead words scenario) rows n e → M rows (row_of player_table (nseat n) rows e)
         by (Deliver number) plain (m, under, to) =
             let step = on_mail m.from m.body at.node in
             let came = number_among (mails rows) number m under.sent in
             acting (Deliver number) step (ap (λ o. acted player_table (ANode at.node) (option_map Got o)) under.sent)
             (ends_as ahead bases made heard elsewhere n h speaks (has.some rows) lawful requested (λ b. steps_of b.core.id n (Deliver number) m.body step.1 (h b))
             (λ b. steps_at b.core.id (mails rows) (node_row n (Deliver number) step.1) (h b)) step (λ b. sym (steps_deliver b.core.id (mails rows) n number m step.1 (h b) under.sent))
-            (mail_ended ahead bases made heard elsewhere n h speaks (has.some rows) lawful requested (Deliver number) m (offspring n) at.node at.is (k.named m came) (λ b a. (k.parts b a).true_mail m came)))
-        by Tick plain o = acting Tick (on_tick at.node) refl (tick_ended ahead bases made heard elsewhere n h speaks (has.some rows) lawful requested at.node (plain low high at.node at.value_is) at.is)
+            (mail_ended ahead bases made heard elsewhere n h speaks (has.some rows) lawful requested (Deliver number) m (offspring n) at.node at.fact (k.named m came) (λ b a. (k.parts b a).true_mail m came)))
+        by Tick plain o = acting Tick (on_tick at.node) refl (tick_ended ahead bases made heard elsewhere n h speaks (has.some rows) lawful requested at.node (plain low high at.node at.value_is) at.fact)
         by Go plain o = acting Go (at.node, []) refl (quiet Go)
-        by (Told order) plain o = acting (Told order) (on_order order at.node) refl (order_ended ahead bases made heard elsewhere n h speaks (has.some rows) lawful requested order at.node (plain low high at.node at.value_is) at.is)
+        by (Told order) plain o = acting (Told order) (on_order order at.node) refl (order_ended ahead bases made heard elsewhere n h speaks (has.some rows) lawful requested order at.node (plain low high at.node at.value_is) at.fact)
         by Crash plain o = acting Crash (at.node, []) refl (quiet Crash)
         by (Drop number) plain o = absurd o
         by (Again number) plain o = absurd o
@@ -246,10 +225,10 @@ module _ (ahead : Ahead) (words : ℕ → ℕ → ℕ × ℕ) (scenario : Scenar
     still_node row none j f at = record {
       node = at.node;
       value_is = other_value (nseat j) rows row f ∙ at.value_is;
-      is = record {
-        me_is = at.is.me_is;
-        known = at.is.known;
-        holds = λ b a. subst (λ g. Holds ahead b (made b) j g at.node.replicas) (sym (steps-push b.core.id rows row ∙ none b)) (at.is.holds b a);
+      fact = record {
+        me_is = at.fact.me_is;
+        known = at.fact.known;
+        holds = λ b a. subst (λ g. Holds ahead b (made b) j g at.node.replicas) (sym (steps-push b.core.id rows row ∙ none b)) (at.fact.holds b a);
       };
     }
 
@@ -258,31 +237,20 @@ module _ (ahead : Ahead) (words : ℕ → ℕ → ℕ × ℕ) (scenario : Scenar
 
     -- ---- rows of clients
 
-    sends_plain : (asks : Asks) (sent : List Mail) → SendsAsked asks sent → ArePlain sent
-    sends_plain asks sent (inl none) = subst ArePlain (sym none) tt
-    sends_plain asks sent (inr (g, target, request, ask, is)) = subst ArePlain (sym is) (tt, tt)
-
-    issues_it : (asks : Asks) (g : Draw) (target : ℕ) (request : ℕ × Op) (event : Event OrderLine) (sent : List Mail) → sent ≡ request_of asks.client g target request ∷ []
-        → issues asks.client request.0 (node_row (client_actor asks.client) event sent) ≡ true
-    issues_it asks g target request event sent is =
-        and_from (eqb (client_actor asks.client) (client_actor asks.client)) (list_any (λ mail. asks_for asks.client request.0 mail.body) sent) (eq-eqb (client_actor asks.client) (client_actor asks.client) refl)
-        (ap (λ ms. list_any (λ (mail : Mail). asks_for asks.client request.0 mail.body) ms) is
-        ∙ or_left (eqb asks.client asks.client && eqb request.0 request.0) false (and_from (eqb asks.client asks.client) (eqb request.0 request.0) (eq-eqb asks.client asks.client refl) (eq-eqb request.0 request.0 refl)))
-
     sends_true : (asks : Asks) → Among asks scenario.clients → (event : Event OrderLine) (sent : List Mail) → SendsAsked asks sent
         → (b : Base) (m : Mail) → Among m sent → IsTrue ahead b (made_by (rows ++ node_row (client_actor asks.client) event sent ∷ []) b) (heard_by (rows ++ node_row (client_actor asks.client) event sent ∷ [])) (h b) m m.body
     sends_true asks stands event sent (inl none) b m a = absurd (subst (Among m) none a)
-    sends_true asks stands event sent (inr (g, target, request, ask, is)) b m a =
-        elim (subst (Among m) is a) [
+    sends_true asks stands event sent (inr (g, target, request, ask, fact)) b m a =
+        elim (subst (Among m) fact a) [
           | inl e ↦ subst (λ (x : Mail). IsTrue ahead b (made_by (rows ++ node_row (client_actor asks.client) event sent ∷ []) b) (heard_by (rows ++ node_row (client_actor asks.client) event sent ∷ [])) (h b) x x.body) e
               (has.issued (rows ++ node_row (client_actor asks.client) event sent ∷ []) b asks.client request.0 request.1
-              (issued_now scenario rows (node_row (client_actor asks.client) event sent) asks.client request.0 request.1 asks stands refl ask.0 ask.1 (issues_it asks g target request event sent is)))
+              (issued_now scenario rows (node_row (client_actor asks.client) event sent) asks.client request.0 request.1 asks stands refl ask.0 ask.1 (issues_it asks g target request event sent fact)))
           | inr n ↦ absurd n
         ]
 
     sends_named : (later_rows : Journal) (asks : Asks) (sent : List Mail) → SendsAsked asks sent → (m : Mail) → Among m sent → IsNamedIn (heard_by later_rows) bases m.body
     sends_named later_rows asks sent (inl none) m a = absurd (subst (Among m) none a)
-    sends_named later_rows asks sent (inr (g, target, request, ask, is)) m a = elim (subst (Among m) is a) [ inl e ↦ subst (λ (x : Mail). IsNamedIn (heard_by later_rows) bases x.body) e tt | inr n ↦ absurd n ]
+    sends_named later_rows asks sent (inr (g, target, request, ask, fact)) m a = elim (subst (Among m) fact a) [ inl e ↦ subst (λ (x : Mail). IsNamedIn (heard_by later_rows) bases x.body) e tt | inr n ↦ absurd n ]
 
     module _ (asks : Asks) (stands : Among asks scenario.clients) where
       abbrev who : ℕ
@@ -294,7 +262,7 @@ module _ (ahead : Ahead) (words : ℕ → ℕ → ℕ × ℕ) (scenario : Scenar
       -- what becomes of the client: it and its replies, and what it sends
       record IsTurned (event : Event OrderLine) (after : Client) (sent : List Mail) : Type 0 where
         acts : acted player_table (AClient at.client) (input_of (mails rows) event) ≡ (AClient after, sent)
-        is : IsClient ahead bases h asks after
+        fact : IsClient ahead bases h asks after
         grew : Grew ahead bases h asks at.client.replies after.replies
         sends : SendsAsked asks sent
         fresh : is_go event ≡ false → (at.client.replies ≡ []) × (at.client.waiting ≡ None) → (after.replies ≡ []) × (after.waiting ≡ None)
@@ -312,7 +280,7 @@ module _ (ahead : Ahead) (words : ℕ → ℕ → ℕ × ℕ) (scenario : Scenar
             after = record {
               client = after;
               value_is = became;
-              is = later_client ahead bases h (h_of (rows ++ row ∷ [])) grown asks after t.is;
+              fact = later_client ahead bases h (h_of (rows ++ row ∷ [])) grown asks after t.fact;
               fresh = λ e. (let parts = any_push (λ r. eqb r.who who && is_go r.event) rows row e in
                   t.fresh (not_go (eqb who who) (is_go event) (eq-eqb who who refl) parts.1) (at.fresh parts.0));
             };
@@ -353,13 +321,13 @@ module _ (ahead : Ahead) (words : ℕ → ℕ → ℕ × ℕ) (scenario : Scenar
           let turn = sends_in_turn at.client input in
           let after = (table at.client input).0 in
           let sent = (table at.client input).1 in
-          let became = client_after ahead bases made heard h asks at.client after at.is input sent turn told (λ e. (went e).0) in
+          let became = client_after ahead bases made heard h asks at.client after at.fact input sent turn told (λ e. (went e).0) in
           client_moved event after sent
           (record {
             acts = acts;
-            is = became.0;
+            fact = became.0;
             grew = became.1;
-            sends = client_sends ahead bases made heard h asks at.client after at.is input sent turn told (λ e. (went e).0);
+            sends = client_sends ahead bases made heard h asks at.client after at.fact input sent turn told (λ e. (went e).0);
             fresh = λ no f. still_fresh after input sent turn (λ go. (let yes : true ≡ false = sym (went go).1 ∙ no in cc)) f;
           })
 
@@ -374,7 +342,7 @@ module _ (ahead : Ahead) (words : ℕ → ℕ → ℕ × ℕ) (scenario : Scenar
       client_event Tick o = by_input Tick TickInput refl (λ m e. cc) (λ e. cc)
       client_event Go o = by_input Go GoInput refl (λ m e. cc) (λ e. ((at.fresh o).0, refl))
       client_event (Told order) o = by_input (Told order) (ToldInput order) refl (λ m e. cc) (λ e. cc)
-      client_event Crash o = client_moved Crash at.client [] (record { acts = refl; is = at.is; grew = inl refl; sends = inl refl; fresh = λ no f. f })
+      client_event Crash o = client_moved Crash at.client [] (record { acts = refl; fact = at.fact; grew = inl refl; sends = inl refl; fresh = λ no f. f })
       client_event (Drop number) o = absurd o
       client_event (Again number) o = absurd o
 
@@ -395,27 +363,27 @@ module _ (ahead : Ahead) (words : ℕ → ℕ → ℕ × ℕ) (scenario : Scenar
 
   module _ (rows : Journal) (k : K rows) (elsewhere : AnyoneHears (heard_by rows)) (speaks : (b : Base) → Among b bases → Speaks ahead b (made_by rows b) (heard_by rows) (h_of rows b)) (offspring : KnowsOffspring rows)
       (later : (row : Row Mail OrderLine) → ((b : Base) → Among b bases → Stepped ahead scenario firsts bases route made_by heard_by rows row b) → IsLater ahead scenario firsts bases route made_by heard_by rows row) where
-    actor_step : (row : Row Mail OrderLine) → MayTell rows row.who row.event → ActorStep (system_of ahead words scenario) rows row → M rows row
+    actor_step : (row : Row Mail OrderLine) → MayGiveOrder rows row.who row.event → ActorStep (system_of ahead words scenario) rows row → M rows row
     actor_step row may step =
-        let told = subst (λ (r : Row Mail OrderLine). MayTell rows r.who r.event) step.row_is may in
+        let told = subst (λ (r : Row Mail OrderLine). MayGiveOrder rows r.who r.event) step.row_is may in
         let found = find_found (λ (other : Seat Player). eqb other.who step.seat.who) (births ahead scenario) step.seat step.born in
         let there = subst (Among step.seat) has.seats found.0 in
         elim (Among-either step.seat (map nseat (numbers_from 1 scenario.nodes)) (map cseat scenario.clients) there) [
           | inl a ↦ (
               let from = from_map nseat (numbers_from 1 scenario.nodes) step.seat a in
               let bounds = among_numbers 1 scenario.nodes from.0 from.1 in
-              let is : row ≡ row_of player_table (nseat from.0) rows step.event = step.row_is ∙ ap (λ (seat : Seat Player). row_of player_table seat rows step.event) (sym from.2) in
-              subst (M rows) (sym is)
-              (node_event rows k elsewhere speaks offspring later from.0 bounds.0 (omega (arith, bounds.1)) step.event (subst (λ (seat : Seat Player). MayTell rows seat.who step.event) (sym from.2) told)
+              let fact : row ≡ row_of player_table (nseat from.0) rows step.event = step.row_is ∙ ap (λ (seat : Seat Player). row_of player_table seat rows step.event) (sym from.2) in
+              subst (M rows) (sym fact)
+              (node_event rows k elsewhere speaks offspring later from.0 bounds.0 (omega (arith, bounds.1)) step.event (subst (λ (seat : Seat Player). MayGiveOrder rows seat.who step.event) (sym from.2) told)
               (subst (λ (seat : Seat Player). IsOpen (system_of ahead words scenario) rows seat.who step.event) (sym from.2) step.open_)))
           | inr a ↦ (
               let from = from_map cseat scenario.clients step.seat a in
-              let is : row ≡ row_of player_table (cseat from.0) rows step.event = step.row_is ∙ ap (λ (seat : Seat Player). row_of player_table seat rows step.event) (sym from.2) in
-              subst (M rows) (sym is)
+              let fact : row ≡ row_of player_table (cseat from.0) rows step.event = step.row_is ∙ ap (λ (seat : Seat Player). row_of player_table seat rows step.event) (sym from.2) in
+              subst (M rows) (sym fact)
               (client_event rows k elsewhere speaks offspring later from.0 from.1 step.event (subst (λ (seat : Seat Player). IsOpen (system_of ahead words scenario) rows seat.who step.event) (sym from.2) step.open_)))
         ]
 
     -- each step that may come next moves what holds on
-    pub moved : (row : Row Mail OrderLine) → MayTell rows row.who row.event → IsStep (system_of ahead words scenario) rows row → M rows row
+    pub moved : (row : Row Mail OrderLine) → MayGiveOrder rows row.who row.event → IsStep (system_of ahead words scenario) rows row → M rows row
     moved row may (inl step) = actor_step row may step
     moved row may (inr step) = subst (M rows) (sym step.row_is) (network_event rows k elsewhere speaks offspring later step.event)

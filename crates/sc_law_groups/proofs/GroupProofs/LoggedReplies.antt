@@ -14,4 +14,4 @@ module _ (ahead : Ahead) (base : Base) (rows : Journal) (lawful : IsLawfulHistor
 
   -- a log of the steps is a prefix of the decided one
   pub prefix_is : (l : List Command) → IsLog (rule ahead base) (h_of rows base) l → (length l ≤ length log) × (take (length l) log ≡ l)
-  prefix_is l is = subst (λ whole. (length l ≤ length whole) × (take (length l) whole ≡ l)) (sym (decided_is ahead base rows)) (prefix_of_log (rule ahead base) (first ahead base) (h_of rows base) lawful l is)
+  prefix_is l fact = subst (λ whole. (length l ≤ length whole) × (take (length l) whole ≡ l)) (sym (decided_is ahead base rows)) (prefix_of_log (rule ahead base) (first ahead base) (h_of rows base) lawful l fact)

@@ -127,7 +127,7 @@ module _ (ahead : Ahead) (base : Base) (made : Command → Type 0) (heard : Mail
   may_be_offered : (slot : ℕ) (c : Command) (set : List ℕ) (r : ReplicaState) (mails : List Mail) (f : Ok (r, mails)) → r.running ≡ true → is_some (taken_at r slot) ≡ false → next r ≤ slot
       → set ≡ members_of (rule ahead base) f.replica.whole slot → needed (rule ahead base) slot ≤ length f.replica.whole → may_offer r set ≡ true → Obeys (must slot r.leader) c
       → MayOffer (rule ahead base) (first ahead base) r.leader.ballot slot c (f.newer ++ before)
-  may_be_offered slot c set r mails f runs free up is known may obeys =
+  may_be_offered slot c set r mails f runs free up fact known may obeys =
       let h = f.newer ++ before in
       let k = f.replica in
       let l = k.leads runs in
@@ -141,7 +141,7 @@ module _ (ahead : Ahead) (base : Base) (made : Command → Type 0) (heard : Mail
           | inl t ↦ inl (l.first_is t)
           | inr t ↦ inr (elected_by (members_of (rule ahead base) k.whole slot) h slot c r.leader l.votes l.promisers l.reports
               (Each-weaker _ _ (λ v p. (p.0, omega (arith, p.1, up, next_at))) l.votes l.made)
-              (subst (λ ms. is_majority ms r.leader.promisers ≡ true) is t) obeys)
+              (subst (λ ms. is_majority ms r.leader.promisers ≡ true) fact t) obeys)
         ];
         only = λ other a. elim (l.offers slot other a) [
           | inl lt ↦ absurd (omega (arith, lt, up, next_at))
@@ -166,11 +166,11 @@ module _ (ahead : Ahead) (base : Base) (made : Command → Type 0) (heard : Mail
   pub fine_offered : (slot : ℕ) (c : Command) (set : List ℕ) (r : ReplicaState) (mails : List Mail) (f : Ok (r, mails)) → r.running ≡ true → is_some (taken_at r slot) ≡ false → next r ≤ slot
       → set ≡ members_of (rule ahead base) f.replica.whole slot → needed (rule ahead base) slot ≤ length f.replica.whole → may_offer r set ≡ true → Obeys (must slot r.leader) c → made c
       → Ok (offered slot set c (r, mails))
-  fine_offered slot c set r mails f runs free up is known may obeys m =
+  fine_offered slot c set r mails f runs free up fact known may obeys m =
       let whole = f.replica.whole in
       let some_one = some (take (needed (rule ahead base) slot) whole) (Each-take made (needed (rule ahead base) slot) whole f.replica.log_is.all_made) in
-      subst (λ ms. Ok (offered slot ms c (r, mails))) (sym (is ∙ some_one.2))
-      (offered_to slot c some_one.0 some_one.1 r mails f runs m (may_be_offered slot c set r mails f runs free up is known may obeys))
+      subst (λ ms. Ok (offered slot ms c (r, mails))) (sym (fact ∙ some_one.2))
+      (offered_to slot c some_one.0 some_one.1 r mails f runs m (may_be_offered slot c set r mails f runs free up fact known may obeys))
 
   -- ---- what is found for a slot
 
@@ -246,7 +246,7 @@ module _ (ahead : Ahead) (base : Base) (made : Command → Type 0) (heard : Mail
   called : (idle : Bool) (core : Core) → core.id ≡ base.core.id → (backlog : List Command) (r : ReplicaState) (mails : List Mail) → Ok (r, mails) → Each made backlog → IsCalled r (next_queued r.me idle core backlog mails)
   called idle core named backlog r mails f e =
       next_found r.me idle core (λ cs ms. Ok (r, ms) × Each made cs) (IsCalled r) (λ cs ms q. record { fine = q.0; rest = q.1; command = tt }) (λ c cs ms q. record { fine = q.0; rest = q.1.1; command = q.1.0 })
-      (λ c answer cs ms w is q. (answered_one ahead base made heard me older before r ms core.id answer named (turned_dull core c answer is) c q.0, q.1.1)) backlog mails (f, e)
+      (λ c answer cs ms w fact q. (answered_one ahead base made heard me older before r ms core.id answer named (turned_dull core c answer fact) c q.0, q.1.1)) backlog mails (f, e)
 
   found_in_calls : (slot : ℕ) (r : ReplicaState) (mails : List Mail) → must slot r.leader ≡ Open → Ok (r, mails) → IsFound slot r (from_backlog (r, mails))
   unfolding from_backlog turn
@@ -354,21 +354,21 @@ module _ (ahead : Ahead) (base : Base) (made : Command → Type 0) (heard : Mail
       on_found : ((place : Place) → Ok place → place.0.running ≡ true → next place.0 ≤ slot + 1 → AreLater place.0 (slot + 1) sets → Ok (pumped_from (slot + 1) sets place))
           → is_some (taken_at r slot) ≡ false → may_offer r set ≡ true → (found : Found) → IsFound slot r found
           → Ok (elim (found.0) [ None ↦ found.1 | Some command ↦ pumped_from (slot + 1) sets (offered slot set command found.1) ])
-      on_found go free may (None, place) is = is.fine
-      on_found go free may (Some c, (s, later)) is =
-          let are_later : AreLater s slot (set ∷ sets) = (λ log a. are log (subst (λ l. AreSets ahead base log (next_of l) r.sets) is.log_is (subst (λ x. AreSets ahead base log (next s) x) is.sets_is a))) in
-          let whole = is.fine.replica.whole in
-          let here = this_set ahead base whole slot set sets (are_later whole (open_sets (is.fine.newer ++ before) s is.fine.replica)) in
-          let up_is : next s ≤ slot = subst (λ l. next_of l ≤ slot) (sym is.log_is) up in
-          let runs_is : s.running ≡ true = is.runs_is ∙ runs in
+      on_found go free may (None, place) fact = fact.fine
+      on_found go free may (Some c, (s, later)) fact =
+          let are_later : AreLater s slot (set ∷ sets) = (λ log a. are log (subst (λ l. AreSets ahead base log (next_of l) r.sets) fact.log_is (subst (λ x. AreSets ahead base log (next s) x) fact.sets_is a))) in
+          let whole = fact.fine.replica.whole in
+          let here = this_set ahead base whole slot set sets (are_later whole (open_sets (fact.fine.newer ++ before) s fact.fine.replica)) in
+          let up_is : next s ≤ slot = subst (λ l. next_of l ≤ slot) (sym fact.log_is) up in
+          let runs_is : s.running ≡ true = fact.runs_is ∙ runs in
           let free_is : is_some (taken_at s slot) ≡ false =
-          ap (λ leader. is_some (either (option_map (λ (flight : Flight Command). flight.value) (flight_at slot leader.flights)) (at_slot s.ready slot))) is.leader_is
-          ∙ ap (λ ready. is_some (either (flying r slot) (at_slot ready slot))) is.ready_is ∙ free in
+          ap (λ leader. is_some (either (option_map (λ (flight : Flight Command). flight.value) (flight_at slot leader.flights)) (at_slot s.ready slot))) fact.leader_is
+          ∙ ap (λ ready. is_some (either (flying r slot) (at_slot ready slot))) fact.ready_is ∙ free in
           let may_is : may_offer s set ≡ true =
-          ap (λ leader. not (below leader.ballot s.acceptor.promised) && (leader.is_first || is_majority set leader.promisers)) is.leader_is
-          ∙ ap (λ acceptor. not (below r.leader.ballot acceptor.promised) && (r.leader.is_first || is_majority set r.leader.promisers)) is.acceptor_is ∙ may in
-          let after = fine_offered slot c set s later is.fine runs_is free_is up_is here.0 here.1
-          may_is (subst (λ leader. Obeys (must slot leader) c) (sym is.leader_is) is.command.1) is.command.0 in
+          ap (λ leader. not (below leader.ballot s.acceptor.promised) && (leader.is_first || is_majority set leader.promisers)) fact.leader_is
+          ∙ ap (λ acceptor. not (below r.leader.ballot acceptor.promised) && (r.leader.is_first || is_majority set r.leader.promisers)) fact.acceptor_is ∙ may in
+          let after = fine_offered slot c set s later fact.fine runs_is free_is up_is here.0 here.1
+          may_is (subst (λ leader. Obeys (must slot leader) c) (sym fact.leader_is) fact.command.1) fact.command.0 in
           go (offered slot set c (s, later)) after runs_is (omega (arith, up_is)) (λ log a. next_sets ahead base log slot set sets (are_later log a))
 
   -- Pump

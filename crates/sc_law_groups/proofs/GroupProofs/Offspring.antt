@@ -44,8 +44,8 @@ module _ (ahead : Ahead) (base : Base) (made : Command → Type 0) (heard : Mail
   next_are c r mails f t m = by (child_by r.group c) refl
     where
       by : (o : Option Base) → child_by r.group c ≡ o → Children (child_at r.me o)
-      by None is = tt
-      by (Some child) is =
+      by None fact = tt
+      by (Some child) fact =
           cond_both (is_member child.core.members r.me) (child ∷ []) [] Children
           (λ member. (
           let h = f.newer ++ before in
@@ -61,7 +61,7 @@ module _ (ahead : Ahead) (base : Base) (made : Command → Type 0) (heard : Mail
                   (λ node b slot d a. all_asked base.core.id f.sent before node b slot d (subst (Among (Accepted node b slot d)) (sym f.are) a)) (log ++ c ∷ []) has.is_log;
               all_made = k.log_is.all_made;
               is_made = m;
-              child_is = subst (λ (g : Group). child_by g c ≡ Some child) k.log_is.group_is is;
+              child_is = subst (λ (g : Group). child_by g c ≡ Some child) k.log_is.group_is fact;
               member = subst (λ n. is_member child.core.members n ≡ true) k.me_is member;
             },
             tt,
@@ -81,13 +81,13 @@ module _ (ahead : Ahead) (base : Base) (made : Command → Type 0) (heard : Mail
     where
       go : ((p : Place) → Ok p → Children (executed_ready es p).1) → (o : Option Command) → next_ready place.0 ≡ o
           → ChildrenOf (elim o [ None ↦ childless place | Some command ↦ ending (next_child command place.0) (executed_ready es (executed_one true command place)) ])
-      go rest None is = tt
-      go rest (Some c) is =
-          let t = Each-among _ place.0.ready (next place.0, c) f.replica.ready (next_ready_among ahead base made heard me [] before speaks some place.0 c is) in
+      go rest None fact = tt
+      go rest (Some c) fact =
+          let t = Each-among _ place.0.ready (next place.0, c) f.replica.ready (next_ready_among ahead base made heard me [] before speaks some place.0 c fact) in
           let m = learnt_made ahead base made heard me [] before speaks some place f (next place.0) c t in
           let after = executed_one true c place in
           Each-append _ (next_child c place.0) (executed_ready es after).1 (next_are c place.0 place.1 f t m)
-          (rest after (fine_executed_one ahead base made heard me [] before speaks some true c place.0 place.1 f t m (λ _. next_ready_runs ahead base made heard me [] before speaks some place.0 c is)))
+          (rest after (fine_executed_one ahead base made heard me [] before speaks some true c place.0 place.1 f t m (λ _. next_ready_runs ahead base made heard me [] before speaks some place.0 c fact)))
 
   executed_are : (counted : Bool) (c : Command) (r : ReplicaState) (mails : List Mail) → (f : Ok (r, mails)) → IsLearnt (rule ahead base) (f.newer ++ before) (next r) c → (counted ≡ true → r.running ≡ true)
       → Children (executed counted c (r, mails)).1

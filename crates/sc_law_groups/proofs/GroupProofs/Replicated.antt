@@ -24,10 +24,10 @@ module _ (ahead : Ahead) (base : Base) (rows : Journal) (lawful : IsLawfulHistor
   accepted_are = only_steps base.core.id rows
 
   log_of_steps : (l : List Command) → IsLog (rule ahead base) (accepts base.core.id rows) l → IsLog (rule ahead base) h l
-  log_of_steps l is = log_from_only (rule ahead base) h l (subst (λ g. IsLog (rule ahead base) g l) (sym accepted_are) is)
+  log_of_steps l fact = log_from_only (rule ahead base) h l (subst (λ g. IsLog (rule ahead base) g l) (sym accepted_are) fact)
 
   chosen_of_steps : (l : List Command) (slot : ℕ) (c : Command) → IsChosenIn ahead base rows l slot c → IsChosenAfter (rule ahead base) h l slot c
-  chosen_of_steps l slot c is = after_from_only (rule ahead base) h l slot c (subst (λ g. IsChosenAfter (rule ahead base) g l slot c) (sym accepted_are) is)
+  chosen_of_steps l slot c fact = after_from_only (rule ahead base) h l slot c (subst (λ g. IsChosenAfter (rule ahead base) g l slot c) (sym accepted_are) fact)
 
   steps_log : IsLog (rule ahead base) h log
   steps_log = subst (IsLog (rule ahead base) h) (sym (decided_is ahead base rows)) (log_of-longest (rule ahead base) (first ahead base) h lawful).0
@@ -45,18 +45,18 @@ module _ (ahead : Ahead) (base : Base) (rows : Journal) (lawful : IsLawfulHistor
 
   -- each other log is a prefix of it
   pub longest : (other : List Command) → IsLog (rule ahead base) (accepts base.core.id rows) other → Continues other log
-  longest other is =
-      let prefix = prefix_is ahead base rows lawful other (log_of_steps other is) in
+  longest other fact =
+      let prefix = prefix_is ahead base rows lawful other (log_of_steps other fact) in
       (drop (length other) log, sym (take-append-drop (length other) log) ∙ ap (λ xs. xs ++ drop (length other) log) prefix.1)
 
   -- a replica has executed a prefix of it
   pub executed_is : (made : Command → Type 0) (n : ℕ) (r : ReplicaState) → IsReplica ahead base made h n r → HasRun ahead base rows r
-  executed_is made n r is =
-      let prefix = prefix_is ahead base rows lawful is.whole is.log_is.is_log in
+  executed_is made n r fact =
+      let prefix = prefix_is ahead base rows lawful fact.whole fact.log_is.is_log in
       record {
-        count = length is.whole;
+        count = length fact.whole;
         within = prefix.0;
-        next_is = next_after ahead base made h n r is;
-        entries = is.log_is.entries_are ∙ ap (drop r.log.base) (sym prefix.1);
-        group_is = is.log_is.group_is ∙ ap (state_after (birth ahead base)) (sym prefix.1);
+        next_is = next_after ahead base made h n r fact;
+        entries = fact.log_is.entries_are ∙ ap (drop r.log.base) (sym prefix.1);
+        group_is = fact.log_is.group_is ∙ ap (state_after (birth ahead base)) (sym prefix.1);
       }

@@ -42,11 +42,11 @@ module _ (ahead : Ahead) (made : Command → Type 0) (n : ℕ) where
   -- of each group there is one, or none
   holds_born : (base : Base) (bases : List Base) → AreNamedApart bases → Among base bases → Holds ahead base made n [] (born bases)
   holds_born base [] apart a = absurd a
-  holds_born base (b ∷ bases) apart (inl is) =
+  holds_born base (b ∷ bases) apart (inl fact) =
       cond_both (is_member b.core.members n) (b ∷ filter (λ c. is_member c.core.members n) bases) (filter (λ c. is_member c.core.members n) bases)
       (λ bs. Holds ahead base made n [] (map (λ c. born_replica ahead.slots n c) bs))
-      (λ _. subst (λ x. Holds ahead x made n [] (born_replica ahead.slots n b ∷ born bases)) is (inl (refl, born_replica_is ahead b made [] n tt, none_born b bases apart.0)))
-      (λ _. subst (λ x. Holds ahead x made n [] (born bases)) is (holds_none ahead b made n [] (born bases) (none_born b bases apart.0) tt))
+      (λ _. subst (λ x. Holds ahead x made n [] (born_replica ahead.slots n b ∷ born bases)) fact (inl (refl, born_replica_is ahead b made [] n tt, none_born b bases apart.0)))
+      (λ _. subst (λ x. Holds ahead x made n [] (born bases)) fact (holds_none ahead b made n [] (born bases) (none_born b bases apart.0) tt))
   holds_born base (b ∷ bases) apart (inr a) =
       cond_both (is_member b.core.members n) (b ∷ filter (λ c. is_member c.core.members n) bases) (filter (λ c. is_member c.core.members n) bases)
       (λ bs. Holds ahead base made n [] (map (λ c. born_replica ahead.slots n c) bs))
@@ -60,7 +60,7 @@ at_start ahead scenario bases route made heard apart = record {
   nodes = λ n low high. record {
     node = record { me = n; draws = record { node = n; next = 1 }; policy = scenario.policy; replicas = map (λ b. born_replica ahead.slots n b) (filter (λ b. is_member b.core.members n) bases) };
     value_is = refl;
-    is = record {
+    fact = record {
       me_is = refl;
       known = each_born ahead (λ c. Unit {0}) n (λ r. IsOneOf bases (name_of r)) bases (λ b a. (b, a, refl));
       holds = λ b a. holds_born ahead (made [] b) n b bases apart a;
@@ -69,7 +69,7 @@ at_start ahead scenario bases route made heard apart = record {
   clients = λ asks stands. record {
     client = born_client asks.client asks.ops route;
     value_is = refl;
-    is = record { me = refl; requests = refl; waits = tt; replies = λ k reply e. cc };
+    fact = record { me = refl; requests = refl; waits = tt; replies = λ k reply e. cc };
     fresh = λ e. (refl, refl);
   };
 }

@@ -1,5 +1,5 @@
 -- The orders that nodes get in a lawful journal are those of its schedule.
-use Rattle.std.proofs.Common.{◌≡◌, ℕ, zero, suc, ◌+◌, ◌%◌, List, [], ◌∷◌, ◌++◌, length, Bool, true, false, cond, eqb, find, sym, ◌∙◌, ap, subst, append_assoc, append-nil, Option, None, Some}
+use Rattle.std.proofs.Common.{◌≡◌, ℕ, zero, suc, ◌+◌, ◌%◌, List, [], ◌∷◌, ◌++◌, length, Bool, false, cond, eqb, find, sym, ◌∙◌, ap, subst, append_assoc, append-nil, None, Some}
 use Rattle.std.specs.Prelude.{slice_get}
 use Rattle.std.specs.List.{flat_map}
 use Rattle.std.proofs.lemmas.Option.{cond_some}
@@ -12,10 +12,7 @@ use Rattle.sc_actor.specs.declared.rows.Event.TheVariants.{Told}
 use Rattle.sc_actor.specs.declared.schedules.Line.TheVariants.{Go as GoLine, Deliver as DeliverLine, Drop as DropLine, Again as AgainLine, Tick as TickLine, Crash as CrashLine, Told as ToldLine, Free}
 use Rattle.sc_actor.specs.Definitions.{mails, numbered, may_get, has_crashed, System, acts, row_of, network, waiting, kth, numbers_of, has_started, IsStep, Task, Once, Settles, Frees, Storms, WalkPlace, Allows, MayAdd, IsWalk, IsLawful, onward, is_over, after_row, start, rest_of_all, tasks_of, storm_steps, delivery, repeat_of, picked, storm_row}
 use Rattle.sc_actor.proofs.Lemmas.{MayAdd-step, onward-rows}
-
-given : {Y : Type 0} (b : Bool) (o : Option Y) (y : Y) → cond b None o ≡ Some y → o ≡ Some y
-given true o y e = cc
-given false o y e = e
+use Rattle.sc_actor.proofs.Induction.{unless-some}
 
 module _ {O : Type 0} (Q : ℕ → O → Type 0) where
   -- an event that brings this actor only such orders
@@ -29,21 +26,21 @@ module _ {O : Type 0} (Q : ℕ → O → Type 0) where
   GivesAllowedOrder who (Again mail) = Unit {0}
 
   -- a line that brings only such orders
-  abbrev pub TellsSo : Line O → Type 0
-  TellsSo (ToldLine who order) = Q who order
-  TellsSo (GoLine who) = Unit {0}
-  TellsSo (DeliverLine who k) = Unit {0}
-  TellsSo (DropLine who k) = Unit {0}
-  TellsSo (AgainLine mail) = Unit {0}
-  TellsSo (TickLine who) = Unit {0}
-  TellsSo (CrashLine who) = Unit {0}
-  TellsSo (Settle most) = Unit {0}
-  TellsSo (Free most workers) = Unit {0}
-  TellsSo (Storm number most) = Unit {0}
+  abbrev pub OrdersOnly : Line O → Type 0
+  OrdersOnly (ToldLine who order) = Q who order
+  OrdersOnly (GoLine who) = Unit {0}
+  OrdersOnly (DeliverLine who k) = Unit {0}
+  OrdersOnly (DropLine who k) = Unit {0}
+  OrdersOnly (AgainLine mail) = Unit {0}
+  OrdersOnly (TickLine who) = Unit {0}
+  OrdersOnly (CrashLine who) = Unit {0}
+  OrdersOnly (Settle most) = Unit {0}
+  OrdersOnly (Free most workers) = Unit {0}
+  OrdersOnly (Storm number most) = Unit {0}
 
   -- a task of such a line
   abbrev pub IsTaskSo : Task O → Type 0
-  IsTaskSo (Once line) = TellsSo line
+  IsTaskSo (Once line) = OrdersOnly line
   IsTaskSo (Settles left) = Unit {0}
   IsTaskSo (Frees left) = Unit {0}
   IsTaskSo (Storms words) = Unit {0}
@@ -54,12 +51,12 @@ module _ {O : Type 0} (Q : ℕ → O → Type 0) where
   storm_so words step zero = tt
   storm_so words step (suc left) = (tt, storm_so words (suc step) left)
 
-  line_so : (words : ℕ → ℕ → ℕ × ℕ) (line : Line O) → TellsSo line → Each IsTaskSo (tasks_of words line)
+  line_so : (words : ℕ → ℕ → ℕ × ℕ) (line : Line O) → OrdersOnly line → Each IsTaskSo (tasks_of words line)
   line_so words (ToldLine who order) q = (q, tt)
   line_so words (Storm number most) q = storm_so (words number) 0 most
   line_so words _ q = (tt, tt)
 
-  lines_so : (words : ℕ → ℕ → ℕ × ℕ) (lines : List (Line O)) → Each TellsSo lines → Each IsTaskSo (flat_map (tasks_of words) lines)
+  lines_so : (words : ℕ → ℕ → ℕ × ℕ) (lines : List (Line O)) → Each OrdersOnly lines → Each IsTaskSo (flat_map (tasks_of words) lines)
   lines_so words [] q = tt
   lines_so words (line ∷ lines) q = Each-append IsTaskSo (tasks_of words line) (flat_map (tasks_of words) lines) (line_so words line q.0) (lines_so words lines q.1)
 
@@ -97,14 +94,14 @@ module _ {O : Type 0} (Q : ℕ → O → Type 0) where
           let q = cond_some (may_get (numbers_of s.births) rows (s.receiver p.0)) (network (Again mail)) row p.2 in
           network_so (Again mail) row (λ who. tt) q.1
 
-      row_so : (line : Line O) (row : Row M O) → TellsSo line → Allows s rows (Once line) row → GivesAllowedOrder row.who row.event
-      row_so (GoLine who) row q e = acts_so who Go row tt (given (has_started rows who) (acts s rows who Go) row e)
+      row_so : (line : Line O) (row : Row M O) → OrdersOnly line → Allows s rows (Once line) row → GivesAllowedOrder row.who row.event
+      row_so (GoLine who) row q e = acts_so who Go row tt (unless-some (has_started rows who) (acts s rows who Go) row e).1
       row_so (DeliverLine who k) row q e = let p = and_then-some (λ mail. acts s rows who (Deliver mail)) (kth (waiting s rows (Some who)) k) row e in acts_so who (Deliver p.0) row tt p.2
       row_so (DropLine who k) row q e = let p = map-some (λ mail. network (Drop mail)) (kth (waiting s rows (Some who)) k) row e in network_so (Drop p.0) row (λ who. tt) p.2
       row_so (AgainLine mail) row q e = repeat_so mail row e
-      row_so (TickLine who) row q e = acts_so who Tick row tt (given (has_crashed rows who) (acts s rows who Tick) row e)
-      row_so (CrashLine who) row q e = acts_so who Crash row tt (given (has_crashed rows who) (acts s rows who Crash) row e)
-      row_so (ToldLine who order) row q e = acts_so who (Told order) row q (given (has_crashed rows who) (acts s rows who (Told order)) row e)
+      row_so (TickLine who) row q e = acts_so who Tick row tt (unless-some (has_crashed rows who) (acts s rows who Tick) row e).1
+      row_so (CrashLine who) row q e = acts_so who Crash row tt (unless-some (has_crashed rows who) (acts s rows who Crash) row e).1
+      row_so (ToldLine who order) row q e = acts_so who (Told order) row q (unless-some (has_crashed rows who) (acts s rows who (Told order)) row e).1
       row_so (Settle most) row q e = cc
       row_so (Free most workers) row q e = cc
       row_so (Storm number most) row q e = cc
@@ -114,7 +111,7 @@ module _ {O : Type 0} (Q : ℕ → O → Type 0) where
       storm_row_so (suc zero) v row e = repeat_so (1 + v % length (mails rows)) row e
       storm_row_so (suc (suc zero)) v row e =
           let p = and_then-some (λ who. cond (has_crashed rows who) None (acts s rows who Tick)) (slice_get (numbers_of s.births) (v % length (numbers_of s.births))) row e in
-          acts_so p.0 Tick row tt (given (has_crashed rows p.0) (acts s rows p.0 Tick) row p.2)
+          acts_so p.0 Tick row tt (unless-some (has_crashed rows p.0) (acts s rows p.0 Tick) row p.2).1
       storm_row_so (suc (suc (suc more))) v row e = let p = and_then-some (delivery s rows) (picked s rows v) row e in delivery_so p.0 row p.2
 
       -- what a task allows brings only such orders
@@ -141,7 +138,7 @@ module _ {O : Type 0} (Q : ℕ → O → Type 0) where
           subst P (ap (λ xs. xs ++ rows) there ∙ append_assoc place.rows (row ∷ []) rows) next
 
       -- induction over the rows
-      pub told_induction : (lines : List (Line O)) (journal : List (Row M O)) → Each TellsSo lines → P [] → IsLawful s lines journal → P journal
+      pub told_induction : (lines : List (Line O)) (journal : List (Row M O)) → Each OrdersOnly lines → P [] → IsLawful s lines journal → P journal
       told_induction lines journal q none lawful =
           let there : (start s lines).rows ≡ [] = onward-rows s [] (flat_map (tasks_of s.words) lines) 0 false in
           let tasks = onward_so [] (flat_map (tasks_of s.words) lines) 0 false (lines_so s.words lines q) in

@@ -16,7 +16,8 @@ use Rattle.sc_law_groups.proofs.GroupProofs.Midway.{Fine}
 use Rattle.sc_law_groups.proofs.GroupProofs.Sending.{name_is}
 use Rattle.sc_law_groups.proofs.GroupProofs.LearningRows.{MayWish, fine_tick_row}
 use Rattle.sc_law_groups.proofs.GroupProofs.Names.{IsOneOf, IsNamedIn, own_named}
-use Rattle.sc_law_groups.proofs.GroupProofs.GroupNodes.{start, IsNode, NodeEnded}
+use Rattle.sc_law_groups.proofs.GroupProofs.PartsOfNodes.{start}
+use Rattle.sc_law_groups.proofs.GroupProofs.GroupNodes.{IsNode, NodeEnded}
 use Rattle.sc_law_groups.proofs.GroupProofs.Frames.{AreFar, own_far, far_true, far_all, asked_append}
 use Rattle.sc_law_groups.proofs.GroupProofs.Holding.{IsOther, Holds, held}
 use Rattle.sc_base.proofs.Lemmas.{draw_is}
@@ -54,8 +55,8 @@ module _ (ahead : Ahead) (bases : List Base) (made : Base → Command → Type 0
   unfolding ticked
   tick_sends drawer [] may live mails = record { sent = []; sent_is = sym (append-nil mails); named = λ m a. absurd a; known = tt }
   tick_sends drawer (r ∷ rs) may live mails =
-      let (base, a, is, k) = live.0 in
-      let f = ticks drawer base a r mails (may.0 base a is) k in
+      let (base, a, fact, k) = live.0 in
+      let f = ticks drawer base a r mails (may.0 base a fact) k in
       let place = tick_row on drawer (r, mails) in
       let later = tick_sends (names_after_tick on drawer r) rs may.1 live.1 place.1 in
       record {
@@ -73,13 +74,13 @@ module _ (ahead : Ahead) (bases : List Base) (made : Base → Command → Type 0
     none : Each (IsOther base.core.id) (ticked on drawer rs mails).0
 
   far_name : (base other : Base) (r : ReplicaState) → name_of r ≡ other.core.id → IsOther base.core.id r → same_draw other.core.id base.core.id ≡ false
-  far_name base other r is o =
-      elim (cases_Bool (same_draw other.core.id base.core.id)) [ inl t ↦ absurd (o (is ∙ draw_is other.core.id base.core.id t)) | inr f ↦ f ]
+  far_name base other r fact o =
+      elim (cases_Bool (same_draw other.core.id base.core.id)) [ inl t ↦ absurd (o (fact ∙ draw_is other.core.id base.core.id t)) | inr f ↦ f ]
 
   far_part : (base other : Base) → Among other bases → (r : ReplicaState) (mails : List Mail) (place : Place) → name_of r ≡ other.core.id → IsOther base.core.id r → (f : Fine ahead other (made other) heard me mails (h other) place) → AreFar heard base.core.id f.sent × IsOther base.core.id place.0
-  far_part base other b r mails place is o f = (
-    Each-from _ f.sent (λ m a. own_far ahead other heard base.core.id (far_name base other r is o) m.body (f.own m a)),
-    (λ same. o (is ∙ sym (tick_name other mails place f) ∙ same)),
+  far_part base other b r mails place fact o f = (
+    Each-from _ f.sent (λ m a. own_far ahead other heard base.core.id (far_name base other r fact o) m.body (f.own m a)),
+    (λ same. o (fact ∙ sym (tick_name other mails place f) ∙ same)),
   )
 
   far_append : (name : Draw) (one other : List Mail) → AreFar heard name one → AreFar heard name other → AreFar heard name (one ++ other)
@@ -90,10 +91,10 @@ module _ (ahead : Ahead) (bases : List Base) (made : Base → Command → Type 0
   unfolding ticked
   tick_far base drawer [] may live none mails = record { sent = []; sent_is = sym (append-nil mails); far = tt; none = tt }
   tick_far base drawer (r ∷ rs) may live none mails =
-      let (other, a, is, k) = live.0 in
-      let f = ticks drawer other a r mails (may.0 other a is) k in
+      let (other, a, fact, k) = live.0 in
+      let f = ticks drawer other a r mails (may.0 other a fact) k in
       let place = tick_row on drawer (r, mails) in
-      let here = far_part base other a r mails place is none.0 f in
+      let here = far_part base other a r mails place fact none.0 f in
       let later = tick_far base (names_after_tick on drawer r) rs may.1 live.1 none.1 place.1 in
       record {
         sent = f.sent ++ later.sent;
@@ -127,8 +128,8 @@ module _ (ahead : Ahead) (bases : List Base) (made : Base → Command → Type 0
     holds = fresh;
     mails_are = λ m b. absurd b;
   }
-  tick_own base a drawer (r ∷ rs) may live (inl (is, k, none)) mails =
-      let f = ticks drawer base a r mails (may.0 base a is) k in
+  tick_own base a drawer (r ∷ rs) may live (inl (fact, k, none)) mails =
+      let f = ticks drawer base a r mails (may.0 base a fact) k in
       let place = tick_row on drawer (r, mails) in
       let later = tick_far base (names_after_tick on drawer r) rs may.1 live.1 none place.1 in
       record {
@@ -146,10 +147,10 @@ module _ (ahead : Ahead) (bases : List Base) (made : Base → Command → Type 0
         ];
       }
   tick_own base a drawer (r ∷ rs) may live (inr (o, holds)) mails =
-      let (other, b, is, k) = live.0 in
-      let f = ticks drawer other b r mails (may.0 other b is) k in
+      let (other, b, fact, k) = live.0 in
+      let f = ticks drawer other b r mails (may.0 other b fact) k in
       let place = tick_row on drawer (r, mails) in
-      let here = far_part base other b r mails place is o f in
+      let here = far_part base other b r mails place fact o f in
       let later = tick_own base a (names_after_tick on drawer r) rs may.1 live.1 holds place.1 in
       record {
         sent = f.sent ++ later.sent;

@@ -54,7 +54,7 @@ IsOldOrNew bases base = Among base bases ⊎ (IsNew bases base.core.id × ((pare
 module _ (heard : MailBody → Type 0) (bases : List Base) (name : Draw) (new : IsNew bases name) where
   -- a group of these has another name
   one_apart : (group : Draw) → IsOneOf bases group → same_draw group name ≡ false
-  one_apart group (b, a, is) = elim (cases_Bool (same_draw group name)) [ inl t ↦ absurd (new b a (sym is ∙ draw_is group name t)) | inr f ↦ f ]
+  one_apart group (b, a, fact) = elim (cases_Bool (same_draw group name)) [ inl t ↦ absurd (new b a (sym fact ∙ draw_is group name t)) | inr f ↦ f ]
 
   -- so has the group of an answer with a reply
   answer_apart : (group : Draw) (answer : AnswerBody) → IsNamedAnswer bases group answer → IsApartAnswer name group answer
@@ -115,7 +115,7 @@ module _ (name : Draw) where
 
   -- nor is anything at an event
   at_accepts : (sent : List Mail) (row : Row Mail OrderLine) (event : Event OrderLine) → ((m : Mail) → Among m sent → IsApart name m.body) → accepts_at name sent row event ≡ []
-  at_accepts sent row (Deliver number) e = got_accepts row (numbered sent number) (λ m is. e m (number_among sent number m is))
+  at_accepts sent row (Deliver number) e = got_accepts row (numbered sent number) (λ m fact. e m (number_among sent number m fact))
   at_accepts sent row _ e = refl
 
   -- nor in several rows with one more
@@ -169,7 +169,7 @@ pub silent : (ahead : Ahead) (base : Base) (rows : Journal) (row : Row Mail Orde
 silent ahead base rows row e = nothing_decided (none_accepted base.core.id rows row e)
   where
     nothing_decided : accepts base.core.id (rows ++ row ∷ []) ≡ [] → decided_log ahead base (rows ++ row ∷ []) ≡ []
-    nothing_decided is = ap (log_of (rule_of ahead base)) is
+    nothing_decided fact = ap (log_of (rule_of ahead base)) fact
 
 -- what is said of other groups is true in this one, where it is true in another
 module _ (ahead : Ahead) (base other : Base) (made made_there : Command → Type 0) (heard : MailBody → Type 0) (backlog : (client seq : ℕ) (op : Op) → made_there (Call client seq op) → made (Call client seq op)) where

@@ -32,7 +32,7 @@ hears_step group c q =
     comes group (λ d x. HearsMerges x.0)
     (record {
       same = λ d effect dull. q;
-      served = λ client seq op after effect is tx body order heard e. q tx body order heard (ap (λ (core : Core). core.lock) (sym is) ∙ e);
+      served = λ client seq op after effect fact tx body order heard e. q tx body order heard (ap (λ (core : Core). core.lock) (sym fact) ∙ e);
       joined = λ node order. ordered_if HearsMerges group.core.gone _ (with_node group node) group (λ _. q) q;
       left = λ node order. ordered_if HearsMerges group.core.gone _ (without_node group node) group (λ _. q) q;
       parted = λ at child order _. q;
@@ -65,7 +65,7 @@ splits_step group c shared roster q =
     comes group (λ d x. BeginsShared d → SplitsFit x.0)
     (record {
       same = λ d effect dull _. q;
-      served = λ client seq op after effect is _ tx at child order got e. ap (λ (core : Core). can_split core at) is ∙ q tx at child order got (ap (λ (core : Core). core.lock) (sym is) ∙ e);
+      served = λ client seq op after effect fact _ tx at child order got e. ap (λ (core : Core). can_split core at) fact ∙ q tx at child order got (ap (λ (core : Core). core.lock) (sym fact) ∙ e);
       joined = λ node number _. ordered_if SplitsFit group.core.gone (refusal_of group.core (Join node number)) (with_node group node) group
           (λ e tx at child order got l. absurd (no_lock tx (By.Split at child) order got (sym (free_by group.core.lock group.core (Join node number) e) ∙ l))) q;
       left = λ node number _. ordered_if SplitsFit group.core.gone (refusal_of group.core (Leave node number)) (without_node group node) group

@@ -20,8 +20,8 @@ find_there (c ∷ clients) asks (inr a) =
 -- clients ask what their sections say, where no two have one number
 pub asks_are : (owner : Draw → Option Draw) (scenario : Scenario) → ((one other : Asks) → Among one scenario.clients → Among other scenario.clients → one.client ≡ other.client → one ≡ other)
     → AsksAre (record { owner = owner; request = section_op scenario }) scenario
-asks_are owner scenario once asks stands seq op some is =
+asks_are owner scenario once asks stands seq op some fact =
     let (c, there) = find_there scenario.clients asks stands in
     let found = find_found (λ (a : Asks). eqb a.client asks.client) scenario.clients c there in
     let same : c ≡ asks = once c asks found.0 stands (eqb-true c.client asks.client found.1) in
-    sym (ap (λ o. op_or_get (option_and_then (λ (a : Asks). slice_get a.ops (seq - 1)) o)) (there ∙ ap (λ (a : Asks). Some a) same) ∙ ap op_or_get is)
+    sym (ap (λ o. op_or_get (option_and_then (λ (a : Asks). slice_get a.ops (seq - 1)) o)) (there ∙ ap (λ (a : Asks). Some a) same) ∙ ap op_or_get fact)

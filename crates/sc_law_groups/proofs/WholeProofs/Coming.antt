@@ -25,37 +25,37 @@ staying_some n two nine = (omega arith, omega arith)
 
 -- the members that stay are a roster
 pub staying_roster : (members : List ℕ) → IsRoster members → 2 ≤ length members → IsRoster (left_members members)
-staying_roster members is two =
-    let some = staying_some (length members) two is.most in
+staying_roster members fact two =
+    let some = staying_some (length members) two fact.most in
     let low = some.1 in
     let count = length-take-le (staying members) members (omega (arith, low)) in
     let one = some.0 in
-    let most = is.most in
+    let most = fact.most in
     record {
       some = omega (arith, count, one);
       most = omega (arith, count, low, most);
       ascending = λ k within. (
           let here = get_or-take (staying members) members k 0 (omega (arith, within, count)) in
           let next = get_or-take (staying members) members (k + 1) 0 (omega (arith, within, count)) in
-          let up = is.ascending k (omega (arith, within, count, low)) in
+          let up = fact.ascending k (omega (arith, within, count, low)) in
           omega (arith, here, next, up));
     }
 
 -- a union of at most nine is a roster
 pub united_roster : (members others : List ℕ) → IsRoster members → length (united members others) ≤ 9 → IsRoster (united members others)
-united_roster members [] is few = is
-united_roster members (node ∷ others) is few =
+united_roster members [] fact few = fact
+united_roster members (node ∷ others) fact few =
     let more = grows (with_any members node) others in
     let fits : length (with_any members node) ≤ 9 = omega (arith, more, few) in
     united_roster (with_any members node) others (one_more (is_member members node) refl fits) few
   where
     one_more : (b : Bool) → is_member members node ≡ b → length (with_any members node) ≤ 9 → IsRoster (with_any members node)
-    one_more true e fits = subst IsRoster (sym (cond-true (is_member members node) members _ e)) is
+    one_more true e fits = subst IsRoster (sym (cond-true (is_member members node) members _ e)) fact
     one_more false e fits =
         let up : IsStrictlyIncreasing (node ∷ []) = λ k within. absurd (omega (arith, within)) in
         let count = count_united members (node ∷ []) up in
         let one : length (filter (λ x. not (is_member members x)) (node ∷ [])) ≡ 1 = ap (λ b. length (cond (not b) (node ∷ []) [])) e in
-        subst IsRoster (sym (cond-false (is_member members node) members _ e)) (roster_with members node is e (omega (arith, fits, count, one)))
+        subst IsRoster (sym (cond-false (is_member members node) members _ e)) (roster_with members node fact e (omega (arith, fits, count, one)))
 
 -- ---- what may come
 
@@ -124,17 +124,17 @@ none_bound lock tx body order got e t binds = subst (λ l. Binds l t) e binds
 
 -- the members of two groups that may merge are a roster together
 merged_roster : (group : Group) (frozen : Frozen) → may_merge group frozen ≡ true → IsRoster group.core.members → IsRoster (united group.core.members frozen.members)
-merged_roster group frozen t is =
+merged_roster group frozen t fact =
     let fits = and_parts (can_merge group.core frozen) (not (has_key_of group.pairs frozen.pairs)) t in
     let nine = (and_parts _ (nat_le (length (united group.core.members frozen.members)) 9) fits.0).1 in
-    united_roster group.core.members frozen.members is (leb-true _ 9 nine)
+    united_roster group.core.members frozen.members fact (leb-true _ 9 nine)
 
 -- a member that is handed over leaves a roster
 handing_roster : (core : Core) (node : ℕ) (frozen : Frozen) → can_migrate core node frozen ≡ true → IsRoster core.members → IsRoster (without_member core.members node)
-handing_roster core node frozen t is =
+handing_roster core node frozen t fact =
     let parts = and_parts (is_member core.members node && nat_le 2 (length core.members)) (nat_le (length (united frozen.members (node ∷ []))) 9) t in
     let two = (and_parts (is_member core.members node) (nat_le 2 (length core.members)) parts.0).1 in
-    roster_without core.members node is (leb-true 2 (length core.members) two)
+    roster_without core.members node fact (leb-true 2 (length core.members) two)
 
 module _ (group : Group) (P : Command → Group × Effect → Type 0) (k : Cases group P) where
   -- who is bound in a transaction
@@ -156,7 +156,7 @@ module _ (group : Group) (P : Command → Group × Effect → Type 0) (k : Cases
     hears = λ tx order lock frozen by other. k.heard tx order None lock frozen by;
     aborts = λ c tx ends body order got lock. k.ended c tx ends (none_bound _ tx body order got lock) group Is.Abort (as_it_was group);
     divides = λ tx at child order got lock by can. k.ended _ tx refl (none_bound _ tx (By.Split at child) order got lock) (left_group group at child) _
-        (record { voted = refl; decided = refl; roster = λ is. staying_roster group.core.members is (two_members group.core at can) });
+        (record { voted = refl; decided = refl; roster = λ fact. staying_roster group.core.members fact (two_members group.core at can) });
     merges = λ tx order heard lock by may. k.ended _ tx refl (none_bound _ tx By.Merge order (Some heard) lock) (merged_group group heard.frozen) _ (record { voted = refl; decided = refl; roster = merged_roster group heard.frozen may });
     closes = λ tx order lock frozen by two may. k.ended _ tx refl (none_bound _ tx By.Merge order None lock) (closing_group group frozen) _ (record { voted = refl; decided = refl; roster = merged_roster group frozen may });
     gives = λ tx at order lock frozen by here can. k.ended _ tx refl (none_bound _ tx (By.Repart at) order None lock) (giving_group group at frozen) _ (record { voted = refl; decided = refl; roster = λ r. r });
@@ -166,7 +166,7 @@ module _ (group : Group) (P : Command → Group × Effect → Type 0) (k : Cases
     goes = λ tx offer lock into. k.finished tx (binds_it _ tx lock refl) (gone_group group into) _ (record { voted = refl; decided = refl; roster = λ r. r });
     gains = λ tx offer lock at gift can. k.finished tx (binds_it _ tx lock refl) (gained_group group offer at gift) _ (record { voted = refl; decided = refl; roster = λ r. r });
     loses = λ tx offer lock at can. k.finished tx (binds_it _ tx lock refl) (lost_group group at) _ (record { voted = refl; decided = refl; roster = λ r. r });
-    welcomes = λ tx offer lock node few. k.finished tx (binds_it _ tx lock refl) (welcomed_group group node) _ (record { voted = refl; decided = refl; roster = λ is. united_roster group.core.members (node ∷ []) is (leb-true _ 9 few) });
+    welcomes = λ tx offer lock node few. k.finished tx (binds_it _ tx lock refl) (welcomed_group group node) _ (record { voted = refl; decided = refl; roster = λ fact. united_roster group.core.members (node ∷ []) fact (leb-true _ 9 few) });
     sees_end = λ tx watch lock outcome. k.finished tx (binds_it _ tx lock refl) (watcher_after outcome group watch) outcome (record { voted = refl; decided = refl; roster = λ r. r });
   }
     where

@@ -11,7 +11,7 @@ use Rattle.sc_words.specs.commands.Definitions.{is_changed, decided_in, is_alone
 use Rattle.sc_group_table.specs.machine.Definitions.{Group, applied}
 use Rattle.sc_meaning.specs.entries.Definitions.{after_outcome, named_group}
 use Rattle.sc_meaning.specs.declared.entries.LogEntry.{LogEntry}
-use Rattle.sc_law_entries.specs.ring.Definitions.{Sources, IsVoteCast, IsAllowed, AreAllowed, StoryWorld, first_recorded, recorded_next, recorded_after, recorded_stories, Groups, LockOk, IsCoordinating, IsPromised, BeginInPlace, stories_of, Story, Stories, put, retold, unsigned, new_story, vote_in, watch_vote_in, with_vote, with_watch_vote, with_decision, with_asked, with_answer, stories_after}
+use Rattle.sc_law_entries.specs.ring.Definitions.{Sources, IsVoteCast, IsAllowed, AreAllowed, StoryWorld, first_recorded, recorded_next, recorded_after, recorded_stories, Groups, LockOk, IsCoordinating, IsPromised, BeginInPlace, stories_of, Story, Stories, put, with_story, unsigned, new_story, vote_in, watch_vote_in, with_vote, with_watch_vote, with_decision, with_asked, with_answer, stories_after}
 use Rattle.sc_law_entries.proofs.RingProofs.Lemmas.{Decisions, decisions, outcome_of, settle_by, living, living_by, eff, view_of, arc_of, succ_of, Old, IsPair, not_back, at_start, Kept, Ring, KeptWorld, kept_on}
 use Rattle.sc_law_groups.specs.whole.Definitions.{PartiesAreApart}
 use Rattle.sc_law_groups.proofs.WholeProofs.Coming.{IsDull, comes}
@@ -27,12 +27,12 @@ apart_put ys tx o new old t story =
     (λ _ e. new story e) (λ _ e. old t story e)
 
 -- with one story that goes on
-apart_retold : (ys : Stories) (tx : Draw) (f : Story → Story) → ((y : Story) → ys tx ≡ Some y → IsApartStory (f y)) → PartiesAreApart ys → PartiesAreApart (retold ys tx f)
-apart_retold ys tx f new old = by (ys tx) refl
+apart_with_story : (ys : Stories) (tx : Draw) (f : Story → Story) → ((y : Story) → ys tx ≡ Some y → IsApartStory (f y)) → PartiesAreApart ys → PartiesAreApart (with_story ys tx f)
+apart_with_story ys tx f new old = by (ys tx) refl
   where
     by : (o : Option Story) → ys tx ≡ o → PartiesAreApart (put ys tx (option_map f o))
-    by None e = apart_put ys tx None (λ y is. cc) old
-    by (Some story) e = apart_put ys tx (Some (f story)) (λ y is. (let same : f story ≡ y = cc in subst IsApartStory same (new story e))) old
+    by None e = apart_put ys tx None (λ y fact. cc) old
+    by (Some story) e = apart_put ys tx (Some (f story)) (λ y fact. (let same : f story ≡ y = cc in subst IsApartStory same (new story e))) old
 
 -- a transaction that begins has no watcher, or no participant
 apart_new : (s : Group) (body : Body) → IsApartStory (new_story s body)
@@ -68,31 +68,31 @@ merges : (s : Group) (tx : Draw) (vote : Vote) (by : ℕ) → is_changed (applie
 merges s tx vote by changed =
     comes s (λ d x. d ≡ RecordVote tx vote by → is_changed x.1 ≡ true → (order : ℕ) × (got : Option Heard) × (s.core.lock ≡ Coordinating tx At.Merge order got))
     (record {
-      same = λ d effect dull is e. absurd (dull_same effect dull e);
-      served = λ client seq op after effect core is e. cc;
-      joined = λ node order is e. cc;
-      left = λ node order is e. cc;
-      parted = λ at child order free is e. cc;
-      split = λ at child order free is e. cc;
-      begun = λ t body order free is e. cc;
-      offered = λ t offer new is e. cc;
-      asked = λ t watch new is e. cc;
-      heard = λ t order got lock frozen from is e. (let one : t ≡ tx = cc in (order, got, lock ∙ ap (λ d. Coordinating d At.Merge order got) one));
-      ended = λ d t ends free after outcome r is e. cc;
-      finished = λ t binds after outcome r is e. cc;
+      same = λ d effect dull fact e. absurd (dull_same effect dull e);
+      served = λ client seq op after effect core fact e. cc;
+      joined = λ node order fact e. cc;
+      left = λ node order fact e. cc;
+      parted = λ at child order free fact e. cc;
+      split = λ at child order free fact e. cc;
+      begun = λ t body order free fact e. cc;
+      offered = λ t offer new fact e. cc;
+      asked = λ t watch new fact e. cc;
+      heard = λ t order got lock frozen from fact e. (let one : t ≡ tx = cc in (order, got, lock ∙ ap (λ d. Coordinating d At.Merge order got) one));
+      ended = λ d t ends free after outcome r fact e. cc;
+      finished = λ t binds after outcome r fact e. cc;
     }) (RecordVote tx vote by) refl changed
 
 -- a group that is there counts as it stands, where nothing settles it
 eff_open : (f : Decisions) (s : Group) → settle_by s.core.lock f s ≡ s → s.core.gone ≡ None → eff f (Some s) ≡ Some s
 eff_open f s e here = ap living e ∙ ap (λ gone. living_by gone s) here
 
-module _ (sources : Sources) (ring : Ring) (gs : Groups) (ys : Stories) (g : Draw) (s : Group) (k : Kept sources.owner ring gs ys) (is : gs g ≡ Some s) where
+module _ (sources : Sources) (ring : Ring) (gs : Groups) (ys : Stories) (g : Draw) (s : Group) (k : Kept sources.owner ring gs ys) (fact : gs g ≡ Some s) where
   -- the participant that was heard is not its own successor
   heard_apart : (tx : Draw) (frozen : Frozen) → IsVoteCast ys tx (Vows.Yes frozen) → (order : ℕ) (got : Option Heard) → s.core.lock ≡ Coordinating tx At.Merge order got → (story : Story) → ys tx ≡ Some story
       → (offer : Offer) → story.offer ≡ Some offer → offer.part ≡ frozen.succ.group → ⊥
   heard_apart tx frozen cast order got lock story there offer offered same =
-      let own : IsCoordinating ys g s tx At.Merge got = subst (LockOk ys g s) lock (k.0.group g s is).lock_ok in
-      let mine = same_Some story own.story (sym there ∙ own.is) in
+      let own : IsCoordinating ys g s tx At.Merge got = subst (LockOk ys g s) lock (k.0.group g s fact).lock_ok in
+      let mine = same_Some story own.story (sym there ∙ own.fact) in
       let voted = same_Some cast.0 story (sym cast.1 ∙ there) in
       let undecided : story.outcome ≡ None = ap (λ (y : Story). y.outcome) mine ∙ own.undecided in
       let vote : story.vote ≡ Some (Vows.Yes frozen) = ap (λ (y : Story). y.vote) (sym voted) ∙ cast.2 in
@@ -101,11 +101,11 @@ module _ (sources : Sources) (ring : Ring) (gs : Groups) (ys : Stories) (g : Dra
       let name = fr.offer.part in
       let asked : name ≡ offer.part = ap (λ (o : Offer). o.part) (same_Some (unsigned fr.offer) offer (sym fr.offered ∙ offered)) in
       let succ : s.core.succ.group ≡ name = ap (λ (o : Offer). o.part) (same_Some _ (unsigned fr.offer) (sym own.offer ∙ ap (λ (y : Story). y.offer) (sym mine) ∙ fr.offered)) in
-      let bound : IsPromised ys name p tx fr.offer = subst (LockOk ys name p) fr.lock (k.0.group name p fr.is).lock_ok in
+      let bound : IsPromised ys name p tx fr.offer = subst (LockOk ys name p) fr.lock (k.0.group name p fr.fact).lock_ok in
       let f = decisions ys in
       let none : f tx ≡ None = ap outcome_of there ∙ undecided in
-      let here : Old gs ys g ≡ Some s = ap (eff f) is ∙ eff_open f s (ap (λ l. settle_by l f s) lock) own.here in
-      let its : Old gs ys name ≡ Some p = ap (eff f) fr.is ∙ eff_open f p (ap (λ l. settle_by l f p) fr.lock ∙ ap (λ o. after_outcome o tx p) none) bound.here in
+      let here : Old gs ys g ≡ Some s = ap (eff f) fact ∙ eff_open f s (ap (λ l. settle_by l f s) lock) own.here in
+      let its : Old gs ys name ≡ Some p = ap (eff f) fr.fact ∙ eff_open f p (ap (λ l. settle_by l f p) fr.lock ∙ ap (λ o. after_outcome o tx p) none) bound.here in
       let next : p.core.succ.group ≡ frozen.succ.group = ap (λ (x : Frozen). x.succ.group) fr.same in
       let pair : IsPair (view_of (Old gs ys)) g name s.core.arc p.core.arc = record {
         first = ap arc_of here;
@@ -142,19 +142,19 @@ module _ (sources : Sources) (ring : Ring) (gs : Groups) (ys : Stories) (g : Dra
   entry_apart (Begin tx body order) a old =
       cond_both (is_changed (applied s (Begin tx body order)).1) (put ys tx (Some (new_story s body))) ys PartiesAreApart
       (λ _. apart_put ys tx (Some (new_story s body)) (λ y e. (let same : new_story s body ≡ y = cc in subst IsApartStory same (apart_new s body))) old) (λ _. old)
-  entry_apart (Prepared tx offer) a old = apart_retold ys tx _ (λ y e. voted_same (vote_in s (applied s (Prepared tx offer)).1) y (old tx y e)) old
-  entry_apart (Watched tx watch) a old = apart_retold ys tx _ (λ y e. watched_same (watch_vote_in (applied s (Watched tx watch)).1) y (old tx y e)) old
-  entry_apart (RecordVote tx vote by) a old = apart_retold ys tx _ (λ y e. answer_apart tx vote by a y e (old tx y e)) old
-  entry_apart (RecordWatch tx vote by) a old = apart_retold ys tx _ (λ y e. decided_same (decided_in (applied s (RecordWatch tx vote by)).1) y (old tx y e)) old
-  entry_apart (GiveUp tx) a old = apart_retold ys tx _ (λ y e. decided_same (decided_in (applied s (GiveUp tx)).1) y (old tx y e)) old
+  entry_apart (Prepared tx offer) a old = apart_with_story ys tx _ (λ y e. voted_same (vote_in s (applied s (Prepared tx offer)).1) y (old tx y e)) old
+  entry_apart (Watched tx watch) a old = apart_with_story ys tx _ (λ y e. watched_same (watch_vote_in (applied s (Watched tx watch)).1) y (old tx y e)) old
+  entry_apart (RecordVote tx vote by) a old = apart_with_story ys tx _ (λ y e. answer_apart tx vote by a y e (old tx y e)) old
+  entry_apart (RecordWatch tx vote by) a old = apart_with_story ys tx _ (λ y e. decided_same (decided_in (applied s (RecordWatch tx vote by)).1) y (old tx y e)) old
+  entry_apart (GiveUp tx) a old = apart_with_story ys tx _ (λ y e. decided_same (decided_in (applied s (GiveUp tx)).1) y (old tx y e)) old
 
 -- with one entry more
 told_apart : (sources : Sources) (w : StoryWorld) (e : LogEntry) → KeptWorld sources.owner w → IsAllowed sources w.stories e.group e.command → PartiesAreApart w.stories → PartiesAreApart (recorded_next w e).stories
 told_apart sources w e k a old = by (named_group e.group w.store.groups) refl
   where
     by : (o : Option Group) → named_group e.group w.store.groups ≡ o → PartiesAreApart (recorded_stories w.stories o e.command)
-    by None is = old
-    by (Some s) is = entry_apart sources _ _ w.stories e.group s k.kept is e.command a old
+    by None fact = old
+    by (Some s) fact = entry_apart sources _ _ w.stories e.group s k.kept fact e.command a old
 
 -- with all entries
 all_apart : (sources : Sources) (w : StoryWorld) (entries : List LogEntry) → KeptWorld sources.owner w → AreAllowed sources w entries → PartiesAreApart w.stories → PartiesAreApart (recorded_after w entries).stories

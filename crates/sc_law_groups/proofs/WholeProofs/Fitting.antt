@@ -15,7 +15,7 @@ use Rattle.sc_meaning.specs.entries.Definitions.{birth_of, is_named, named_group
 use Rattle.sc_meaning.specs.declared.entries.LogEntry.{LogEntry}
 use Rattle.sc_meaning.proofs.EntriesProofs.Lemmas.{births_are_children}
 use Rattle.sc_words.proofs.PaxosProofs.Lemmas.{Each-among, Each-append, find_found}
-use Rattle.sc_law_entries.specs.ring.Definitions.{Sources, IsAllowed, AreAllowed, StoryWorld, first_recorded, recorded_next, recorded_after, recorded_stories, stories_of, Story, Stories, put, retold, unsigned, new_story, vote_by, vote_in, watch_vote_in, with_vote, with_watch_vote, with_decision, with_asked, stories_after}
+use Rattle.sc_law_entries.specs.ring.Definitions.{Sources, IsAllowed, AreAllowed, StoryWorld, first_recorded, recorded_next, recorded_after, recorded_stories, stories_of, Story, Stories, put, with_story, unsigned, new_story, vote_by, vote_in, watch_vote_in, with_vote, with_watch_vote, with_decision, with_asked, stories_after}
 use Rattle.sc_law_groups.specs.whole.Definitions.{IsFresh, MergesFit}
 use Rattle.sc_law_groups.proofs.WholeProofs.FreshChildren.{fresh_child}
 use Rattle.sc_law_groups.proofs.WholeProofs.Members.{members_after}
@@ -29,12 +29,12 @@ module _ (P : Draw → Story → Type 0) where
   pub put_so : (ys : Stories) (tx : Draw) (o : Option Story) → ((y : Story) → o ≡ Some y → P tx y) → AllSo ys → AllSo (put ys tx o)
   put_so ys tx o new old t story = cond_both (same_draw t tx) o (ys t) (λ (x : Option Story). x ≡ Some story → P t story) (λ q e. subst (λ n. P n story) (sym (draw_is t tx q)) (new story e)) (λ _ e. old t story e)
 
-  pub retold_so : (ys : Stories) (tx : Draw) (f : Story → Story) → ((y : Story) → ys tx ≡ Some y → P tx (f y)) → AllSo ys → AllSo (retold ys tx f)
-  retold_so ys tx f new old = by (ys tx) refl
+  pub with_story_so : (ys : Stories) (tx : Draw) (f : Story → Story) → ((y : Story) → ys tx ≡ Some y → P tx (f y)) → AllSo ys → AllSo (with_story ys tx f)
+  with_story_so ys tx f new old = by (ys tx) refl
     where
       by : (o : Option Story) → ys tx ≡ o → AllSo (put ys tx (option_map f o))
-      by None e = put_so ys tx None (λ y is. cc) old
-      by (Some story) e = put_so ys tx (Some (f story)) (λ y is. (let same : f story ≡ y = cc in subst (P tx) same (new story e))) old
+      by None e = put_so ys tx None (λ y fact. cc) old
+      by (Some story) e = put_so ys tx (Some (f story)) (λ y fact. (let same : f story ≡ y = cc in subst (P tx) same (new story e))) old
 
 -- ---- stories
 
@@ -122,13 +122,13 @@ prepared_fit s roster tx offer y offered k = by (vote_in s (applied s (Prepared 
     by None e = k
     by (Some vote) e = (
       k.0,
-      λ it is merge frozen v. (
+      λ it fact merge frozen v. (
           let vote_is : vote ≡ Vows.Yes frozen = cc in
           let voted = yes_few s tx offer frozen (e ∙ ap (λ x. Some x) vote_is) in
-          let same : unsigned offer ≡ it = (let pair : Some (unsigned offer) ≡ Some it = sym offered ∙ is in cc) in
+          let same : unsigned offer ≡ it = (let pair : Some (unsigned offer) ≡ Some it = sym offered ∙ fact in cc) in
           let body : offer.body ≡ At.Merge = ap (λ (o : Offer). o.body) same ∙ merge in
           let nine = merge_few s.core offer body voted.0 in
-          let its : IsRoster offer.members = subst (λ (o : Offer). IsRoster o.members) (sym same) (k.0 it is) in
+          let its : IsRoster offer.members = subst (λ (o : Offer). IsRoster o.members) (sym same) (k.0 it fact) in
           let turn = either_way offer.members s.core.members its roster in
           let fits : length (united offer.members s.core.members) ≤ 9 = omega (arith, nine, turn) in
           subst (λ (o : Offer). length (united o.members frozen.members) ≤ 9) same (subst (λ (f : Frozen). length (united offer.members f.members) ≤ 9) voted.1 fits)),
@@ -150,13 +150,13 @@ entry_fit sources ys g s roster (Begin tx body order) a old =
     cond_both (is_changed (applied s (Begin tx body order)).1) (put ys tx (Some (new_story s body))) ys AllFit
     (λ _. put_so (λ t y. FitsStory y) ys tx (Some (new_story s body)) (λ y e. (let same : new_story s body ≡ y = cc in subst FitsStory same (fit_new s roster body))) old) (λ _. old)
 entry_fit sources ys g s roster (Prepared tx offer) a old =
-    retold_so (λ t y. FitsStory y) ys tx _ (λ y e. (let same : a.0 ≡ y = (let both : Some a.0 ≡ Some y = sym a.1 ∙ e in cc) in prepared_fit s roster tx offer y (ap (λ (z : Story). z.offer) (sym same) ∙ a.2) (old tx y e))) old
-entry_fit sources ys g s roster (Watched tx watch) a old = retold_so (λ t y. FitsStory y) ys tx _ (λ y e. watched_fit (watch_vote_in (applied s (Watched tx watch)).1) y (old tx y e)) old
-entry_fit sources ys g s roster (RecordVote tx vote by) a old = retold_so (λ t y. FitsStory y) ys tx _ (λ y e. (
+    with_story_so (λ t y. FitsStory y) ys tx _ (λ y e. (let same : a.0 ≡ y = (let both : Some a.0 ≡ Some y = sym a.1 ∙ e in cc) in prepared_fit s roster tx offer y (ap (λ (z : Story). z.offer) (sym same) ∙ a.2) (old tx y e))) old
+entry_fit sources ys g s roster (Watched tx watch) a old = with_story_so (λ t y. FitsStory y) ys tx _ (λ y e. watched_fit (watch_vote_in (applied s (Watched tx watch)).1) y (old tx y e)) old
+entry_fit sources ys g s roster (RecordVote tx vote by) a old = with_story_so (λ t y. FitsStory y) ys tx _ (λ y e. (
     let effect = (applied s (RecordVote tx vote by)).1 in
     cond_both (is_changed effect) (with_asked s.core vote y) (with_decision (decided_in effect) y) FitsStory (λ _. asked_fit s.core vote y (old tx y e)) (λ _. decided_fit (decided_in effect) y (old tx y e)))) old
-entry_fit sources ys g s roster (RecordWatch tx vote by) a old = retold_so (λ t y. FitsStory y) ys tx _ (λ y e. decided_fit (decided_in (applied s (RecordWatch tx vote by)).1) y (old tx y e)) old
-entry_fit sources ys g s roster (GiveUp tx) a old = retold_so (λ t y. FitsStory y) ys tx _ (λ y e. decided_fit (decided_in (applied s (GiveUp tx)).1) y (old tx y e)) old
+entry_fit sources ys g s roster (RecordWatch tx vote by) a old = with_story_so (λ t y. FitsStory y) ys tx _ (λ y e. decided_fit (decided_in (applied s (RecordWatch tx vote by)).1) y (old tx y e)) old
+entry_fit sources ys g s roster (GiveUp tx) a old = with_story_so (λ t y. FitsStory y) ys tx _ (λ y e. decided_fit (decided_in (applied s (GiveUp tx)).1) y (old tx y e)) old
 
 -- the groups of a world have rosters
 abbrev HaveRosters : List Group → Type 0
@@ -192,9 +192,9 @@ told_fit : (sources : Sources) (w : StoryWorld) (e : LogEntry) → IsAllowed sou
 told_fit sources w e a k = by (named_group e.group w.store.groups) refl
   where
     by : (o : Option Group) → named_group e.group w.store.groups ≡ o → Fit (record { store = after_command w.store o e.command; stories = recorded_stories w.stories o e.command })
-    by None is = k
-    by (Some s) is =
-        let there = find_found (is_named e.group) w.store.groups s is in
+    by None fact = k
+    by (Some s) fact =
+        let there = find_found (is_named e.group) w.store.groups s fact in
         let roster = Each-among (λ (group : Group). IsRoster group.core.members) w.store.groups s k.rosters there.0 in
         record { rosters = rosters_after s e.command w.store.groups roster k.rosters; stories = entry_fit sources w.stories e.group s roster e.command a k.stories }
 
@@ -211,5 +211,5 @@ first_rosters (base ∷ bases) fresh = ((fresh base (inl refl)).roster, first_ro
 -- after allowed entries
 pub merges_fit : (sources : Sources) (bases : List Base) → ((base : Base) → Among base bases → IsFresh base) → (entries : List LogEntry) → AreAllowed sources (first_recorded bases) entries → MergesFit (stories_of bases entries)
 merges_fit sources bases fresh entries allowed tx story e offer offered merge frozen vote =
-    let k = all_fit sources (first_recorded bases) entries allowed (record { rosters = first_rosters bases fresh; stories = λ t y is. cc }) in
+    let k = all_fit sources (first_recorded bases) entries allowed (record { rosters = first_rosters bases fresh; stories = λ t y fact. cc }) in
     (k.stories tx story e).1 offer offered merge frozen vote

@@ -18,11 +18,11 @@ use Rattle.sc_law_groups.proofs.WholeProofs.Members.{may_split, members_after}
 
 -- the members that go are a roster
 leaving_roster : (members : List ℕ) → IsRoster members → 2 ≤ length members → IsRoster (right_members members)
-leaving_roster members is two =
-    let some = staying_some (length members) two is.most in
+leaving_roster members fact two =
+    let some = staying_some (length members) two fact.most in
     let low = some.1 in
     let count = length-drop (staying members) members in
-    let most = is.most in
+    let most = fact.most in
     record {
       some = omega (arith, count, low);
       most = omega (arith, count, most);
@@ -31,7 +31,7 @@ leaving_roster members is two =
           let next = get_or-drop (staying members) members (k + 1) 0 in
           let same : staying members + (k + 1) ≡ staying members + k + 1 = omega arith in
           let there = ap (λ n. get_or members n 0) same in
-          let up = is.ascending (staying members + k) (omega (arith, within, count)) in
+          let up = fact.ascending (staying members + k) (omega (arith, within, count)) in
           omega (arith, here, next, there, up));
     }
 
@@ -44,7 +44,7 @@ by_order : (gone : Option Route) (why : Option OrderRefusal) (group : Group) (at
 by_order (Some into) why group at child f kid e = cc
 by_order None (Some why) group at child f kid e = cc
 by_order None None group at child f kid e =
-    cond_both (is_alone group.core) (Some (child_of group at child)) None (λ o. o ≡ Some kid → IsFresh kid) (λ _ is. (let same : child_of group at child ≡ kid = cc in subst IsFresh same (f refl))) (λ _ is. cc) e
+    cond_both (is_alone group.core) (Some (child_of group at child)) None (λ o. o ≡ Some kid → IsFresh kid) (λ _ fact. (let same : child_of group at child ≡ kid = cc in subst IsFresh same (f refl))) (λ _ fact. cc) e
 
 -- the child of a split that its watcher lets go on
 by_release : (body : Body) (group : Group) → IsRoster group.core.members → (kid : Base) → released_child body group ≡ Some kid → IsFresh kid
@@ -53,7 +53,7 @@ by_release (By.Repart at) group roster kid e = cc
 by_release (By.Migrate node) group roster kid e = cc
 by_release (By.Split at child) group roster kid e =
     cond_both (can_split group.core at) (Some (child_of group at child)) None (λ o. o ≡ Some kid → IsFresh kid)
-    (λ can is. (let same : child_of group at child ≡ kid = cc in subst IsFresh same (fresh_of group at child roster can))) (λ _ is. cc) e
+    (λ can fact. (let same : child_of group at child ≡ kid = cc in subst IsFresh same (fresh_of group at child roster can))) (λ _ fact. cc) e
 
 -- whatever the watcher answers
 by_answer : (vote : Past) (body : Body) (group : Group) → IsRoster group.core.members → (kid : Base) → answered_child vote body group ≡ Some kid → IsFresh kid
@@ -67,13 +67,13 @@ by_watch Free group tx vote roster kid e = cc
 by_watch (Promised t offer) group tx vote roster kid e = cc
 by_watch (Watching t watch) group tx vote roster kid e = cc
 by_watch (Coordinating t body order got) group tx vote roster kid e =
-    cond_both (same_draw t tx) (answered_child vote body group) None (λ o. o ≡ Some kid → IsFresh kid) (λ _ is. by_answer vote body group roster kid is) (λ _ is. cc) e
+    cond_both (same_draw t tx) (answered_child vote body group) None (λ o. o ≡ Some kid → IsFresh kid) (λ _ fact. by_answer vote body group roster kid fact) (λ _ fact. cc) e
 
 -- the child of a command
 pub fresh_child : (group : Group) (c : Command) → IsRoster group.core.members → (kid : Base) → child_by group c ≡ Some kid → IsFresh kid
 fresh_child group (Split at child order) roster kid e =
-    cond_both (has_named group.core child) None (ordered_child group.core.gone (refusal_of group.core (Split at child order)) group at child) (λ o. o ≡ Some kid → IsFresh kid) (λ _ is. cc)
-    (λ _ is. by_order group.core.gone (refusal_of group.core (Split at child order)) group at child (λ f. fresh_of group at child roster (may_split group.core at child order roster f)) kid is) e
+    cond_both (has_named group.core child) None (ordered_child group.core.gone (refusal_of group.core (Split at child order)) group at child) (λ o. o ≡ Some kid → IsFresh kid) (λ _ fact. cc)
+    (λ _ fact. by_order group.core.gone (refusal_of group.core (Split at child order)) group at child (λ f. fresh_of group at child roster (may_split group.core at child order roster f)) kid fact) e
 fresh_child group (RecordWatch tx vote by) roster kid e = by_watch group.core.lock group tx vote roster kid e
 fresh_child group _ roster kid e = cc
 

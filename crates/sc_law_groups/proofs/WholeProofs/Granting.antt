@@ -71,11 +71,11 @@ module _ (sources : Sources) (ahead : Ahead) (scenario : Scenario) (start : Begi
 
   -- the decided log goes on from each log of the steps
   on : (log : List Command) → Log log → decided ≡ log ++ drop (length log) decided
-  on log is = goes_on_from ahead base rows lawful log is
+  on log fact = goes_on_from ahead base rows lawful log fact
 
   -- what the group makes allowed as it stands after a log
   state_allows : (log : List Command) → Log log → (other : Draw) (c : Command) → AllowsAsItStands sources name (after log) other c → IsAllowed sources told other c
-  state_allows log is other c stands = states_allow sources ahead scenario.groups start rows turn base among log (drop (length log) decided) (on log is) other c stands
+  state_allows log fact other c stands = states_allow sources ahead scenario.groups start rows turn base among log (drop (length log) decided) (on log fact) other c stands
 
   -- what an entry of its log makes allowed
   prefix_allows : (prefix : List Command) (entry : Command) (later : List Command) → decided ≡ prefix ++ entry ∷ later → (other : Draw) (c : Command) → MakesAllowed sources name (after prefix) entry other c → IsAllowed sources told other c
@@ -83,46 +83,46 @@ module _ (sources : Sources) (ahead : Ahead) (scenario : Scenario) (start : Begi
 
   -- what the last entry of a log makes allowed
   entry_allows : (log : List Command) (c : Command) → Log (log ++ c ∷ []) → (other : Draw) (d : Command) → MakesAllowed sources name (after log) c other d → IsAllowed sources told other d
-  entry_allows log c is other d makes =
-      prefix_allows log c (drop (length (log ++ c ∷ [])) decided) (on (log ++ c ∷ []) is ∙ append_assoc log (c ∷ []) (drop (length (log ++ c ∷ [])) decided)) other d makes
+  entry_allows log c fact other d makes =
+      prefix_allows log c (drop (length (log ++ c ∷ [])) decided) (on (log ++ c ∷ []) fact ∙ append_assoc log (c ∷ []) (drop (length (log ++ c ∷ [])) decided)) other d makes
 
   -- what an earlier entry of a log makes allowed
   ever_allows : (log : List Command) → Log log → (Did : Group → Command → Type 0) (since : Ever Did (group_of base) log) → (other : Draw) (c : Command) → MakesAllowed sources name (after since.prefix) since.entry other c → IsAllowed sources told other c
-  ever_allows log is Did since other c makes =
+  ever_allows log fact Did since other c makes =
       let rest = drop (length log) decided in
       prefix_allows since.prefix since.entry (since.later ++ rest)
-      (on log is ∙ ap (λ l. l ++ rest) since.is ∙ append_assoc since.prefix (since.entry ∷ since.later) rest) other c makes
+      (on log fact ∙ ap (λ l. l ++ rest) since.fact ∙ append_assoc since.prefix (since.entry ∷ since.later) rest) other c makes
 
   -- what is begun has a participant
   shared : (c : Command) → Queues c → BeginsShared c
-  shared c m tx body order is = (subst Queues is m).0.1
+  shared c m tx body order fact = (subst Queues fact m).0.1
 
   -- so the group after a log acts by what the stories record
   stands : (log : List Command) → Log log → Each Queues log → Stands sources told fit name (after log)
-  stands log is all = record {
-    allows = state_allows log is;
+  stands log fact all = record {
+    allows = state_allows log fact;
     merges = hears_merges (group_of base) log fresh.free;
     splits = splits_fit (group_of base) log (Each-weaker Queues BeginsShared shared log all) fresh.roster (none_split (group_of base) fresh.free);
   }
 
   -- a watcher's Yes
   watched : (log : List Command) → Log log → (tx : Draw) (watch : Watch) → (after log).core.lock ≡ Watching tx watch → IsAllowed sources told name (RecordWatch tx Cast.Yes 0)
-  watched log is tx watch e =
+  watched log fact tx watch e =
       let since = watching_since tx watch (group_of base) log fresh.free e in
       let did = since.did in
-      ever_allows log is (WatchesIt tx watch) since name (RecordWatch tx Cast.Yes 0)
+      ever_allows log fact (WatchesIt tx watch) since name (RecordWatch tx Cast.Yes 0)
       (subst (λ d. MakesAllowed sources name (after since.prefix) d name (RecordWatch tx Cast.Yes 0)) (sym did.command)
       ((al (after since.prefix)).watches tx watch (ap (λ d. (applied (after since.prefix) d).1) (sym did.command) ∙ did.effect) name 0))
 
   -- a decision that is noted
   ended : (log : List Command) → Log log → (tx : Draw) (outcome : Outcome) → noted_outcome (after log).core tx ≡ Some outcome → (part : Draw) → IsAllowed sources told part (Finish tx outcome)
-  ended log is tx outcome e part =
+  ended log fact tx outcome e part =
       let got = noted_found tx outcome (find (λ (noted : Draw × Outcome). same_draw noted.0 tx) (after log).core.decided) e in
       let there = find_found (λ (noted : Draw × Outcome). same_draw noted.0 tx) (after log).core.decided got.0 got.1 in
       let pair : got.0 ≡ (tx, outcome) = pair_is got.0 (draw_is got.0.0 tx there.1) got.2 in
       let since = decided_since tx outcome (group_of base) log fresh.decided (subst (λ p. Among p (after log).core.decided) pair there.0) in
       let did = since.did in
-      told_by sources told fit name al (after since.prefix) since.entry tx outcome (ever_allows log is (DecidesIt tx outcome) since) did.ends did.effect part
+      told_by sources told fit name al (after since.prefix) since.entry tx outcome (ever_allows log fact (DecidesIt tx outcome) since) did.ends did.effect part
     where
       pair_is : (p : Draw × Outcome) → p.0 ≡ tx → p.1 ≡ outcome → p ≡ (tx, outcome)
       pair_is p one other = ap (λ d. (let q : Draw × Outcome = (d, p.1) in q)) one ∙ ap (λ o. (let q : Draw × Outcome = (tx, o) in q)) other
@@ -137,21 +137,21 @@ module _ (sources : Sources) (ahead : Ahead) (scenario : Scenario) (start : Begi
 
   -- the Yes of a participant that is bound may be recorded
   participant_yes : (log : List Command) → Log log → (tx : Draw) (offer : Offer) → IsAllowed sources told name (Prepared tx offer) → (lock : Lock) → (after log).core.lock ≡ lock → Binds lock tx → IsAllowed sources told name (RecordVote tx (Vows.Yes (frozen_of (after log))) 0)
-  participant_yes log is tx offer a (Promised t o) e binds =
+  participant_yes log fact tx offer a (Promised t o) e binds =
       subst (λ d. IsAllowed sources told name (RecordVote d (Vows.Yes (frozen_of (after log))) 0)) binds
-      (state_allows log is name (RecordVote t (Vows.Yes (frozen_of (after log))) 0) ((al (after log)).promises t o e name 0))
-  participant_yes log is tx offer a (Watching t w) e binds =
-      absurd (no_both tx offer w a (subst (λ d. IsAllowed sources told name (Watched d w)) binds (state_allows log is name (Watched t w) (stands_watch sources name (after log) t w e))))
-  participant_yes log is tx offer a Free e binds = absurd binds
-  participant_yes log is tx offer a (Coordinating t body order got) e binds = absurd binds
+      (state_allows log fact name (RecordVote t (Vows.Yes (frozen_of (after log))) 0) ((al (after log)).promises t o e name 0))
+  participant_yes log fact tx offer a (Watching t w) e binds =
+      absurd (no_both tx offer w a (subst (λ d. IsAllowed sources told name (Watched d w)) binds (state_allows log fact name (Watched t w) (stands_watch sources name (after log) t w e))))
+  participant_yes log fact tx offer a Free e binds = absurd binds
+  participant_yes log fact tx offer a (Coordinating t body order got) e binds = absurd binds
 
   -- so may that of a watcher
   watcher_yes : (log : List Command) → Log log → (tx : Draw) (watch : Watch) → IsAllowed sources told name (Watched tx watch) → (lock : Lock) → (after log).core.lock ≡ lock → Binds lock tx → IsAllowed sources told name (RecordWatch tx Cast.Yes 0)
-  watcher_yes log is tx watch a (Watching t w) e binds = subst (λ d. IsAllowed sources told name (RecordWatch d Cast.Yes 0)) binds (watched log is t w e)
-  watcher_yes log is tx watch a (Promised t o) e binds =
-      absurd (no_both tx o watch (subst (λ d. IsAllowed sources told name (Prepared d o)) binds (state_allows log is name (Prepared t o) (stands_offer sources name (after log) t o e))) a)
-  watcher_yes log is tx watch a Free e binds = absurd binds
-  watcher_yes log is tx watch a (Coordinating t body order got) e binds = absurd binds
+  watcher_yes log fact tx watch a (Watching t w) e binds = subst (λ d. IsAllowed sources told name (RecordWatch d Cast.Yes 0)) binds (watched log fact t w e)
+  watcher_yes log fact tx watch a (Promised t o) e binds =
+      absurd (no_both tx o watch (subst (λ d. IsAllowed sources told name (Prepared d o)) binds (state_allows log fact name (Prepared t o) (stands_offer sources name (after log) t o e))) a)
+  watcher_yes log fact tx watch a Free e binds = absurd binds
+  watcher_yes log fact tx watch a (Coordinating t body order got) e binds = absurd binds
 
   -- a group whose Yes stands is bound
   binds_it : (log : List Command) (tx : Draw) → standing_vote (after log).core tx ≡ Some Cast.Yes → Binds (after log).core.lock tx
@@ -160,51 +160,51 @@ module _ (sources : Sources) (ahead : Ahead) (scenario : Scenario) (start : Begi
   -- what a participant says of a vote that stands is heard
   said_vote : (log : List Command) → Log log → (tx : Draw) (offer : Offer) → IsAllowed sources told name (Prepared tx offer) → (vote : Past) → standing_vote (after log).core tx ≡ Some vote → (me node : ℕ)
       → AreSaid (IsHeardAt sources ahead scenario rows) (voted_to me (after log) node tx offer vote [])
-  said_vote log is tx offer a Cast.Yes e me node = (participant_yes log is tx offer a (after log).core.lock refl (binds_it log tx e), tt)
-  said_vote log is tx offer a (Cast.No why) e me node = (tt, tt)
-  said_vote log is tx offer a Cast.Ended e me node = tt
+  said_vote log fact tx offer a Cast.Yes e me node = (participant_yes log fact tx offer a (after log).core.lock refl (binds_it log tx e), tt)
+  said_vote log fact tx offer a (Cast.No why) e me node = (tt, tt)
+  said_vote log fact tx offer a Cast.Ended e me node = tt
 
   -- so is what a watcher says
   said_watch : (log : List Command) → Log log → (tx : Draw) (watch : Watch) → IsAllowed sources told name (Watched tx watch) → (vote : Past) → standing_vote (after log).core tx ≡ Some vote → (me node : ℕ)
       → AreSaid (IsHeardAt sources ahead scenario rows) (watched_to me node tx watch vote [])
-  said_watch log is tx watch a Cast.Yes e me node = (watcher_yes log is tx watch a (after log).core.lock refl (binds_it log tx e), tt)
-  said_watch log is tx watch a (Cast.No why) e me node = (tt, tt)
-  said_watch log is tx watch a Cast.Ended e me node = tt
+  said_watch log fact tx watch a Cast.Yes e me node = (watcher_yes log fact tx watch a (after log).core.lock refl (binds_it log tx e), tt)
+  said_watch log fact tx watch a (Cast.No why) e me node = (tt, tt)
+  said_watch log fact tx watch a Cast.Ended e me node = tt
 
   -- so is what a coordinator asks another node
   said_next : (log : List Command) → Log log → Each Queues log → (me from : ℕ) (tx : Draw) (hint : Option ℕ) (lock : Lock) → (after log).core.lock ≡ lock
       → AreSaid (IsHeardAt sources ahead scenario rows) (asked_next lock me (after log).core from tx hint [])
-  said_next log is all me from tx hint Free e = tt
-  said_next log is all me from tx hint (Promised t o) e = tt
-  said_next log is all me from tx hint (Watching t w) e = tt
-  said_next log is all me from tx hint (Coordinating t body order got) e =
+  said_next log fact all me from tx hint Free e = tt
+  said_next log fact all me from tx hint (Promised t o) e = tt
+  said_next log fact all me from tx hint (Watching t w) e = tt
+  said_next log fact all me from tx hint (Coordinating t body order got) e =
       cond_both (same_draw t tx) _ [] (AreSaid (IsHeardAt sources ahead scenario rows))
-      (λ same. (said_question sources told fit name al (after log) (stands log is all) me tx body order got (e ∙ ap (λ d. Coordinating d body order got) (draw_is t tx same)), tt)) (λ _. tt)
+      (λ same. (said_question sources told fit name al (after log) (stands log fact all) me tx body order got (e ∙ ap (λ d. Coordinating d body order got) (draw_is t tx same)), tt)) (λ _. tt)
 
   -- ---- all together
 
   -- what comes of a mail
   met : (log : List Command) → Log log → Each Queues log → (body : MailBody) → IsHeardAt sources ahead scenario rows body → group_of_mail body ≡ Some name → Meets Queues (IsHeardAt sources ahead scenario rows) (after log) body
-  met log is all (TxPrepare tx offer) h named =
+  met log fact all (TxPrepare tx offer) h named =
       let a = subst (λ n. IsAllowed sources told n (Prepared tx offer)) (same_Some offer.part name named) h in
-      ((a, tt), said_vote log is tx offer a)
-  met log is all (TxWatch tx watch) h named =
+      ((a, tt), said_vote log fact tx offer a)
+  met log fact all (TxWatch tx watch) h named =
       let a = subst (λ n. IsAllowed sources told n (Watched tx watch)) (same_Some watch.part name named) h in
-      ((a, tt), said_watch log is tx watch a)
-  met log is all (TxVote tx coord part vote) h named = ((λ from. (h, tt)), (λ outcome e. ended log is tx outcome e part))
-  met log is all (TxWatched tx coord part vote) h named = ((λ from. (h, tt)), (λ outcome e. ended log is tx outcome e part))
-  met log is all (TxOutcome tx part outcome) h named = (h, tt)
-  met log is all (TxElsewhere tx coord hint) h named = λ me from. said_next log is all me from tx hint (after log).core.lock refl
-  met log is all _ h named = tt
+      ((a, tt), said_watch log fact tx watch a)
+  met log fact all (TxVote tx coord part vote) h named = ((λ from. (h, tt)), (λ outcome e. ended log fact tx outcome e part))
+  met log fact all (TxWatched tx coord part vote) h named = ((λ from. (h, tt)), (λ outcome e. ended log fact tx outcome e part))
+  met log fact all (TxOutcome tx part outcome) h named = (h, tt)
+  met log fact all (TxElsewhere tx coord hint) h named = λ me from. said_next log fact all me from tx hint (after log).core.lock refl
+  met log fact all _ h named = tt
 
   -- the group's replicas say and queue what is true and allowed
   pub speaks : Speaks ahead base Queues (IsHeardAt sources ahead scenario rows) (h_of rows base)
   speaks = record {
     noop = (tt, tt);
     elsewhere = λ body h tx coord hint. tt;
-    goes_on = λ log c is all m me. goes_on sources told fit name al (after log) (before_of (after log).core) me c (entry_allows log c is) (shared c m)
-        (subst (Stands sources told fit name) (state_push (group_of base) log c) (stands (log ++ c ∷ []) is (Each-append Queues log (c ∷ []) all (m, tt))));
-    reminds = λ log is all me. said_reminders sources told fit name al (after log) (stands log is all) (watched log is) me (after log).core.lock refl;
-    gives_up = λ log is all tx body order got e. (tt, tt);
+    goes_on = λ log c fact all m me. goes_on sources told fit name al (after log) (before_of (after log).core) me c (entry_allows log c fact) (shared c m)
+        (subst (Stands sources told fit name) (state_push (group_of base) log c) (stands (log ++ c ∷ []) fact (Each-append Queues log (c ∷ []) all (m, tt))));
+    reminds = λ log fact all me. said_reminders sources told fit name al (after log) (stands log fact all) (watched log fact) me (after log).core.lock refl;
+    gives_up = λ log fact all tx body order got e. (tt, tt);
     meets = met;
   }

@@ -17,7 +17,7 @@ use Rattle.sc_law_groups.proofs.WholeProofs.Apart.{IsApart, IsNew, IsOldOrNew, n
 module _ (heard : MailBody → Type 0) (bases more : List Base) (all : (b : Base) → Among b bases → Among b more) where
   -- a group of these is one of those
   more_one : (group : Draw) → IsOneOf bases group → IsOneOf more group
-  more_one group (b, a, is) = (b, all b a, is)
+  more_one group (b, a, fact) = (b, all b a, fact)
 
   -- what an answer names is of those groups
   more_answer : (group : Draw) (answer : AnswerBody) → IsNamedAnswer bases group answer → IsNamedAnswer more group answer
@@ -60,7 +60,7 @@ module _ (ahead : Ahead) (scenario : Scenario) (firsts bases more : List Base) (
 
     -- no replica has a new name
     others : (b : Base) → IsNew bases b.core.id → (n : ℕ) (node : NodeState) → IsNode ahead bases (made rows) (h_of rows) n node → Each (IsOther b.core.id) node.replicas
-    others b new n node at = Each-weaker (λ r. IsOneOf bases (name_of r)) (IsOther b.core.id) (λ r is same. new is.0 is.1 (sym is.2 ∙ same)) node.replicas at.known
+    others b new n node at = Each-weaker (λ r. IsOneOf bases (name_of r)) (IsOther b.core.id) (λ r fact same. new fact.0 fact.1 (sym fact.2 ∙ same)) node.replicas at.known
 
     -- what each group says of a node holds
     holds_of : (n : ℕ) (node : NodeState) → IsNode ahead bases (made rows) (h_of rows) n node → (b : Base) → IsOldOrNew bases b → Holds ahead b (made rows b) n (h_of rows b) node.replicas
@@ -73,10 +73,10 @@ module _ (ahead : Ahead) (scenario : Scenario) (firsts bases more : List Base) (
     node_of n at = record {
       node = at.node;
       value_is = at.value_is;
-      is = record {
-        me_is = at.is.me_is;
-        known = Each-weaker (λ r. IsOneOf bases (name_of r)) (λ r. IsOneOf more (name_of r)) (λ r is. more_one (heard rows) bases more all (name_of r) is) at.node.replicas at.is.known;
-        holds = λ b a. holds_of n at.node at.is b (old b a);
+      fact = record {
+        me_is = at.fact.me_is;
+        known = Each-weaker (λ r. IsOneOf bases (name_of r)) (λ r. IsOneOf more (name_of r)) (λ r fact. more_one (heard rows) bases more all (name_of r) fact) at.node.replicas at.fact.known;
+        holds = λ b a. holds_of n at.node at.fact b (old b a);
       };
     }
 
@@ -89,7 +89,7 @@ module _ (ahead : Ahead) (scenario : Scenario) (firsts bases more : List Base) (
     client_of asks at = record {
       client = at.client;
       value_is = at.value_is;
-      is = record { me = at.is.me; requests = at.is.requests; waits = at.is.waits; replies = λ i reply e. answered asks.client (i + 1) reply (at.is.replies i reply e) };
+      fact = record { me = at.fact.me; requests = at.fact.requests; waits = at.fact.waits; replies = λ i reply e. answered asks.client (i + 1) reply (at.fact.replies i reply e) };
       fresh = at.fresh;
     }
 

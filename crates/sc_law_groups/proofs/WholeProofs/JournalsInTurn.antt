@@ -17,7 +17,7 @@ use Rattle.sc_law_entries.proofs.RingProofs.Lemmas.{at_start, kept_after, store_
 use Rattle.sc_law_entries.specs.logs.Definitions.{Rows, added_by, newborn_by, AreFound, IsNewborn, DecidesInTurn, DecideInTurn}
 use Rattle.sc_law_entries.proofs.LogsProofs.Lemmas.{allowed_stays_allowed, BornBy, born_by, all_allowed, deciding_rows, groups_are_found, groups_are_old_or_new, group_found, deciding_rows_stay, rows_go_on, Told, state_there}
 use Rattle.sc_law_entries.proofs.NamesProofs.Lemmas.{Each-drop}
-use Rattle.sc_law_groups.proofs.GroupProofs.Lemmas.{first_of, IsIssued, IsAnswered, h_of, Kept, Stepped, IsLater, Moved, push, log_goes_on, decided_made, or_now, issue-push, HasPlayers, MayTell, KnowsOffspring, moved}
+use Rattle.sc_law_groups.proofs.GroupProofs.Lemmas.{first_of, IsIssued, IsAnswered, h_of, Kept, Stepped, IsLater, Moved, push, log_goes_on, decided_made, or_now, issue-push, HasPlayers, MayGiveOrder, KnowsOffspring, moved}
 use Rattle.sc_law_groups.specs.whole.Definitions.{stories_at, IsIssuedCall, MayQueue, IsHeardAt, IsFresh, HasSeats, AsksAre, PartiesAreApart, MergesFit}
 use Rattle.sc_law_groups.proofs.WholeProofs.Apart.{IsNew, IsOldOrNew, named_apart, silent}
 use Rattle.sc_law_groups.proofs.WholeProofs.FreshChildren.{fresh_children}
@@ -27,6 +27,10 @@ use Rattle.sc_law_groups.proofs.WholeProofs.WholePrefixes.{goes_on_from}
 use Rattle.sc_law_groups.proofs.WholeProofs.Granting.{speaks}
 use Rattle.sc_law_groups.proofs.WholeProofs.Growing.{grown}
 use Rattle.sc_law_groups.proofs.WholeProofs.Members.{members_stay_rosters}
+
+-- a newborn has a new name
+pub newborn_is_new : (ahead : Ahead) (firsts : List Base) (rows : Rows) (row : Row Mail OrderLine) → AreFound ahead firsts rows → (base : Base) → IsNewborn ahead firsts rows row base → IsNew (groups_at ahead firsts rows) base.core.id
+newborn_is_new ahead firsts rows row found base n other o same = some_none other (sym (found.known other o).birth ∙ ap (birth_at ahead firsts rows) same ∙ n.unborn)
 
 -- the child of an entry is one of its log's
 pub child_in : (group : Group) (prefix : List Command) (c : Command) (child : Base) → birth_of (state_after group prefix) c (applied (state_after group prefix) c).1 ≡ Some child → Among child (children_of group (prefix ++ c ∷ []))
@@ -173,18 +177,18 @@ module _ (sources : Sources) (ahead : Ahead) (words : ℕ → ℕ → ℕ × ℕ
 
     -- a child that is created is one of the groups, under a name of its own
     offspring : KnowsOffspring ahead words scenario scenario.groups (bases rows) route made heard players rows
-    offspring n b a child is =
-        let log = is.prefix ++ is.command ∷ [] in
+    offspring n b a child fact =
+        let log = fact.prefix ++ fact.command ∷ [] in
         let decided = decided_log ahead b rows in
-        let on = goes_on_from ahead b rows (h.kept.parts b a).lawful log is.is_log in
-        let birth = sym (births_are_children (state_after (group_of b) is.prefix) is.command) ∙ is.child_is in
+        let on = goes_on_from ahead b rows (h.kept.parts b a).lawful log fact.is_log in
+        let birth = sym (births_are_children (state_after (group_of b) fact.prefix) fact.command) ∙ fact.child_is in
         record {
-          among = found.prefixes b a log (drop (length log) decided) on child (child_in (group_of b) is.prefix is.command child birth);
-          alone = λ other o same. found.apart other child o (found.prefixes b a log (drop (length log) decided) on child (child_in (group_of b) is.prefix is.command child birth)) same;
+          among = found.prefixes b a log (drop (length log) decided) on child (child_in (group_of b) fact.prefix fact.command child birth);
+          alone = λ other o same. found.apart other child o (found.prefixes b a log (drop (length log) decided) on child (child_in (group_of b) fact.prefix fact.command child birth)) same;
           open_slots = seats.open_slots;
         }
 
-    module _ (row : Row Mail OrderLine) (may : MayTell ahead words scenario scenario.groups (bases rows) route made heard players rows row.who row.event)
+    module _ (row : Row Mail OrderLine) (may : MayGiveOrder ahead words scenario scenario.groups (bases rows) route made heard players rows row.who row.event)
         (step : IsStep (system_of ahead words scenario) rows row) where
       -- what became of each part
       moves : Moved ahead scenario scenario.groups (bases rows) route made heard rows row
@@ -216,7 +220,7 @@ module _ (sources : Sources) (ahead : Ahead) (words : ℕ → ℕ → ℕ × ℕ
           let old = kept_replies route asks rows in
           let next = rows ++ row ∷ [] in
           let was = h.kept.clients asks stands in
-          let had = λ (e : slice_get old place ≡ Some reply). was.is.replies place reply (subst (λ (rs : List Reply). slice_get rs place ≡ Some reply) (ap replies_of was.value_is) e) in
+          let had = λ (e : slice_get old place ≡ Some reply). was.fact.replies place reply (subst (λ (rs : List Reply). slice_get rs place ≡ Some reply) (ap replies_of was.value_is) e) in
           elim (moves.clients asks stands).grew [
             | inl same ↦ had (subst (λ (rs : List Reply). slice_get rs place ≡ Some reply) same at)
             | inr (newest, grew, answered) ↦ elim (get_pushed old newest place reply (subst (λ (rs : List Reply). slice_get rs place ≡ Some reply) grew at)) [
@@ -230,13 +234,9 @@ module _ (sources : Sources) (ahead : Ahead) (words : ℕ → ℕ → ℕ × ℕ
       after : Kept ahead scenario scenario.groups (bases rows) route made heard (rows ++ row ∷ [])
       after = push ahead scenario scenario.groups (bases rows) route made heard rows row (later row steps) h.kept moves
 
-      -- a newborn has a new name
-      is_new : (b : Base) → IsNewborn ahead scenario.groups rows row b → IsNew (bases rows) b.core.id
-      is_new b n other o same = some_none other (sym (found.known other o).birth ∙ ap (birth_at ahead scenario.groups rows) same ∙ n.unborn)
-
       -- the groups after the row
       old_or_new : (b : Base) → Among b (bases (rows ++ row ∷ [])) → IsOldOrNew (bases rows) b
-      old_or_new b a = elim (groups_are_old_or_new sources ahead scenario.groups start rows h.turn row decides b a) [ inl was ↦ inl was | inr n ↦ inr (is_new b n, (n.parent, n.stands)) ]
+      old_or_new b a = elim (groups_are_old_or_new sources ahead scenario.groups start rows h.turn row decides b a) [ inl was ↦ inl was | inr n ↦ inr (newborn_is_new ahead scenario.groups rows row found b n, (n.parent, n.stands)) ]
 
       -- nothing had happened to them at their birth
       fresh_next : (b : Base) → Among b (bases (rows ++ row ∷ [])) → IsFresh b

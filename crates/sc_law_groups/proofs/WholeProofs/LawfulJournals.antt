@@ -16,10 +16,14 @@ use Rattle.sc_scenario.specs.declared.scenario.scenarios.Scenario.{Scenario}
 use Rattle.sc_law_entries.specs.ring.Definitions.{Sources, IsAllowed, BeginInPlace}
 use Rattle.sc_law_entries.specs.logs.Definitions.{HasOneValue, IsIssuedIn, IsDecidedBefore, HoldsBeside, Rows, added_by}
 use Rattle.sc_law_entries.specs.names.Definitions.{waited, wished_at}
-use Rattle.sc_law_groups.proofs.GroupProofs.Lemmas.{at_start, h_of, held, IsOneOf, IsNode, one_value, is_log, longest, executed_is, MayTell, MayTick}
+use Rattle.sc_law_groups.proofs.GroupProofs.Lemmas.{at_start, h_of, held, IsOneOf, IsNode, one_value, is_log, longest, executed_is, MayGiveOrder, MayTick}
 use Rattle.sc_law_groups.specs.whole.Definitions.{OrdersAreAllowed, stories_at, IsIssuedCall, MayQueue, IsHeardAt, IsFresh, HasSeats, AsksAre}
 use Rattle.sc_law_groups.proofs.WholeProofs.Replies.{decided_before, replies_are_decided}
 use Rattle.sc_law_groups.proofs.WholeProofs.JournalsInTurn.{Holds, players, issued_now, told_now, holds_next}
+
+-- each step of the system that may come next keeps what holds of a journal
+abbrev pub StepsKeep : Ahead → (ℕ → ℕ → ℕ × ℕ) → Scenario → (Rows → Type 0) → Type 0
+StepsKeep ahead words scenario P = (rows : Rows) (row : Row Mail OrderLine) → P rows → IsStep (system_of ahead words scenario) rows row → P (rows ++ row ∷ [])
 
 -- what an order queues is no call
 no_call : (scenario : Scenario) (rows : Rows) (name : Draw) (number : ℕ) (order : Order) → IsIssuedCall scenario rows (ordered_command name number order)
@@ -48,30 +52,30 @@ module _ (sources : Sources) (ahead : Ahead) (words : ℕ → ℕ → ℕ × ℕ
   may_tick : (all before : Rows) (row : Row Mail OrderLine) (later : Rows) → all ≡ before ++ row ∷ later → OrdersAreAllowed sources ahead scenario all → row.event ≡ Tick → 1 ≤ row.who → row.who ≤ scenario.nodes
       → (node : NodeState) → value player_table (node_seat ahead scenario.groups scenario.policy row.who) before ≡ ANode node → (older rs : List ReplicaState) → node.replicas ≡ older ++ rs
       → MayTick (bases before) (MayQueue sources ahead scenario before) node.policy (names_after_ticks node.policy node.draws older) rs
-  may_tick all before row later are orders e low high node is older [] all_are = tt
-  may_tick all before row later are orders e low high node is older (r ∷ rs) all_are = (
+  may_tick all before row later are orders e low high node fact older [] all_are = tt
+  may_tick all before row later are orders e low high node fact older (r ∷ rs) all_are = (
     λ b a into here leads line wished taken. (
         let name = next_name (names_after_ticks node.policy node.draws older) in
         let orders_it : wished_at node.policy r ≡ Some line = cond-false (is_some r.group.core.gone || not (is_member (members r) r.me)) None (cond (not (settled r)) None (wished_line node.policy (waited r))) here
         ∙ cond-false (not (settled r)) None (wished_line node.policy (waited r)) leads ∙ wished in (
           subst (λ n. IsAllowed sources (stories_at ahead scenario.groups before) n (ordered_command name line.number line.order)) into
-              (orders.wished before row later are e low high node is older rs r all_are line orders_it taken (stories_at ahead scenario.groups before)),
+              (orders.wished before row later are e low high node fact older rs r all_are line orders_it taken (stories_at ahead scenario.groups before)),
           no_call scenario before name line.number line.order,
         )),
     subst (λ (d : Drawer). MayTick (bases before) (MayQueue sources ahead scenario before) node.policy d rs) (names_push node.policy node.draws older r)
-        (may_tick all before row later are orders e low high node is (older ++ r ∷ []) rs (all_are ∙ sym (append_assoc older (r ∷ []) rs))),
+        (may_tick all before row later are orders e low high node fact (older ++ r ∷ []) rs (all_are ∙ sym (append_assoc older (r ∷ []) rs))),
   )
 
   -- what an order may queue
   may_tell : (all before : Rows) (row : Row Mail OrderLine) (later : Rows) → all ≡ before ++ row ∷ later → OrdersAreAllowed sources ahead scenario all → (h : All before) → (event : Event OrderLine) → row.event ≡ event
-      → MayTell ahead words scenario scenario.groups (bases before) route (MayQueue sources ahead scenario) (IsHeardAt sources ahead scenario) (players sources ahead words scenario route start seats asks_are before h) before row.who event
+      → MayGiveOrder ahead words scenario scenario.groups (bases before) route (MayQueue sources ahead scenario) (IsHeardAt sources ahead scenario) (players sources ahead words scenario route start seats asks_are before h) before row.who event
   unfolding names_after_ticks
-  may_tell all before row later are orders h (Told line) e = λ low high node is b a into r found taken. (
+  may_tell all before row later are orders h (Told line) e = λ low high node fact b a into r found taken. (
     subst (λ n. IsAllowed sources (stories_at ahead scenario.groups before) n (ordered_command (next_name node.draws) line.number line.order)) into
-        (orders.told before row later are line e low high node is r found taken (stories_at ahead scenario.groups before)),
+        (orders.told before row later are line e low high node fact r found taken (stories_at ahead scenario.groups before)),
     no_call scenario before (next_name node.draws) line.number line.order,
   )
-  may_tell all before row later are orders h Tick e = λ low high node is. may_tick all before row later are orders e low high node is [] node.replicas refl
+  may_tell all before row later are orders h Tick e = λ low high node fact. may_tick all before row later are orders e low high node fact [] node.replicas refl
   may_tell all before row later are orders h _ e = tt
 
   -- ---- beside, where all holds
@@ -87,11 +91,11 @@ module _ (sources : Sources) (ahead : Ahead) (words : ℕ → ℕ → ℕ × ℕ
 
     -- so have those of all nodes
     have_run : AllHaveRun ahead scenario rows
-    have_run n low high node is r a =
+    have_run n low high node fact r a =
         let at = h.kept.nodes n low high in
-        let found : ANode at.node ≡ ANode node = sym at.value_is ∙ is in
+        let found : ANode at.node ≡ ANode node = sym at.value_is ∙ fact in
         let same : at.node ≡ node = cc in
-        node_has_run n node (subst (IsNode ahead (bases rows) (MayQueue sources ahead scenario rows) (h_of rows) n) same at.is) r a
+        node_has_run n node (subst (IsNode ahead (bases rows) (MayQueue sources ahead scenario rows) (h_of rows) n) same at.fact) r a
 
     -- each slot of a group has one value
     values : (b : Base) → Among b (bases rows) → HasOneValue ahead b rows
@@ -105,7 +109,7 @@ module _ (sources : Sources) (ahead : Ahead) (words : ℕ → ℕ → ℕ × ℕ
     P rows = (more : Rows) → all ≡ rows ++ more → All rows
 
     -- one row more keeps it
-    keeps : (rows : Rows) (row : Row Mail OrderLine) → P rows → IsStep (system_of ahead words scenario) rows row → P (rows ++ row ∷ [])
+    keeps : StepsKeep ahead words scenario P
     keeps rows row p step more e =
         let are : all ≡ rows ++ row ∷ more = e ∙ append_assoc rows (row ∷ []) more in
         let h = p (row ∷ more) are in
@@ -118,7 +122,7 @@ module _ (sources : Sources) (ahead : Ahead) (words : ℕ → ℕ → ℕ × ℕ
 
       -- so all holds of each
       holds_at : (rows more : Rows) → all ≡ rows ++ more → All rows
-      holds_at rows more e = lawful-induction (system_of ahead words scenario) P keeps (schedule scenario) rows (λ rest is. holds_first) (first_lawful rows more e) more e
+      holds_at rows more e = lawful-induction (system_of ahead words scenario) P keeps (schedule scenario) rows (λ rest fact. holds_first) (first_lawful rows more e) more e
 
       -- and of the whole
       pub holds : All all

@@ -21,7 +21,7 @@ pub record Ever (Did : Group → Command → Type 0) (group : Group) (log : List
   pub prefix : List Command
   pub entry : Command
   pub later : List Command
-  pub is : log ≡ prefix ++ entry ∷ later
+  pub fact : log ≡ prefix ++ entry ∷ later
   pub did : Did (state_after group prefix) entry
 
 -- what a log brings about held before it, or an entry brought it about
@@ -32,9 +32,9 @@ ever Q Did step group (c ∷ log) q =
     elim (ever Q Did step (applied group c).0 log q) [
       | inl here ↦ elim (step group c here) [
         | inl old ↦ inl old
-        | inr did ↦ inr (record { prefix = []; entry = c; later = log; is = refl; did = did })
+        | inr did ↦ inr (record { prefix = []; entry = c; later = log; fact = refl; did = did })
       ]
-      | inr e ↦ inr (record { prefix = c ∷ e.prefix; entry = e.entry; later = e.later; is = ap (λ cs. c ∷ cs) e.is; did = e.did })
+      | inr e ↦ inr (record { prefix = c ∷ e.prefix; entry = e.entry; later = e.later; fact = ap (λ cs. c ∷ cs) e.fact; did = e.did })
     ]
 
 -- what each entry keeps holds after a log
@@ -74,7 +74,7 @@ module _ (tx : Draw) (watch : Watch) where
       elim (comes group (Came group)
       (record {
         same = λ d effect dull e. inl e;
-        served = λ client seq op after effect is e. inl (subst (λ (core : Core). core.lock ≡ Watching tx watch) is e);
+        served = λ client seq op after effect fact e. inl (subst (λ (core : Core). core.lock ≡ Watching tx watch) fact e);
         joined = λ node order. ordered_if (λ g. Came group (Join node order) (g, (applied group (Join node order)).1)) group.core.gone (refusal_of group.core (Join node order)) (with_node group node) group (λ _ e. inl e) (λ e. inl e);
         left = λ node order. ordered_if (λ g. Came group (Leave node order) (g, (applied group (Leave node order)).1)) group.core.gone (refusal_of group.core (Leave node order)) (without_node group node) group (λ _ e. inl e) (λ e. inl e);
         parted = λ at child order _ e. inl e;
@@ -115,9 +115,9 @@ module _ (tx : Draw) (outcome : Outcome) where
   CameOf group d x = HasIt x.0 → HasIt group ⊎ (EndsIt tx d × (x.1 ≡ Was.Decided outcome))
 
   one_more : (group : Group) (d : Command) (t : Draw) (o : Outcome) (old : List (Draw × Outcome)) → old ≡ group.core.decided → EndsIt t d → Among (tx, outcome) (old ++ (t, o) ∷ []) → HasIt group ⊎ (EndsIt tx d × (Was.Decided o ≡ Was.Decided outcome))
-  one_more group d t o old is ends a =
+  one_more group d t o old fact ends a =
       elim (Among-either (tx, outcome) old ((t, o) ∷ []) a) [
-        | inl b ↦ inl (subst (Among (tx, outcome)) is b)
+        | inl b ↦ inl (subst (Among (tx, outcome)) fact b)
         | inr (inl e) ↦ inr (subst (λ n. EndsIt n d) (ap (λ (p : Draw × Outcome). p.0) e) ends, ap (λ (p : Draw × Outcome). Was.Decided p.1) e)
         | inr (inr none) ↦ absurd none
       ]
@@ -128,7 +128,7 @@ module _ (tx : Draw) (outcome : Outcome) where
       elim (comes group (CameOf group)
       (record {
         same = λ d effect dull a. inl a;
-        served = λ client seq op after effect is a. inl (subst (λ (core : Core). Among (tx, outcome) core.decided) is a);
+        served = λ client seq op after effect fact a. inl (subst (λ (core : Core). Among (tx, outcome) core.decided) fact a);
         joined = λ node order. ordered_if (λ g. CameOf group (Join node order) (g, (applied group (Join node order)).1)) group.core.gone (refusal_of group.core (Join node order)) (with_node group node) group (λ _ a. inl a) (λ a. inl a);
         left = λ node order. ordered_if (λ g. CameOf group (Leave node order) (g, (applied group (Leave node order)).1)) group.core.gone (refusal_of group.core (Leave node order)) (without_node group node) group (λ _ a. inl a) (λ a. inl a);
         parted = λ at child order _ a. inl a;
@@ -191,7 +191,7 @@ module _ (tx : Draw) where
       (λ (o : Option (Draw × Past)). option_map (λ (vote : Draw × Past). vote.1) o ≡ Some Cast.Yes → (noted (v ∷ voted) ≡ Some Cast.Yes) × (t ≡ tx → ⊥))
       (λ same got_it. (
         ap (option_map (λ (vote : Draw × Past). vote.1)) (cond-true (same_draw v.0 tx) (Some v) _ same) ∙ got_it,
-        λ is. (let no_way : true ≡ false = sym (same_name v.0 t (draw_is v.0 tx same ∙ sym is)) ∙ e in absurd (cc)),
+        λ fact. (let no_way : true ≡ false = sym (same_name v.0 t (draw_is v.0 tx same ∙ sym fact)) ∙ e in absurd (cc)),
       ))
       (λ other more. (let k = rest more in (ap (option_map (λ (vote : Draw × Past). vote.1)) (cond-false (same_draw v.0 tx) (Some v) _ other) ∙ k.0, k.1))) got
 
@@ -254,7 +254,7 @@ module _ (tx : Draw) where
       comes group (λ d x. YesBinds x.0)
       (record {
         same = λ d effect dull. y;
-        served = λ client seq op after effect is. subst (λ (core : Core). noted core.voted ≡ Some Cast.Yes → Binds core.lock tx) (sym is) y;
+        served = λ client seq op after effect fact. subst (λ (core : Core). noted core.voted ≡ Some Cast.Yes → Binds core.lock tx) (sym fact) y;
         joined = λ node order. ordered_if YesBinds group.core.gone _ (with_node group node) group (λ _. y) y;
         left = λ node order. ordered_if YesBinds group.core.gone _ (without_node group node) group (λ _. y) y;
         parted = λ at child order _. y;

@@ -24,7 +24,7 @@ use Rattle.sc_law_groups.proofs.WholeProofs.WholePrefixes.{goes_on_from}
 -- lists that two functions make are the same at each element
 mapped_same : {X Y : Type 0} (f g : X → Y) (xs : List X) → map f xs ≡ map g xs → (x : X) → Among x xs → f x ≡ g x
 mapped_same f g [] e x a = absurd a
-mapped_same f g (y ∷ ys) e x (inl is) = (let same : f y ≡ g y = cc in subst (λ z. f z ≡ g z) is same)
+mapped_same f g (y ∷ ys) e x (inl fact) = (let same : f y ≡ g y = cc in subst (λ z. f z ≡ g z) fact same)
 mapped_same f g (y ∷ ys) e x (inr a) = (let rest : map f ys ≡ map g ys = cc in mapped_same f g ys rest x a)
 
 -- routes of the same group, start and members are one
@@ -49,10 +49,10 @@ one_route one other asks e =
 -- so it is the scenario's first group
 route_is : (ahead : Ahead) (scenario : Scenario) (route : Route) → HasSeats ahead scenario route
     → (group : Base) (others : List Base) → scenario.groups ≡ group ∷ others → (asks : Asks) → Among asks scenario.clients → route_of group ≡ route
-route_is ahead scenario route seats group others is asks stands =
+route_is ahead scenario route seats group others fact asks stands =
     let nodes = map (node_seat ahead scenario.groups scenario.policy) (numbers_from 1 scenario.nodes) in
     let clients = append_cancel_left nodes (client_seats scenario.groups scenario.clients) (map (client_seat route) scenario.clients) seats.seats in
-    let same : map (client_seat (route_of group)) scenario.clients ≡ map (client_seat route) scenario.clients = sym (ap (λ gs. client_seats gs scenario.clients) is) ∙ clients in
+    let same : map (client_seat (route_of group)) scenario.clients ≡ map (client_seat route) scenario.clients = sym (ap (λ gs. client_seats gs scenario.clients) fact) ∙ clients in
     one_route (route_of group) route asks (mapped_same (client_seat (route_of group)) (client_seat route) scenario.clients same asks stands)
 
 -- ---- rows that answer
@@ -60,7 +60,7 @@ route_is ahead scenario route seats group others is asks stands =
 -- rows that are some have a last one
 has_last : {X : Type 0} (x : X) (xs : List X) → (prefix : List X) × (last : X) × (x ∷ xs ≡ prefix ++ last ∷ [])
 has_last x [] = ([], x, refl)
-has_last {X} x (y ∷ ys) = (let (prefix, last, is) = has_last y ys in (x ∷ prefix, last, ap (λ (l : List X). x ∷ l) is))
+has_last {X} x (y ∷ ys) = (let (prefix, last, fact) = has_last y ys in (x ∷ prefix, last, ap (λ (l : List X). x ∷ l) fact))
 
 -- a place within a list has an element
 has_place : {X : Type 0} (xs : List X) (place : ℕ) → suc place ≤ length xs → (x : X) × (slice_get xs place ≡ Some x)
@@ -128,8 +128,8 @@ module _ (ahead : Ahead) (scenario : Scenario) (route : Route) (rows : Rows) whe
     kept_in : (some : Rows) → rows ≡ some → (place : ℕ) (reply : Reply) → slice_get (kept_replies route asks some) place ≡ Some reply → (answered : ℕ) × IsDecidedBefore ahead scenario.groups rows asks.client (place + 1) reply answered
     kept_in [] are place reply e = cc
     kept_in (x ∷ xs) are place reply e =
-        let (before, row, is) = has_last x xs in
-        (length before + 1, keep before row [] (are ∙ is) asks stands place reply (subst (λ (some : Rows). slice_get (kept_replies route asks some) place ≡ Some reply) is e))
+        let (before, row, fact) = has_last x xs in
+        (length before + 1, keep before row [] (are ∙ fact) asks stands place reply (subst (λ (some : Rows). slice_get (kept_replies route asks some) place ≡ Some reply) fact e))
 
     -- so each that is kept was decided
     kept_now : (seq : ℕ) (reply : Reply) → kept_reply route asks seq rows ≡ Some reply → (answered : ℕ) × IsDecidedBefore ahead scenario.groups rows asks.client seq reply answered
@@ -158,8 +158,8 @@ module _ (ahead : Ahead) (scenario : Scenario) (route : Route) (rows : Rows) whe
   -- so all replies were decided before
   pub replies_are_decided : HasSeats ahead scenario route → KeepDecided → RepliesAreDecided ahead scenario rows
   replies_are_decided seats keep = record {
-    kept = λ group others is asks stands seq reply e.
-        kept_now keep asks stands seq reply (subst (λ (r : Route). kept_reply r asks seq rows ≡ Some reply) (route_is ahead scenario route seats group others is asks stands) e);
-    answered = λ group others is asks stands seq some answered e.
-        answered_now keep asks stands seq some answered (subst (λ (r : Route). answer_row r asks seq rows ≡ Some answered) (route_is ahead scenario route seats group others is asks stands) e);
+    kept = λ group others fact asks stands seq reply e.
+        kept_now keep asks stands seq reply (subst (λ (r : Route). kept_reply r asks seq rows ≡ Some reply) (route_is ahead scenario route seats group others fact asks stands) e);
+    answered = λ group others fact asks stands seq some answered e.
+        answered_now keep asks stands seq some answered (subst (λ (r : Route). answer_row r asks seq rows ≡ Some answered) (route_is ahead scenario route seats group others fact asks stands) e);
   }

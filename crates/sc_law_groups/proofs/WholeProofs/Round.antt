@@ -15,13 +15,13 @@ use Rattle.sc_words.proofs.PaxosProofs.Lemmas.{Each-among}
 record LiesAt (start p q : ℕ) : Type 0 where
   low : start ≤ q
   high : q < start + 2 ^ 32
-  is : (q ≡ p) ⊎ (q ≡ p + 2 ^ 32)
+  fact : (q ≡ p) ⊎ (q ≡ p + 2 ^ 32)
 
 lies_at : (start p : ℕ) → start < 2 ^ 32 → p < 2 ^ 32 → (q : ℕ) × LiesAt start p q
 lies_at start p fits inside =
     elim (cases_lt p start) [
-      | inl lt ↦ (p + 2 ^ 32, record { low = omega arith; high = omega arith; is = inr refl })
-      | inr ge ↦ (p, record { low = ge; high = omega arith; is = inl refl })
+      | inl lt ↦ (p + 2 ^ 32, record { low = omega arith; high = omega arith; fact = inr refl })
+      | inr ge ↦ (p, record { low = ge; high = omega arith; fact = inl refl })
     ]
 
 held_by : (lo len start p q : ℕ) → p < 2 ^ 32 → 1 ≤ len → start ≤ lo → lo < 2 ^ 32 → lo + len ≤ start + 2 ^ 32 → (q ≡ p) ⊎ (q ≡ p + 2 ^ 32) → lo ≤ q → q < lo + len → ((p + 2 ^ 32) - lo) % 2 ^ 32 < len
@@ -48,10 +48,10 @@ GoRound start lo (c ∷ cs) = (c.arc.lo ≡ lo) × IsSpan start c.arc × GoRound
 
 module _ (start : ℕ) (starts : start < 2 ^ 32) (p q : ℕ) (inside : p < 2 ^ 32) (at : LiesAt start p q) where
   in_span : (arc : Arc) → IsSpan start arc → arc.lo ≤ q → q < arc.lo + arc.len → IsTrue (holds arc p)
-  in_span arc s a b = lt-ltb (offset arc p) arc.len (held_by arc.lo arc.len start p q inside s.some s.low s.high s.fits at.is a b)
+  in_span arc s a b = lt-ltb (offset arc p) arc.len (held_by arc.lo arc.len start p q inside s.some s.low s.high s.fits at.fact a b)
 
   of_span : (arc : Arc) → IsSpan start arc → IsTrue (holds arc p) → (arc.lo ≤ q) × (q < arc.lo + arc.len)
-  of_span arc s h = holds_by arc.lo arc.len start p q inside s.some s.low s.high s.fits at.low at.high at.is (ltb-true (offset arc p) arc.len h)
+  of_span arc s h = holds_by arc.lo arc.len start p q inside s.some s.low s.high s.fits at.low at.high at.fact (ltb-true (offset arc p) arc.len h)
 
   one_holds : (lo : ℕ) (cs : List Cut) → GoRound start lo cs → lo ≤ q → (c : Cut) × Among c cs × IsTrue (holds c.arc p)
   one_holds lo [] r a = absurd (let e = r in let high = at.high in omega (arith, e, high))

@@ -14,7 +14,7 @@ use Rattle.sc_scenario.specs.declared.scenario.scenarios.SchedLine.{SchedLine}
 use Rattle.sc_scenario.specs.declared.scenario.scenarios.SchedLine.TheVariants as scheduled
 use Rattle.sc_law_entries.specs.ring.Definitions.{IsAllowed}
 use Rattle.sc_law_entries.specs.names.Definitions.{IsAtPosition, TakesOrder, TakenOrdersAreAllowed, TakesWish, TakenWishesAreAllowed, WishesAreAtPositions, owner_in}
-use Rattle.sc_law_groups.proofs.GroupProofs.Lemmas.{GivesAllowedOrder, TellsSo, told_induction}
+use Rattle.sc_law_groups.proofs.GroupProofs.Lemmas.{GivesAllowedOrder, OrdersOnly, told_induction}
 use Rattle.sc_law_entries.specs.logs.Definitions.{Rows}
 use Rattle.sc_law_groups.specs.whole.Definitions.{section_op, QueuedOrdersAreAllowed, WishedAreAllowed, OrdersAreAllowed}
 
@@ -29,7 +29,7 @@ at_position nodes _ bounded = tt
 abbrev IsPlaced : ℕ → OrderLine → Type 0
 IsPlaced who line = IsAtPosition line.order
 
-placed_line : (nodes : ℕ) (clients : List Asks) (line : SchedLine) → IsBoundedLine nodes clients line → TellsSo IsPlaced (line_of line)
+placed_line : (nodes : ℕ) (clients : List Asks) (line : SchedLine) → IsBoundedLine nodes clients line → OrdersOnly IsPlaced (line_of line)
 placed_line nodes clients (scheduled.Told node line) bounded = at_position nodes line.order bounded.1
 placed_line nodes clients (scheduled.Go client) bounded = tt
 placed_line nodes clients (scheduled.Deliver who k) bounded = tt
@@ -41,7 +41,7 @@ placed_line nodes clients (scheduled.Settle most) bounded = tt
 placed_line nodes clients (scheduled.Free most workers) bounded = tt
 placed_line nodes clients (scheduled.Storm number most) bounded = tt
 
-placed_lines : (nodes : ℕ) (clients : List Asks) (lines : List SchedLine) → Each (IsBoundedLine nodes clients) lines → Each (TellsSo IsPlaced) (map line_of lines)
+placed_lines : (nodes : ℕ) (clients : List Asks) (lines : List SchedLine) → Each (IsBoundedLine nodes clients) lines → Each (OrdersOnly IsPlaced) (map line_of lines)
 placed_lines nodes clients [] bounded = tt
 placed_lines nodes clients (line ∷ lines) bounded = (placed_line nodes clients line bounded.0, placed_lines nodes clients lines bounded.1)
 

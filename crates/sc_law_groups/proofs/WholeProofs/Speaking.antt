@@ -26,21 +26,21 @@ use Rattle.sc_law_walks.proofs.Lemmas.{EndsIt, voting_group}
 module _ (sources : Sources) (by : Draw) (group : Group) where
   -- what a lock says
   lock_is : (groups : Groups) (stories : Stories) → Facts sources.owner groups stories → groups by ≡ Some group → (lock : Lock) → group.core.lock ≡ lock → LockOk stories by group lock
-  lock_is groups stories facts is lock e = subst (LockOk stories by group) e (facts.group by group is).lock_ok
+  lock_is groups stories facts fact lock e = subst (LockOk stories by group) e (facts.group by group fact).lock_ok
 
   -- who watches was asked to
   pub stands_watch : (tx : Draw) (watch : Watch) → group.core.lock ≡ Watching tx watch → AllowsAsItStands sources by group by (Watched tx watch)
-  stands_watch tx watch lock groups stories facts is = (let own = lock_is groups stories facts is (Watching tx watch) lock in (own.story, own.is, own.asked, own.part))
+  stands_watch tx watch lock groups stories facts fact = (let own = lock_is groups stories facts fact (Watching tx watch) lock in (own.story, own.fact, own.asked, own.part))
 
   -- who has promised was asked to
   pub stands_offer : (tx : Draw) (offer : Offer) → group.core.lock ≡ Promised tx offer → AllowsAsItStands sources by group by (Prepared tx offer)
-  stands_offer tx offer lock groups stories facts is = (let own = lock_is groups stories facts is (Promised tx offer) lock in (own.story, own.is, own.offered, own.part))
+  stands_offer tx offer lock groups stories facts fact = (let own = lock_is groups stories facts fact (Promised tx offer) lock in (own.story, own.fact, own.offered, own.part))
 
   -- what a coordinator has heard was voted
   pub stands_heard : (tx : Draw) (body : Body) (order : ℕ) (heard : Heard) → group.core.lock ≡ Coordinating tx body order (Some heard) → (name : Draw) (node : ℕ) → AllowsAsItStands sources by group name (RecordVote tx (Vows.Yes heard.frozen) node)
-  stands_heard tx body order heard lock name node groups stories facts is = (
-      let own = lock_is groups stories facts is (Coordinating tx body order (Some heard)) lock in
-      (own.story, own.is, (own.heard_vote heard refl).0))
+  stands_heard tx body order heard lock name node groups stories facts fact = (
+      let own = lock_is groups stories facts fact (Coordinating tx body order (Some heard)) lock in
+      (own.story, own.fact, (own.heard_vote heard refl).0))
 
 -- ---- what is said
 
@@ -207,7 +207,7 @@ module _ (sources : Sources) (stories : Stories) (fit : MergesFit stories) (name
         let abort = subst (λ o. Told t o) (giving_aborts group t outcome e) (subst (λ d. Told d outcome) (sym ends) told) in
         watcher_said me t was.heard (aborted_to me t was.succ []) abort (aborted_said me t was.succ [] abort tt)
     ended_said group was me after (RecordWatch t vote by) tx outcome ends e told =
-        watch_said vote me was t by outcome (subst (λ d. Told d outcome) (sym ends) told) (λ why is. no_aborts group.core.lock group t why outcome (subst (λ v. (watch_recorded group.core.lock group t v).1 ≡ Was.Decided outcome) is e))
+        watch_said vote me was t by outcome (subst (λ d. Told d outcome) (sym ends) told) (λ why fact. no_aborts group.core.lock group t why outcome (subst (λ v. (watch_recorded group.core.lock group t v).1 ≡ Was.Decided outcome) fact e))
     ended_said group was me after _ tx outcome ends e told = absurd ends
 
     -- what an entry makes allowed is allowed
@@ -261,16 +261,16 @@ module _ (sources : Sources) (stories : Stories) (fit : MergesFit stories) (name
             served = λ client seq op after effect core _ _. tt;
             joined = λ node order _ _. tt;
             left = λ node order _ _. tt;
-            parted = λ at child order free is e. said_first _ (stands_next _ _ e) me _ refl;
-            split = λ at child order free is e. said_first _ (stands_next _ _ e) me _ refl;
-            begun = λ tx body order free is e. begun_said tx body order (shared tx body order (sym is)) (stands_next _ _ e);
-            offered = λ tx offer new is e. offered_said tx offer (vote_of group.core offer) (stands_next _ _ e);
-            asked = λ tx watch new is e. asked_said tx watch (watch_vote_of group.core watch)
-                (λ voted. may name (RecordWatch tx Cast.Yes 0) (subst (λ d. MakesAllowed sources name group d name (RecordWatch tx Cast.Yes 0)) is
-                ((al group).watches tx watch (ap (λ (x : Group × Effect). x.1) (ap (applied group) is ∙ sym e) ∙ ap (λ p. Was.Voted p) voted) name 0)));
-            heard = λ tx order got lock frozen by is e. said_first _ (stands_next _ _ e) me _ refl;
-            ended = λ d tx ends free after outcome r is e. (
-                let effect = ap (λ (x : Group × Effect). x.1) (ap (applied group) is ∙ sym e) in
-                ended_said group was me (decided_group after tx outcome) d tx outcome ends effect (told_by group d tx outcome (subst (EntryAllows group) (sym is) may) ends effect));
-            finished = λ tx binds after outcome r is e. tt;
+            parted = λ at child order free fact e. said_first _ (stands_next _ _ e) me _ refl;
+            split = λ at child order free fact e. said_first _ (stands_next _ _ e) me _ refl;
+            begun = λ tx body order free fact e. begun_said tx body order (shared tx body order (sym fact)) (stands_next _ _ e);
+            offered = λ tx offer new fact e. offered_said tx offer (vote_of group.core offer) (stands_next _ _ e);
+            asked = λ tx watch new fact e. asked_said tx watch (watch_vote_of group.core watch)
+                (λ voted. may name (RecordWatch tx Cast.Yes 0) (subst (λ d. MakesAllowed sources name group d name (RecordWatch tx Cast.Yes 0)) fact
+                ((al group).watches tx watch (ap (λ (x : Group × Effect). x.1) (ap (applied group) fact ∙ sym e) ∙ ap (λ p. Was.Voted p) voted) name 0)));
+            heard = λ tx order got lock frozen by fact e. said_first _ (stands_next _ _ e) me _ refl;
+            ended = λ d tx ends free after outcome r fact e. (
+                let effect = ap (λ (x : Group × Effect). x.1) (ap (applied group) fact ∙ sym e) in
+                ended_said group was me (decided_group after tx outcome) d tx outcome ends effect (told_by group d tx outcome (subst (EntryAllows group) (sym fact) may) ends effect));
+            finished = λ tx binds after outcome r fact e. tt;
           }) c refl refl

@@ -104,11 +104,11 @@ module _ (lines : List GroupLine) where
         record { some = omega (arith, len, least, high); low = least; high = high; fits = omega (arith, len, least, high) }
 
     go_round : (k n : ℕ) → k + suc n ≡ length lines → GoRound (lo 0) (lo k) (map first_cut (bases_from k (suc n)))
-    go_round k zero is =
+    go_round k zero fact =
         let e : k + 1 ≡ length lines = omega arith in
         let len = len_round k e in let high = low k (omega (arith, e)) in
         (refl, span_round k e, omega (arith, len, high))
-    go_round k (suc n) is =
+    go_round k (suc n) fact =
         let lt : k + 1 < length lines = omega arith in
         let len = len_on k lt in let up = rises k (k + 1) (omega arith) lt in
         let on : lo (k + 1) ≡ lo k + (arc_at lines k).len = omega (arith, len, up) in
@@ -147,9 +147,9 @@ module _ (lines : List GroupLine) where
         (omega arith, right_round (length lines - 1) e)
     left_back (suc k) inside =
         let not_first : eqb (suc k) 0 ≡ false = ne_eqb (suc k) 0 (λ e. omega (arith, e)) in
-        let is : place_left lines (suc k) ≡ k = cond-false (eqb (suc k) 0) (length lines - 1) (suc k - 1) not_first ∙ (omega arith) in
+        let fact : place_left lines (suc k) ≡ k = cond-false (eqb (suc k) 0) (length lines - 1) (suc k - 1) not_first ∙ (omega arith) in
         let on : k + 1 ≡ suc k = omega arith in
-        (omega (arith, is), ap (place_right lines) is ∙ right_on k (omega arith) ∙ on)
+        (omega (arith, fact), ap (place_right lines) fact ∙ right_on k (omega arith) ∙ on)
 
     -- each group stands between its neighbours
     between : (k : ℕ) → k < length lines → StandsBetween (bases_from 0 (length lines)) (base_at lines k).core
@@ -174,7 +174,7 @@ module _ (lines : List GroupLine) where
     bare : BeginBare (bases_from 0 (length lines))
     bare = record {
       covers = all_cover;
-      bare = λ base a. (let (k, inside, is) = of_from 0 (length lines) base a in subst BeginsBare is (record { pairs = refl; clients = refl }));
+      bare = λ base a. (let (k, inside, fact) = of_from 0 (length lines) base a in subst BeginsBare fact (record { pairs = refl; clients = refl }));
     }
 
     -- they hold nothing
@@ -186,8 +186,8 @@ module _ (lines : List GroupLine) where
       in_place = record {
         covers = all_cover;
         first = λ base a. (
-            let (k, inside, is) = of_from 0 (length lines) base a in
-            subst (BeginsInPlace sources (bases_from 0 (length lines))) is
+            let (k, inside, fact) = of_from 0 (length lines) base a in
+            subst (BeginsInPlace sources (bases_from 0 (length lines))) fact
             (record { between = between k (omega (arith, inside)); free = refl; here = refl; empty = refl; unowned = unowned (name_at k) refl }));
       }
 
@@ -206,5 +206,5 @@ module _ (lines : List GroupLine) where
   -- nothing has happened to any of them
   pub starts_fresh : ((k : ℕ) (d : GroupLine) → k < length lines → IsRoster (get_or lines k d).members) → (base : Base) → Among base (bases_of lines) → IsFresh base
   starts_fresh rosters base a =
-      let (k, inside, is) = of_from 0 (length lines) base (subst (Among base) (all_from (length lines)) a) in
-      subst IsFresh is (record { free = refl; unvoted = refl; decided = refl; roster = rosters k (record { lo = 0; members = [] }) (omega (arith, inside)) })
+      let (k, inside, fact) = of_from 0 (length lines) base (subst (Among base) (all_from (length lines)) a) in
+      subst IsFresh fact (record { free = refl; unvoted = refl; decided = refl; roster = rosters k (record { lo = 0; members = [] }) (omega (arith, inside)) })

@@ -8,8 +8,8 @@ use Rattle.sc_law_entries.specs.logs.Definitions.{EntriesAreLogs}
 use Rattle.sc_law_groups.proofs.WholeProofs.Scheduled.{orders_allowed}
 
 pub valid_sound : ValidScenariosAreBounded → ValidScenariosBeginWell → TakenOrdersAreAllowed → TakenWishesAreAllowed → WishesAreAtPositions → OtherNamesAreFree → LawfulJournalsAreSound → ValidJournalsAreSound
-valid_sound bounded begin allowed wishes positions free law ahead open_slots words scenario valid journal lawful rows more is =
-    let all = subst (Lawful ahead words scenario) is lawful in
+valid_sound bounded begin allowed wishes positions free law ahead open_slots words scenario valid journal lawful rows more fact =
+    let all = subst (Lawful ahead words scenario) fact lawful in
     let owner = owner_in ahead scenario (rows ++ more) in
     let ready = begin owner (free ahead scenario (rows ++ more)) ahead open_slots scenario valid in
     law (record { owner = owner; request = section_op scenario }) ahead words scenario (route_of ready.first) ready.well ready.bare rows more

@@ -8,4 +8,4 @@ use Rattle.sc_law_groups.proofs.GroupProofs.Lemmas.{h_of, rule, first, Journal, 
 -- a log of the steps is a prefix of the decided one
 pub goes_on_from : (ahead : Ahead) (base : Base) (rows : Journal) → IsLawfulHistory (rule ahead base) (first ahead base) (h_of rows base) → (log : List Command) → IsLog (rule ahead base) (h_of rows base) log
     → decided_log ahead base rows ≡ log ++ drop (length log) (decided_log ahead base rows)
-goes_on_from ahead base rows lawful log is = split_at (length log) log (decided_log ahead base rows) (prefix_is ahead base rows lawful log is).1
+goes_on_from ahead base rows lawful log fact = split_at (length log) log (decided_log ahead base rows) (prefix_is ahead base rows lawful log fact).1

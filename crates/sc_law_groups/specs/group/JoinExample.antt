@@ -2,7 +2,7 @@
 use Rattle.std.specs.Prelude.{false, List, [], ◌∷◌}
 use Rattle.sc_node_table.specs.Values.{Ballot, Command, Join, OrderLine, Mail, Accept, Accepted, Install, Told as ToldMail, Row, Deliver}
 use Rattle.sc_words.specs.declared.commands.orders.Order.TheVariants as An
-use Rattle.sc_words.specs.declared.commands.orders.OrderResult.TheVariants as Tells
+use Rattle.sc_words.specs.declared.commands.orders.OrderResult.TheVariants as Results
 use Rattle.sc_group_table.specs.machine.Definitions.{Group, group_of, base_of, with_node}
 use Rattle.sc_actor.specs.declared.rows.Event.TheVariants.{Told}
 use Rattle.sc_scenario.specs.scenario.Definitions.{lone_name}
@@ -43,6 +43,6 @@ abbrev pub join_example : List (Row Mail OrderLine)
 join_example =
     row 1 (Told join_order) (mail 1 1 (Accept lone_name leading 1 join))
     ∷ row 1 (Deliver 1) (mail 1 1 (Accepted lone_name leading 1))
-    ∷ row 1 (Deliver 2) (record { from = 1; to = 0; body = ToldMail 1 Tells.Done }
+    ∷ row 1 (Deliver 2) (record { from = 1; to = 0; body = ToldMail 1 Results.Done }
     ∷ record { from = 1; to = 2; body = Install lone_name 1 (base_of both) ((1 ∷ []) ∷ (1 ∷ []) ∷ (1 ∷ []) ∷ (1 ∷ 2 ∷ []) ∷ []) } ∷ [])
     ∷ row 2 (Deliver 4) [] ∷ []

@@ -1,6 +1,6 @@
 -- Re-exports of the definitions of this part of the crate that others cite.
 pub use Rattle.sc_law_groups.specs.whole.Begins.{BeginsWell, section_op, IsReady, IsFresh, HasSeats, AsksAre, op_or_get}
-pub use Rattle.sc_law_groups.specs.whole.Laws.{MembersStayRosters, LawfulJournalsDecideInTurn, LawfulJournalsAreSound, LawfulJournalsHoldBeside}
+pub use Rattle.sc_law_groups.specs.whole.WholeJournalLaws.{MembersStayRosters, LawfulJournalsDecideInTurn, LawfulJournalsAreSound, LawfulJournalsHoldBeside}
 pub use Rattle.sc_law_groups.specs.whole.Orders.{OrdersAreAllowed, QueuedOrdersAreAllowed, WishedAreAllowed}
 pub use Rattle.sc_law_groups.specs.whole.Parameters.{MayQueue, IsHeardAt, stories_at, IsIssuedCall, IsHeard}
 pub use Rattle.sc_law_groups.specs.whole.Parties.{PartiesAreApart, MergesFit}

@@ -2,7 +2,7 @@
 use Rattle.std.specs.Prelude.{ℕ, false, List, [], ◌∷◌}
 use Rattle.sc_node_table.specs.Values.{Ballot, Draw, Op, Put, Command, Call, Split, Base, Link, OrderLine, Mail, Request, Answer, Accept, Accepted, Learn, Told as ToldMail, Row, Deliver, Go}
 use Rattle.sc_words.specs.declared.commands.orders.Order.TheVariants as An
-use Rattle.sc_words.specs.declared.commands.orders.OrderResult.TheVariants as Tells
+use Rattle.sc_words.specs.declared.commands.orders.OrderResult.TheVariants as Results
 use Rattle.sc_mail.specs.declared.bodies.AnswerBody.TheVariants as Says
 use Rattle.sc_group_table.specs.machine.Definitions.{group_of, child_of}
 use Rattle.sc_actor.specs.declared.rows.Event.TheVariants.{Told}
@@ -75,8 +75,8 @@ split_example =
     ∷ row 1 (Deliver 1) (mail 1 1 (Accepted lone_name lone_ballot 1))
     ∷ row 2 (Deliver 2) (mail 2 1 (Accepted lone_name lone_ballot 1))
     ∷ row 1 (Deliver 3) []
-    ∷ row 1 (Deliver 4) (record { from = 1; to = 0; body = ToldMail 1 Tells.Done } ∷ record { from = 1; to = 2; body = Learn lone_name 1 lone_split } ∷ [])
-    ∷ row 2 (Deliver 6) (mail 2 0 (ToldMail 1 Tells.Done))
+    ∷ row 1 (Deliver 4) (record { from = 1; to = 0; body = ToldMail 1 Results.Done } ∷ record { from = 1; to = 2; body = Learn lone_name 1 lone_split } ∷ [])
+    ∷ row 2 (Deliver 6) (mail 2 0 (ToldMail 1 Results.Done))
     ∷ row 33 Go (mail 33 1 (Request lone_name 1 1 put_z))
     ∷ row 1 (Deliver 8) (mail 1 33 (Answer lone_name 1 (Says.NotMine (record { lo = 0; len = place }) kid_link)))
     ∷ row 33 (Deliver 9) (mail 33 2 (Request kid_name 1 1 put_z))

@@ -75,7 +75,7 @@ module _ (ahead : Ahead) (open_slots : ahead.slots ≡ slots_ahead) (words : ℕ
   born_gives n (base ∷ bases) = (subst (λ (s : ℕ). Keeps F n (born_replica s n base)) (sym open_slots) (born F n base), born_gives n bases)
 
   seat_gives : (seat : Seat Player) → IsSeat ahead scenario seat → PlayerGives seat.who seat.actor
-  seat_gives seat (inl (n, low, high, is)) = subst (λ (s : Seat Player). PlayerGives s.who s.actor) (sym is) (refl, born_gives n (filter (λ base. is_member base.core.members n) scenario.groups))
+  seat_gives seat (inl (n, low, high, fact)) = subst (λ (s : Seat Player). PlayerGives s.who s.actor) (sym fact) (refl, born_gives n (filter (λ base. is_member base.core.members n) scenario.groups))
   seat_gives seat (inr client) = by seat.actor client
     where
       by : (p : Player) → IsClient p → PlayerGives seat.who p
@@ -120,8 +120,8 @@ module _ (ahead : Ahead) (open_slots : ahead.slots ≡ slots_ahead) (words : ℕ
           subst (λ (l : Lock). r.waits ≤ allowed (counts place rows (name_of r)) r.leader.ballot l) lock (keep.patient (running_of r leads))
 
       few : IsSeat ahead scenario seat → (node : NodeState) → before ≡ Node node → (r : ReplicaState) → Among r node.replicas → settled r ≡ true → (tx : Draw) (body : Body) (order : ℕ) (heard : Option Heard) → r.group.core.lock ≡ Coordinating tx body order heard → r.waits ≤ ticks_in seat rows r tx
-      few (inl (n, low, high, is)) node was r stood leads tx body order heard lock =
-          subst (λ (s : Seat Player). r.waits ≤ ticks_in s rows r tx) (sym is) (node_few n low node (subst (λ (s : Seat Player). value player_table s rows ≡ Node node) is was) r stood leads tx body order heard lock)
+      few (inl (n, low, high, fact)) node was r stood leads tx body order heard lock =
+          subst (λ (s : Seat Player). r.waits ≤ ticks_in s rows r tx) (sym fact) (node_few n low node (subst (λ (s : Seat Player). value player_table s rows ≡ Node node) fact was) r stood leads tx body order heard lock)
       few (inr client) node was r stood leads tx body order heard lock = absurd (no_node before node (replay_client seat.who seat.actor [] rows client) was)
 
       -- the node after its tick
@@ -148,7 +148,7 @@ module _ (ahead : Ahead) (open_slots : ahead.slots ≡ slots_ahead) (words : ℕ
               seated = subst (λ (n : ℕ). find (λ (other : Seat Player). eqb other.who n) (births ahead scenario) ≡ Some seat) (sym who) is_of;
               was = was;
               takes = ap (λ (event : Event OrderLine). input_of (mails rows) event) event_is;
-              is = ticked_is node was event_is;
+              fact = ticked_is node was event_is;
             };
             replica = r;
             stood = stood;
@@ -229,7 +229,7 @@ lawful_give_up ahead open_slots words scenario rows lawful =
     let F : Draw → Draw → Type 0 = λ group tx. WasGivenUp ahead scenario rows group tx in
     let all : AllGive ahead open_slots words scenario F rows = all_give ahead open_slots words scenario F rows (λ group tx w. w) lawful in
     record {
-      held = λ seat is_of node is r stands tx at. (let k = subst (λ (p : Player). PlayerGives ahead open_slots words scenario F seat.who p) is (all.players seat is_of) in
+      held = λ seat is_of node fact r stands tx at. (let k = subst (λ (p : Player). PlayerGives ahead open_slots words scenario F seat.who p) fact (all.players seat is_of) in
           stands_at (F (name_of r)) r tx (Each-among (Keeps F seat.who) node.replicas r k.1 stands).1 at);
       sent = λ mail among group tx at. stands_in F group tx mail.body (Each-among (λ (m : Mail). MailGives F m.body) (mails rows) mail all.sent among) at;
       decided = λ base tx among. Each-among (Gives (F base.core.id)) (decided_log ahead base rows) (GiveUp tx) (decided_gives F ahead base rows all.sent) among;

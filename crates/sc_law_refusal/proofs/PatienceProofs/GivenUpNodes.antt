@@ -1,5 +1,5 @@
 -- What holds of each GiveUp that stands at a node, and in its mail, is kept by the node's step.
-use Rattle.std.proofs.Common.{◌≡◌, ℕ, ◌||◌, not, nat_le, nat_lt, eqb, Bool, true, false, cond, refl, sym, subst, List, [], ◌∷◌, ◌++◌, length, Option, Some, None}
+use Rattle.std.proofs.Common.{◌≡◌, ℕ, nat_le, nat_lt, eqb, Bool, true, false, refl, sym, subst, List, [], ◌∷◌, ◌++◌, length, Option, Some, None}
 use Rattle.std.specs.Prelude.{is_some}
 use Rattle.std.proofs.lemmas.Bool.{cond_both, eqb-true}
 use Rattle.sc_base.specs.Definitions.{Drawer, Each, same_draw}
@@ -8,7 +8,7 @@ use Rattle.sc_node_table.specs.Values.{Draw, Input, Got, Base, Body, Lock, Free,
 use Rattle.sc_actor.specs.declared.rows.Input.TheVariants.{Tick, Go, Told}
 use Rattle.sc_words.proofs.PaxosProofs.Lemmas.{Each-append, Each-among, Each-weaker, find_found}
 use Rattle.sc_node_table.specs.Definitions.{NodeState, ReplicaState, Place, name_of, slots_ahead, last_slot, born_replica, installed_replica, forgotten, made_by, named, replica_of, with_replica, is_before, with_new, with_born, with_children, with_made, unknown, may_come, taken_by, routed, group_of_mail, group_of_order, ordered_of, ordered_row, mailed, ticked, tick_row, names_after_tick, node_table, settled, waited_in, with_act, has_act, one_tick_more, patience}
-use Rattle.sc_law_walks.proofs.Ways.{either_way}
+use Rattle.sc_law_walks.proofs.Ways.{either_way, unless_so}
 use Rattle.sc_law_walks.proofs.PlaceWalks.{Before, After, Hears}
 use Rattle.sc_law_walks.proofs.PlaceRows.{takes_mail, orders, looks_up}
 use Rattle.sc_law_walks.proofs.PlaceTicks.{ticks_where}
@@ -87,16 +87,12 @@ module _ (F : Draw → Draw → Type 0) (me : ℕ) where
       out group (made_by me from group slot base sets) (looks_up (given_walk F me group) from (installed_replica me slot (named group base) sets, []) (installed_off group slot base sets) (installed group slot base sets many))
 
   unknown_step : (from : ℕ) (body : MailBody) (node : NodeState) → (node.me ≡ me) × All node.replicas → Step (unknown from body node)
-  unknown_step from (Install group slot base sets) node k = by (eqb (length sets) slots_ahead) refl
-    where
-      made : length sets ≡ slots_ahead → Step (with_made (made_by node.me from group slot base sets) node)
-      made many =
-          let m = subst (λ (n : ℕ). Keeps (made_by n from group slot base sets).0 × Mails (made_by n from group slot base sets).1) (sym k.0) (makes from group slot base sets many) in
-          (k.0, add (made_by node.me from group slot base sets).0 node.replicas m.0 k.1, m.1)
-
-      by : (c : Bool) → eqb (length sets) slots_ahead ≡ c → Step (cond {A = NodeState × List Mail} (not c || nat_lt last_slot slot) (node, []) (with_made (made_by node.me from group slot base sets) node))
-      by false e = (k.0, k.1, tt)
-      by true e = either_way Step (nat_lt last_slot slot) (node, []) (with_made (made_by node.me from group slot base sets) node) (k.0, k.1, tt) (made (eqb-true (length sets) slots_ahead e))
+  unknown_step from (Install group slot base sets) node k =
+      unless_so Step (eqb (length sets) slots_ahead) (nat_lt last_slot slot) (node, []) (with_made (made_by node.me from group slot base sets) node) (k.0, k.1, tt)
+      (λ e. (
+      let many : length sets ≡ slots_ahead = eqb-true (length sets) slots_ahead e in
+      let m = subst (λ (n : ℕ). Keeps (made_by n from group slot base sets).0 × Mails (made_by n from group slot base sets).1) (sym k.0) (makes from group slot base sets many) in
+      (k.0, add (made_by node.me from group slot base sets).0 node.replicas m.0 k.1, m.1)))
   unknown_step from (Request group client seq op) node k = (k.0, k.1, (tt, tt))
   unknown_step from (Prepare group ballot from_slot) node k = (k.0, k.1, (tt, tt))
   unknown_step from (Accept group ballot slot command) node k = (k.0, k.1, (tt, tt))
@@ -118,17 +114,17 @@ module _ (F : Draw → Draw → Type 0) (me : ℕ) where
   hears group _ e g = tt
 
   taken_step : (o : Option ReplicaState) (group : Draw) (from : ℕ) (body : MailBody) (node : NodeState) → replica_of group node.replicas ≡ o → group_of_mail body ≡ Some group → MailGives F body → (node.me ≡ me) × All node.replicas → Step (taken_by o group from body node)
-  taken_step None group from body node e is g k = unknown_step from body node k
-  taken_step (Some r) group from body node e is g k =
+  taken_step None group from body node e fact g k = unknown_step from body node k
+  taken_step (Some r) group from body node e fact g k =
       let found = find_found (λ (other : ReplicaState). same_draw (name_of other) group) node.replicas r e in
       let same : name_of r ≡ group = draw_is (name_of r) group found.1 in
       let after = mailed from body (r, []) in
-      let kept = out group after.0 (takes_mail (given_walk F me group) from body (r, []) (hears group body is g) (into group r [] same (Each-among Keeps node.replicas r k.1 found.0) tt)) in
+      let kept = out group after.0 (takes_mail (given_walk F me group) from body (r, []) (hears group body fact g) (into group r [] same (Each-among Keeps node.replicas r k.1 found.0) tt)) in
       children_step after.1 (record node { replicas = with_replica group after.0.0 node.replicas }) after.0.1 (k.0, put group after.0.0 node.replicas kept.0 k.1, kept.1)
 
   routed_step : (o : Option Draw) (from : ℕ) (body : MailBody) (node : NodeState) → group_of_mail body ≡ o → MailGives F body → (node.me ≡ me) × All node.replicas → Step (routed o from body node)
-  routed_step None from body node is g k = (k.0, k.1, tt)
-  routed_step (Some group) from body node is g k = taken_step (replica_of group node.replicas) group from body node refl is g k
+  routed_step None from body node fact g k = (k.0, k.1, tt)
+  routed_step (Some group) from body node fact g k = taken_step (replica_of group node.replicas) group from body node refl fact g k
 
   -- ---- an order
 

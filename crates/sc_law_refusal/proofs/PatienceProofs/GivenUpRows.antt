@@ -132,10 +132,10 @@ module _ (F : Draw → Draw → Type 0) (me : ℕ) (group : Draw) where
   queued_last : (r : ReplicaState) (command : Command) → Gives W command → Commands W r.backlog → Commands W (r.backlog ++ command ∷ [])
   queued_last r command c h = Each-append (Gives W) r.backlog (command ∷ []) h (c, tt)
 
-  first_act : (r : ReplicaState) (act : Command) (acts : List Command) → r.acts ≡ act ∷ acts → Holds W r → Gives W act × Commands W acts
+  first_act : (r : ReplicaState) (act : Command) (rest : List Command) → r.acts ≡ act ∷ rest → Holds W r → Gives W act × Commands W rest
   first_act r act acts e h = subst (λ (cs : List Command). Commands W cs) e h.acts
 
-  first_call : (r : ReplicaState) (command : Command) (backlog : List Command) → r.backlog ≡ command ∷ backlog → Holds W r → Gives W command × Commands W backlog
+  first_call : (r : ReplicaState) (command : Command) (rest : List Command) → r.backlog ≡ command ∷ rest → Holds W r → Gives W command × Commands W rest
   first_call r command backlog e h = subst (λ (cs : List Command). Commands W cs) e h.backlog
 
   -- ---- the walk

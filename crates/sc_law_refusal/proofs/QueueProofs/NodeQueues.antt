@@ -1,14 +1,13 @@
 -- The queues of all replicas of a node, in each of its steps and after any rows.
-use Rattle.std.proofs.Common.{ℕ, eqb, subst, cond, List, [], ◌∷◌, ◌++◌, map, Option, Some, None, refl}
+use Rattle.std.proofs.Common.{ℕ, subst, List, [], ◌∷◌, map, refl}
 use Rattle.sc_base.specs.Definitions.{Each, is_member}
-use Rattle.sc_node_table.specs.Values.{Input, Row, Base, OrderLine, Mail, Node, Client}
-use Rattle.sc_actor.specs.Definitions.{acted, input_of, replay}
+use Rattle.sc_node_table.specs.Values.{Input, Base, OrderLine, Mail, Node, Client}
 use Rattle.sc_node_table.specs.Definitions.{born_replicas, born_node, ReplicaState, born_replica}
 use Rattle.sc_meaning.specs.sound.Definitions.{Player, player_table}
 use Rattle.sc_law_refusal.specs.queue.OneCall.{KeepsOneCall, EachKeepsOneCall, StepsKeepOneCall, QueuesKeepOneCall}
 use Rattle.sc_law_refusal.proofs.QueueProofs.ClientCalls.{one_none}
-use Rattle.sc_law_walks.proofs.Lemmas.{ReplicaRows, node_step, either_way}
-use Rattle.sc_law_refusal.proofs.QueueProofs.QueuedCalls.{order_keeps, tick_keeps, mailed_keeps, made_keeps}
+use Rattle.sc_law_walks.proofs.Lemmas.{ReplicaRows, node_step, either_way, replay_keeps}
+use Rattle.sc_law_refusal.proofs.QueueProofs.QueuedCalls.{ordered_keeps, tick_keeps, mailed_keeps, made_keeps}
 
 abbrev All : List ReplicaState → Type 0
 All replicas = Each KeepsOneCall replicas
@@ -17,7 +16,7 @@ All replicas = Each KeepsOneCall replicas
 queue_rows : (me : ℕ) → ReplicaRows me KeepsOneCall
 queue_rows me = record {
   mail = λ from body r k. mailed_keeps from body (r, []) k;
-  order = λ drawer line r k. order_keeps drawer line (r, []) k;
+  order = λ drawer line r k. ordered_keeps drawer line (r, []) k;
   tick = λ on drawer r mails k. tick_keeps on drawer (r, mails) k;
   made = λ from group slot base sets. made_keeps me from group slot base sets;
   born = λ base. one_none;
@@ -39,18 +38,11 @@ abbrev Plays : Player → Type 0
 Plays (Node node) = EachKeepsOneCall node
 Plays (Client client) = Unit {0}
 
-acted_keeps : (player : Player) (input : Option (Input Mail OrderLine)) → Plays player → Plays (acted player_table player input).0
-acted_keeps player None k = k
-acted_keeps (Node node) (Some input) k = steps_keep_one_call node input k
-acted_keeps (Client client) (Some input) k = tt
-
-replay_keeps : (who : ℕ) (rows : List (Row Mail OrderLine)) (player : Player) (sent : List Mail) → Plays player → Plays (replay player_table who player sent rows)
-replay_keeps who [] player sent k = k
-replay_keeps who (row ∷ rows) player sent k =
-    let after : Player = cond (eqb row.who who) (acted player_table player (input_of sent row.event)).0 player in
-    replay_keeps who rows after (sent ++ row.sent) (either_way Plays (eqb row.who who) (acted player_table player (input_of sent row.event)).0 player (acted_keeps player (input_of sent row.event) k) k)
+steps_keep : (player : Player) (input : Input Mail OrderLine) → Plays player → Plays (player_table player input).0
+steps_keep (Node node) input k = steps_keep_one_call node input k
+steps_keep (Client client) input k = tt
 
 pub queues_keep_one_call : QueuesKeepOneCall
 queues_keep_one_call ahead scenario me rows node e =
     let born : Player = Node (born_node ahead.slots me scenario.groups scenario.policy) in
-    subst Plays e (replay_keeps me rows born [] (born_keep ahead.slots me scenario.groups))
+    subst Plays e (replay_keeps player_table Plays steps_keep me rows born [] (born_keep ahead.slots me scenario.groups))

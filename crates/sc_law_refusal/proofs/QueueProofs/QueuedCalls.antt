@@ -11,8 +11,8 @@ use Rattle.sc_law_refusal.specs.queue.OneCall.{KeepsOneCall}
 use Rattle.sc_law_refusal.proofs.QueueProofs.ClientCalls.{One, one_none, one_rest, one_last, one_first, one_without, none_left, none_found}
 
 -- a place whose replica keeps at most one call of each client
-abbrev pub Keeps : Place → Type 0
-Keeps place = KeepsOneCall place.0
+abbrev pub HasOneCall : Place → Type 0
+HasOneCall place = KeepsOneCall place.0
 
 -- ---- what goes back, and what waits last
 
@@ -37,7 +37,7 @@ entered_keeps : (command : Command) (r : ReplicaState) → KeepsOneCall r → Ke
 unfolding entered forgotten
 entered_keeps command r k = k
 
-ended_keeps : (hint : Option ℕ) (answer : AnswerBody) (r : ReplicaState) (mails : List Mail) → Keeps (ended hint answer (r, mails))
+ended_keeps : (hint : Option ℕ) (answer : AnswerBody) (r : ReplicaState) (mails : List Mail) → HasOneCall (ended hint answer (r, mails))
 unfolding ended
 ended_keeps hint answer r mails = one_none
 
@@ -45,14 +45,14 @@ jumped_keeps : (slot : ℕ) (base : Base) (sets : List (List ℕ)) (r : ReplicaS
 unfolding jumped forgotten
 jumped_keeps slot base sets r k = k
 
-offered_keeps : (slot : ℕ) (set : List ℕ) (command : Command) (r : ReplicaState) (mails : List Mail) → KeepsOneCall r → Keeps (offered slot set command (r, mails))
+offered_keeps : (slot : ℕ) (set : List ℕ) (command : Command) (r : ReplicaState) (mails : List Mail) → KeepsOneCall r → HasOneCall (offered slot set command (r, mails))
 unfolding offered
 offered_keeps slot set command r mails k = k
 
 rest_keeps : (command : Command) (backlog : List Command) (r : ReplicaState) → r.backlog ≡ command ∷ backlog → KeepsOneCall r → KeepsOneCall (record r { backlog = backlog })
 rest_keeps command backlog r e k = one_rest command backlog (subst One e k)
 
-entry_keeps : (counted : Bool) (command : Command) (r : ReplicaState) → TableEntry counted command r Keeps Keeps
+entry_keeps : (counted : Bool) (command : Command) (r : ReplicaState) → TableEntry counted command r HasOneCall HasOneCall
 entry_keeps counted command r = record {
   Lost = λ other. Unit {0};
   entered = λ mails k. entered_keeps command r k;
@@ -71,8 +71,8 @@ entry_keeps counted command r = record {
 abbrev queue_facts : TableFacts
 queue_facts = record {
   First = λ r. Unit {0};
-  Early = λ place. Keeps place;
-  Late = λ place. Keeps place;
+  Early = λ place. HasOneCall place;
+  Late = λ place. HasOneCall place;
   Hears = λ from body. Unit {0};
   Round = λ ballot. Unit {0};
   Entry = λ slot command. Unit {0};
@@ -86,8 +86,8 @@ queue_states : TableStates queue_facts
 queue_states = record {
   late = λ place k. k;
   again = λ command r mails on e k. (k, tt);
-  counted_entry = λ command r mails on e low k. entry_holds true command r Keeps Keeps (entry_keeps true command r) mails k;
-  learnt_entry = λ from group command r mails h first k. entry_holds false command r Keeps Keeps (entry_keeps false command r) mails k;
+  counted_entry = λ command r mails on e low k. entry_holds true command r HasOneCall HasOneCall (entry_keeps true command r) mails k;
+  learnt_entry = λ from group command r mails h first k. entry_holds false command r HasOneCall HasOneCall (entry_keeps false command r) mails k;
   children = λ counted command r mails child may e k. tt;
   jumped = λ from group slot base sets r mails h many later off k. jumped_keeps slot base sets r k;
   hinted = λ hint r mails off k. k;
@@ -121,20 +121,20 @@ queue_walk = record {
 }
 
 queue_ticks : TableTicks queue_facts
-queue_ticks = record { waited = λ waits r mails k. k; gives_up = λ tx body order heard r mails e on no k. k; reminds = λ r mails on k. k; reasks = λ to slot command r mails on e k. k; relearns = λ to command r mails e k. k }
+queue_ticks = record { waited = λ waits r mails k. k; gives_up = λ tx body order heard r mails e on no k. k; agains = record { reminds = λ r mails on k. k; reasks = λ to slot command r mails on e k. k; relearns = λ to command r mails e k. k } }
 
 -- ---- all rows
 
-pub mailed_keeps : (from : ℕ) (body : MailBody) (place : Place) → Keeps place → Keeps (mailed from body place).0
+pub mailed_keeps : (from : ℕ) (body : MailBody) (place : Place) → HasOneCall place → HasOneCall (mailed from body place).0
 mailed_keeps from body place k = (rows.takes_mail queue_walk from body place tt tt k).0
 
-pub order_keeps : (drawer : Drawer) (line : OrderLine) (place : Place) → Keeps place → Keeps (ordered_row drawer line place)
-order_keeps drawer line place k = rows.orders queue_walk drawer line place tt (λ e. tt) k
+pub ordered_keeps : (drawer : Drawer) (line : OrderLine) (place : Place) → HasOneCall place → HasOneCall (ordered_row drawer line place)
+ordered_keeps drawer line place k = rows.orders queue_walk drawer line place tt (λ e. tt) k
 
-pub tick_keeps : (on : Bool) (drawer : Drawer) (place : Place) → Keeps place → Keeps (tick_row on drawer place)
+pub tick_keeps : (on : Bool) (drawer : Drawer) (place : Place) → HasOneCall place → HasOneCall (tick_row on drawer place)
 tick_keeps on drawer place k = tick.ticks queue_walk queue_ticks on drawer place (λ here f line e taken. tt) k
 
 -- a replica that is made of a state that is sent
-pub made_keeps : (me from : ℕ) (group : Draw) (slot : ℕ) (base : Base) (sets : List (List ℕ)) → Keeps (made_by me from group slot base sets)
+pub made_keeps : (me from : ℕ) (group : Draw) (slot : ℕ) (base : Base) (sets : List (List ℕ)) → HasOneCall (made_by me from group slot base sets)
 unfolding forgotten
 made_keeps me from group slot base sets = rows.makes queue_walk me from group slot base sets one_none

@@ -3,16 +3,15 @@ use Rattle.std.proofs.Common.{◌≡◌, ◌≤◌, ℕ, ◌&&◌, ◌||◌, eqb
 use Rattle.std.specs.List.{list_any}
 use Rattle.std.specs.Option.{option_map}
 use Rattle.sc_words.specs.paxos.Definitions.{LeaderState, flight_at, LogState}
-use Rattle.sc_node_table.specs.Values.{Flight, Ballot, Draw, Command, Noop, Call, Join, Leave, Split, Begin, Prepared, RecordVote, GiveUp, Finish, Watched, RecordWatch, Effect, Route, OrderResult, AnswerBody, Mail, Learn}
-use Rattle.sc_node_table.specs.Definitions.{same_command, elected, ended, stopped, entered, answer_of, answered_or_put_back, order_result, effect_reported, announced, learnt_to, welcomed, slot_lost, landed, left_gone, left, is_among, looked_for, looked, executed_one, next_child, has_room, next_ready, ending, executed_ready, all_ready, executed, sent_others, answer_to, order_number, put_back, ReplicaState, Place, Executed, childless, name_of, next, members, flying, forgotten, at_slot, before_of, spoken}
+use Rattle.sc_node_table.specs.Values.{Flight, Ballot, Draw, Command, Noop, Call, Join, Leave, Split, Begin, Prepared, RecordVote, GiveUp, Finish, Watched, RecordWatch, Effect, Route, AnswerBody, Mail, Learn}
+use Rattle.sc_node_table.specs.Definitions.{same_command, elected, ended, stopped, entered, answer_of, answered_or_put_back, order_result, effect_reported, announced, learnt_to, welcomed, slot_lost, landed, left_gone, left, is_among, looked_for, looked, executed_one, next_child, has_room, next_ready, ending, executed_ready, all_ready, executed, sent_others, answer_to, put_back, ReplicaState, Place, Executed, childless, name_of, next, members, flying, forgotten, at_slot, before_of, spoken}
 use Rattle.std.proofs.lemmas.Bool.{cond_both, eqb-true, eq-eqb, or_parts, or_left, and_parts, true≢false}
 use Rattle.sc_mail.specs.declared.bodies.AnswerBody.TheVariants as Says
 use Rattle.sc_base.specs.Definitions.{is_member, least_of}
 use Rattle.sc_group_table.specs.machine.Definitions.{Group, state_after, applied}
 use Rattle.sc_group_table.proofs.MachineProofs.Lemmas.{state_push}
-use Rattle.sc_node_table.specs.declared.Before.{Before}
 use Rattle.sc_law_entries.proofs.NamesProofs.Lemmas.{opt_slot, slot_without, flight_without}
-use Rattle.sc_law_walks.proofs.Lemmas.{welcomed_place, cleared, either_way}
+use Rattle.sc_law_walks.proofs.Lemmas.{reported_place, learnt_place, welcomed_place, cleared, either_way}
 use Rattle.sc_law_refusal.specs.refusal.Definitions.{answers_in, effect_answers, log_with, log_after}
 use Rattle.sc_law_refusal.proofs.RefusalProofs.Keeping.{Kept, KeptOne, Due, Holds, back_kept, flying_kept}
 use Rattle.sc_law_refusal.proofs.RefusalProofs.Plain.{others_plain, reported_plain, spoken_plain}
@@ -99,33 +98,20 @@ module _ (start : ReplicaState) (A : Command → Type 0) (G : Draw → ℕ → T
   back_fine (Watched tx watch) r mails k d f = (back_kept A G (Watched tx watch) r k d f.0, f.1)
   back_fine (RecordWatch tx vote by) r mails k d f = (back_kept A G (RecordWatch tx vote by) r k d f.0, f.1)
 
-  effect_fine : (result : Option OrderResult) (command : Command) (place : Place) → F place → F (effect_reported result command place)
-  unfolding effect_reported
-  effect_fine None command place f = f
-  effect_fine (Some result) command (r, mails) f =
-      (f.0, resent start A G W Q false false r mails _ f.1 (reported_plain (AllCaused start A G W Q f.1.entries false false) (plain_caused start A G W Q f.1.entries false false) r.me (order_number command) result mails f.1.sent))
+  effect_fine : (effect : Effect) (command : Command) (place : Place) → F place → F (effect_reported (order_result command effect) command place)
+  effect_fine effect command place f =
+      reported_place F (λ number result r mails g. (g.0, resent start A G W Q false false r mails _ g.1 (reported_plain (AllCaused start A G W Q g.1.entries false false) (plain_caused start A G W Q g.1.entries false false) r.me number result mails g.1.sent))) (order_result command effect) command place f
 
   -- a counted entry, of a command that was kept
   pub counted_fine : (command : Command) (r : ReplicaState) (mails : List Mail) → Kept A G command → F (r, mails) → F (announced true (applied r.group command).1 command (entered command r, mails))
   unfolding announced
   counted_fine command r mails k f =
-      let effect : Effect = (applied r.group command).1 in effect_fine (order_result command effect) command (answered_or_put_back (answer_of effect) command (entered command r, mails)) (told_fine (answer_of effect) command r mails f k refl)
+      let effect : Effect = (applied r.group command).1 in effect_fine effect command (answered_or_put_back (answer_of effect) command (entered command r, mails)) (told_fine (answer_of effect) command r mails f k refl)
 
   -- one that is learnt is answered to no client
   pub learning_fine : (effect : Effect) (command : Command) (place : Place) → F place → F (announced false effect command place)
   unfolding announced
-  learning_fine effect command place f = effect_fine (order_result command effect) command place f
-
-  spoken_fine : (counted : Bool) (before : Before) (effect : Effect) (command : Command) (place : Place) → F place → F (spoken counted before effect command place)
-  unfolding spoken
-  spoken_fine counted before effect command (r, mails) f =
-      (f.0, resent start A G W Q false false r mails _ f.1 (spoken_plain (AllCaused start A G W Q f.1.entries false false) (plain_caused start A G W Q f.1.entries false false) counted r.me r.group before effect command mails f.1.sent))
-
-  learnt_fine : (counted : Bool) (nodes : List ℕ) (slot : ℕ) (command : Command) (place : Place) → F place → F (learnt_to counted nodes slot command place)
-  unfolding learnt_to
-  learnt_fine counted nodes slot command (r, mails) f =
-      either_way F counted (r, sent_others r.me nodes (Learn (name_of r) slot command) mails) (r, mails)
-      (f.0, resent start A G W Q false false r mails _ f.1 (others_plain (AllCaused start A G W Q f.1.entries false false) (plain_caused start A G W Q f.1.entries false false) r.me nodes (Learn (name_of r) slot command) mails tt f.1.sent)) f
+  learning_fine effect command place f = effect_fine effect command place f
 
   cleared_fine : (slot : ℕ) (place : Place) → F place → F (cleared slot place)
   cleared_fine slot (r, mails) f = (
@@ -227,14 +213,25 @@ module _ (start : ReplicaState) (A : Command → Type 0) (G : Draw → ℕ → T
 
   -- after an entry that was announced
   one_fine : (counted : Bool) (command : Command) (r : ReplicaState) (mails : List Mail) → MayLose counted command r → F (announced counted (applied r.group command).1 command (entered command r, mails)) → Past (executed_one counted command (r, mails))
-  unfolding executed_one
+  unfolding executed_one spoken
   one_fine counted command r mails d f1 =
       let effect : Effect = (applied r.group command).1 in
       let place1 : Place = announced counted effect command (entered command r, mails) in
       let place2 : Place = spoken counted (before_of r.group.core) effect command place1 in
-      let f2 : F place2 = spoken_fine counted (before_of r.group.core) effect command place1 f1 in
+      let s = f1.1 in
+      let f2 : F place2 = (
+        f1.0,
+        resent start A G W Q false false place1.0 place1.1 _ s
+            (spoken_plain (AllCaused start A G W Q s.entries false false) (plain_caused start A G W Q s.entries false false) counted place1.0.me place1.0.group (before_of r.group.core) effect command place1.1 s.sent),
+      ) in
       let place3 : Place = learnt_to counted (members r) (next r) command place2 in
-      let f3 : F place3 = learnt_fine counted (members r) (next r) command place2 f2 in
+      let s2 = f2.1 in
+      let taught : F (place2.0, sent_others place2.0.me (members r) (Learn (name_of place2.0) (next r) command) place2.1) = (
+        f2.0,
+        resent start A G W Q false false place2.0 place2.1 _ s2
+            (others_plain (AllCaused start A G W Q s2.entries false false) (plain_caused start A G W Q s2.entries false false) place2.0.me (members r) (Learn (name_of place2.0) (next r) command) place2.1 tt s2.sent),
+      ) in
+      let f3 : F place3 = learnt_place F counted (members r) (next r) command place2 f2 taught in
       let place4 : Place = welcomed counted (members r) place3 in
       let f4 : F place4 = welcomed_place F (welcomed_fine start A G W Q false false) counted (members r) place3 f3 in
       let place5 : Place = landed counted (next r) command place4 in

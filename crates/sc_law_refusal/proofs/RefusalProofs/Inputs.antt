@@ -3,7 +3,7 @@ use Rattle.std.proofs.Common.{◌≡◌, ℕ, ◌+◌, ◌≤◌, nat_lt, eqb, B
 use Rattle.std.proofs.lemmas.Bool.{cond_both, eqb-true}
 use Rattle.sc_base.specs.Definitions.{Each, Drawer, client_actor}
 use Rattle.sc_node_table.specs.Values.{Ballot, Draw, Input, Got, Op, Command, Call, GiveUp, OrderLine, AnswerBody, Mail, MailBody, Request, Answer, Prepare, Promise, Accept, Accepted, Nack, Learn, Ask, Install, TxPrepare, TxVote, TxOutcome, TxElsewhere, TxWatch, TxWatched, Told}
-use Rattle.sc_actor.specs.declared.rows.Input.TheVariants.{Tick, Told as Tells}
+use Rattle.sc_actor.specs.declared.rows.Input.TheVariants.{Tick, Told as OrderInput}
 use Rattle.sc_mail.specs.declared.bodies.AnswerBody.TheVariants as Says
 use Rattle.sc_words.proofs.PaxosProofs.Lemmas.{Each-append, Each-from, Each-weaker}
 use Rattle.sc_group_table.specs.machine.Definitions.{applied}
@@ -51,21 +51,21 @@ module _ (r : ReplicaState) (W : Ballot → Draw → ℕ) (Q : Type 0) (numbered
 
     -- what was in flight at the slot of a learnt command may go back
     loses : (group : Draw) (slot : ℕ) (command : Command) → Learn group slot command ≡ mail.body → slot ≡ next r → (other : Command) → flying r (next r) ≡ Some other → same_command other command ≡ false → Due A1 G1 other r.acts
-    loses group slot command e is (GiveUp tx) flies apart =
-        (ends_queued tx r.acts + 1, omega arith, inr (omega arith, inr (record { mail = mail; brought = refl; group = group; slot = slot; learnt = command; body = sym e; flies = flies; is_next = is; other = apart })))
-    loses group slot command e is (Call client seq op) flies apart = tt
-    loses group slot command e is _ flies apart = tt
+    loses group slot command e fact (GiveUp tx) flies apart =
+        (ends_queued tx r.acts + 1, omega arith, inr (omega arith, inr (record { mail = mail; brought = refl; group = group; slot = slot; learnt = command; body = sym e; flies = flies; is_next = fact; other = apart })))
+    loses group slot command e fact (Call client seq op) flies apart = tt
+    loses group slot command e fact _ flies apart = tt
 
     -- ---- Learn
 
     -- what is executed as learnt, and what follows it
     taken_shown : (group : Draw) (slot : ℕ) (command : Command) → Learn group slot command ≡ mail.body → slot ≡ next r → S got (executed false command (r, [])).0
-    taken_shown group slot command e is =
+    taken_shown group slot command e fact =
         let from : ReplicaState = entered command r in
         let now : FineAs from A1 G1 W Q false false (announced false (applied r.group command).1 command (from, [])) =
         learning_fine from A1 G1 W Q (numbered_still command) (applied r.group command).1 command (from, []) (entered_first r got W Q within command) in
         learnt_shown r got W Q within command (executed false command (r, [])).0 (ap (λ b. taught_by b) e)
-        (executed_fine from A1 G1 W Q (numbered_still command) false command r [] (λ other flies counted apart. loses group slot command e is other flies apart) now)
+        (executed_fine from A1 G1 W Q (numbered_still command) false command r [] (λ other flies counted apart. loses group slot command e fact other flies apart) now)
 
     -- one that asks for what it lacks
     asking_shown : (group : Draw) (slot : ℕ) (command : Command) → S got (r, sent r.me mail.from (Ask (name_of r) (next r)) [])
@@ -83,7 +83,7 @@ module _ (r : ReplicaState) (W : Ballot → Draw → ℕ) (Q : Type 0) (numbered
     unfolding learn_row
     learn_shown group slot command e =
         either_way Sees (nat_lt last_slot slot) _ _ silent_shown
-        (cond_both (eqb slot (next r)) _ _ Sees (λ is. taken_shown group slot command e (eqb-true slot (next r) is))
+        (cond_both (eqb slot (next r)) _ _ Sees (λ fact. taken_shown group slot command e (eqb-true slot (next r) fact))
         (λ _. either_way Sees (nat_lt (next r) slot) (childless (r, sent r.me mail.from (Ask (name_of r) (next r)) [])) (childless (r, [])) (asking_shown group slot command) silent_shown))
 
     -- ---- all mail
@@ -124,7 +124,7 @@ module _ (r : ReplicaState) (W : Ballot → Draw → ℕ) (Q : Type 0) (numbered
             (λ leads tx body order heard lock long none. (ends_queued tx r.acts + 1, omega arith, inr (omega arith, inl (record { tick = refl; leads = leads; body = body; order = order; heard = heard; locked = lock; long = long; none = none })))) (counts refl) (first r Tick W Q within true),
       )
   step_shown on drawer (Given.Told line) counts =
-      shown r (Tells line) W Q within _ refl (false, order_fine r (A r (Tells line) W Q within) (G r (Tells line) W Q within) W Q drawer line r [] (first r (Tells line) W Q within true))
+      shown r (OrderInput line) W Q within _ refl (false, order_fine r (A r (OrderInput line) W Q within) (G r (OrderInput line) W Q within) W Q drawer line r [] (first r (OrderInput line) W Q within true))
 
 pub steps_have_causes : StepsHaveCauses
 steps_have_causes on drawer r input numbered = (step_shown r (λ ballot tx. 0) ⊥ numbered (λ never. absurd never) on drawer input (λ tick leads never. absurd never)).causes

@@ -1,10 +1,9 @@
 -- Every lawful journal refuses with cause: each row of a node is a step of its table, from a state in which its waiting was counted, and each row of a client is one of a client that keeps its turn.
 use Rattle.std.proofs.Common.{◌≡◌, zero, suc, ◌≤◌, ◌+◌, ℕ, ◌&&◌, eqb, true, false, List, [], ◌∷◌, ◌++◌, map, Option, Some, None, ◌⊎◌, inl, inr, refl, sym, ap, subst, ◌∙◌, arith, append_assoc}
 use Rattle.std.specs.List.{find}
-use Rattle.std.specs.Option.{option_map}
 use Rattle.std.proofs.lemmas.Bool.{cond_both, cond-true, eqb-true, eq-eqb, and_from, true≢false}
 use Rattle.sc_base.specs.Definitions.{Among, Each}
-use Rattle.sc_node_table.specs.Values.{Draw, Seat, Event, Input, Got, Row, Base, Route, OrderLine, Mail, Node, Client, Lock}
+use Rattle.sc_node_table.specs.Values.{Draw, Seat, Event, Input, Row, Base, Route, OrderLine, Mail, Node, Client, Lock}
 use Rattle.sc_actor.specs.declared.rows.Event.TheVariants as event
 use Rattle.sc_actor.specs.declared.rows.Input.TheVariants.{Go}
 use Rattle.sc_actor.specs.Definitions.{mails, numbered, acted, input_of, value, IsStep, IsOpen, IsLoose, has_started, is_go, place_after}
@@ -24,6 +23,8 @@ use Rattle.sc_law_refusal.proofs.RefusalProofs.Ticking.{IsKnown, counts, node_kn
 use Rattle.sc_law_refusal.proofs.PatienceProofs.GivenUpJournals.{lawful_give_up}
 use Rattle.sc_law_refusal.proofs.ResultsProofs.ReportedJournals.{rows_report}
 use Rattle.sc_law_refusal.proofs.RefusalProofs.Turning.{InPlace, keeps_turn, in_place}
+use Rattle.sc_law_groups.proofs.WholeProofs.Lemmas.{StepsKeep}
+use Rattle.sc_law_walks.proofs.Lemmas.{got_no_go}
 
 -- ---- seats
 
@@ -31,12 +32,12 @@ use Rattle.sc_law_refusal.proofs.RefusalProofs.Turning.{InPlace, keeps_turn, in_
 record IsNodeSeat (ahead : Ahead) (scenario : Scenario) (seat : Seat Player) : Type 0 where
   me : ℕ
   some : 1 ≤ me
-  is : seat ≡ node_seat ahead scenario.groups scenario.policy me
+  fact : seat ≡ node_seat ahead scenario.groups scenario.policy me
 
 record IsClientSeat (seat : Seat Player) : Type 0 where
   first : Route
   asks : Asks
-  is : seat ≡ client_seat first asks
+  fact : seat ≡ client_seat first asks
 
 abbrev IsSeat : Ahead → Scenario → Seat Player → Type 0
 IsSeat ahead scenario seat = IsNodeSeat ahead scenario seat ⊎ IsClientSeat seat
@@ -44,11 +45,11 @@ IsSeat ahead scenario seat = IsNodeSeat ahead scenario seat ⊎ IsClientSeat sea
 module _ (ahead : Ahead) (scenario : Scenario) where
   node_seats : (from count : ℕ) → 1 ≤ from → Each (IsSeat ahead scenario) (map (node_seat ahead scenario.groups scenario.policy) (numbers_from from count))
   node_seats from zero some = tt
-  node_seats from (suc count) some = (inl (record { me = from; some = some; is = refl }), node_seats (from + 1) count (omega (arith, some)))
+  node_seats from (suc count) some = (inl (record { me = from; some = some; fact = refl }), node_seats (from + 1) count (omega (arith, some)))
 
   one_route : (first : Route) (clients : List Asks) → Each (IsSeat ahead scenario) (map (client_seat first) clients)
   one_route first [] = tt
-  one_route first (asks ∷ clients) = (inr (record { first = first; asks = asks; is = refl }), one_route first clients)
+  one_route first (asks ∷ clients) = (inr (record { first = first; asks = asks; fact = refl }), one_route first clients)
 
   all_clients : (groups : List Base) (clients : List Asks) → Each (IsSeat ahead scenario) (client_seats groups clients)
   all_clients [] clients = tt
@@ -66,14 +67,10 @@ module _ (ahead : Ahead) (scenario : Scenario) where
 
 -- ---- what a step of a journal is
 
-not_go : (o : Option Mail) (input : Input Mail OrderLine) → option_map Got o ≡ Some input → input ≡ Go → ⊥
-not_go None input e go = cc
-not_go (Some mail) input e go = cc
-
 -- what is taken as word to go is one
 go_event : (sent : List Mail) (event : Event OrderLine) → input_of sent event ≡ Some Go → is_go event ≡ true
 go_event sent event.Go e = refl
-go_event sent (event.Deliver mail) e = absurd (not_go (numbered sent mail) Go e refl)
+go_event sent (event.Deliver mail) e = absurd (got_no_go (numbered sent mail) Go e refl)
 go_event sent event.Tick e = cc
 go_event sent (event.Told order) e = cc
 go_event sent event.Crash e = cc
@@ -86,7 +83,7 @@ module _ (ahead : Ahead) (words : ℕ → ℕ → ℕ × ℕ) (scenario : Scenar
 
   open_go : (who : ℕ) (event : Event OrderLine) → IsOpen (system_of ahead words scenario) rows who event → input_of (mails rows) event ≡ Some Go → has_started rows who ≡ false
   open_go who event.Go o e = o
-  open_go who (event.Deliver mail) o e = absurd (not_go (numbered (mails rows) mail) Go e refl)
+  open_go who (event.Deliver mail) o e = absurd (got_no_go (numbered (mails rows) mail) Go e refl)
   open_go who event.Tick o e = cc
   open_go who (event.Told order) o e = cc
   open_go who event.Crash o e = cc
@@ -169,7 +166,7 @@ module _ (ahead : Ahead) (words : ℕ → ℕ → ℕ × ℕ) (scenario : Scenar
   acted_placed rows row None e step who k = still_placed rows row (value player_table seat rows) k
   acted_placed rows row (Some input) e step who k = moved_placed rows row (value player_table seat rows) input step who e k
 
-  keeps : (rows : Rows) (row : Row Mail OrderLine) → P rows → IsStep (system_of ahead words scenario) rows row → P (rows ++ row ∷ [])
+  keeps : StepsKeep ahead words scenario P
   keeps rows row k step =
       subst (Placed (rows ++ row ∷ [])) (sym (value-snoc player_table seat rows row))
       (cond_both (eqb row.who seat.who) (acted player_table (value player_table seat rows) (input_of (mails rows) row.event)).0 (value player_table seat rows) (Placed (rows ++ row ∷ []))
@@ -184,7 +181,7 @@ module _ (ahead : Ahead) (words : ℕ → ℕ → ℕ × ℕ) (scenario : Scenar
 module _ (ahead : Ahead) (words : ℕ → ℕ → ℕ × ℕ) (scenario : Scenario) (rows : Rows) (row : Row Mail OrderLine) (lawful : Lawful ahead words scenario rows) (step : IsStep (system_of ahead words scenario) rows row) where
   -- what a player's table makes of a row of its own
   record Made (seat : Seat Player) (before after : Player) (input : Input Mail OrderLine) : Type 0 where
-    is : after ≡ (player_table before input).0
+    fact : after ≡ (player_table before input).0
     sends : row.sent ≡ (player_table before input).1
 
   made : (seat : Seat Player) (before after : Player) (input : Input Mail OrderLine) → Acts ahead scenario rows row seat before after input → Made seat before after input
@@ -193,7 +190,7 @@ module _ (ahead : Ahead) (words : ℕ → ℕ → ℕ × ℕ) (scenario : Scenar
       let same : acted player_table (value player_table seat rows) (input_of (mails rows) row.event) ≡ player_table before input =
       ap (λ (p : Player). acted player_table p (input_of (mails rows) row.event)) a.was ∙ ap (λ (o : Option (Input Mail OrderLine)). acted player_table before o) a.takes in
       record {
-        is = sym a.is ∙ own_value seat rows row (sym who) ∙ ap (λ x. x.0) same;
+        fact = sym a.fact ∙ own_value seat rows row (sym who) ∙ ap (λ x. x.0) same;
         sends = sent_is ahead words scenario rows row step seat a.seated input a.takes ∙ ap (λ x. x.1) same;
       }
 
@@ -206,13 +203,13 @@ module _ (ahead : Ahead) (words : ℕ → ℕ → ℕ × ℕ) (scenario : Scenar
     known = node_known ahead scenario me some rows before a.was
 
     numbered_all : Each (λ (r : ReplicaState). 1 ≤ r.me) before.replicas
-    numbered_all = Each-weaker (Keeps me (counts place rows)) (λ (r : ReplicaState). 1 ≤ r.me) (λ r k. (let is = k.me_is in omega (arith, some, is))) before.replicas known.keep
+    numbered_all = Each-weaker (Keeps me (counts place rows)) (λ (r : ReplicaState). 1 ≤ r.me) (λ r k. (let fact = k.me_is in omega (arith, some, fact))) before.replicas known.keep
 
     has : NodeHasCauses before input (node_table before input).0 (node_table before input).1
     has = nodes_have_causes before input numbered_all
 
     after_is : (node_table before input).0 ≡ after
-    after_is = let m = made place (Node before) (Node after) input a in let both : Node after ≡ Node (node_table before input).0 = m.is in cc
+    after_is = let m = made place (Node before) (Node after) input a in let both : Node after ≡ Node (node_table before input).0 = m.fact in cc
 
     node_answers : AnswersHaveCauses before input after row.sent
     node_answers =
@@ -253,7 +250,7 @@ module _ (ahead : Ahead) (words : ℕ → ℕ → ℕ × ℕ) (scenario : Scenar
       let place : InPlace (has_started rows seat.who) before = subst (Placed ahead words scenario first asks rows) a.was (placed ahead words scenario first asks rows lawful) in
       let told : input ≡ Go → has_started rows seat.who ≡ false = λ go. subst (λ (w : ℕ). has_started rows w ≡ false) (sym who) (go_once ahead words scenario rows row step (a.takes ∙ ap Some go)) in
       let turn : KeepsTurn before (table before input).0 input (table before input).1 = keeps_turn before input (has_started rows seat.who) place told in
-      let both : Client after ≡ Client (table before input).0 = m.is in
+      let both : Client after ≡ Client (table before input).0 = m.fact in
       let same : (table before input).0 ≡ after = cc in
       subst (λ (ms : List Mail). KeepsTurn before after input ms) (sym m.sends) (subst (λ (c : ClientState). KeepsTurn before c input (table before input).1) same turn)
 
@@ -267,30 +264,30 @@ module _ (ahead : Ahead) (words : ℕ → ℕ → ℕ × ℕ) (scenario : Scenar
       answers : (seat : Seat Player) (before after : NodeState) (input : Input Mail OrderLine) → Acts ahead scenario rows row seat (Node before) (Node after) input → AnswersHaveCauses before input after row.sent
       answers seat before after input a =
           elim (seat_is ahead scenario row.who seat a.seated).1 [
-            | inl n ↦ node_answers n.me n.some before after input (subst (λ (s : Seat Player). Acts ahead scenario rows row s (Node before) (Node after) input) n.is a)
-            | inr c ↦ absurd (no_node c.first c.asks before (subst (λ (s : Seat Player). value player_table s rows ≡ Node before) c.is a.was))
+            | inl n ↦ node_answers n.me n.some before after input (subst (λ (s : Seat Player). Acts ahead scenario rows row s (Node before) (Node after) input) n.fact a)
+            | inr c ↦ absurd (no_node c.first c.asks before (subst (λ (s : Seat Player). value player_table s rows ≡ Node before) c.fact a.was))
           ]
 
       requests : (seat : Seat Player) (before after : NodeState) (input : Input Mail OrderLine) → Acts ahead scenario rows row seat (Node before) (Node after) input → TakesRequests before input row.sent
       requests seat before after input a =
           elim (seat_is ahead scenario row.who seat a.seated).1 [
-            | inl n ↦ node_requests n.me n.some before after input (subst (λ (s : Seat Player). Acts ahead scenario rows row s (Node before) (Node after) input) n.is a)
-            | inr c ↦ absurd (no_node c.first c.asks before (subst (λ (s : Seat Player). value player_table s rows ≡ Node before) c.is a.was))
+            | inl n ↦ node_requests n.me n.some before after input (subst (λ (s : Seat Player). Acts ahead scenario rows row s (Node before) (Node after) input) n.fact a)
+            | inr c ↦ absurd (no_node c.first c.asks before (subst (λ (s : Seat Player). value player_table s rows ≡ Node before) c.fact a.was))
           ]
 
       acts : (seat : Seat Player) (before after : NodeState) (input : Input Mail OrderLine) → Acts ahead scenario rows row seat (Node before) (Node after) input → ActsHaveCauses (ticks_in seat rows) before input after
       acts seat before after input a =
           elim (seat_is ahead scenario row.who seat a.seated).1 [
-            | inl n ↦ subst (λ (s : Seat Player). ActsHaveCauses (ticks_in s rows) before input after) (sym n.is)
-                (node_acts n.me n.some before after input (subst (λ (s : Seat Player). Acts ahead scenario rows row s (Node before) (Node after) input) n.is a))
-            | inr c ↦ absurd (no_node c.first c.asks before (subst (λ (s : Seat Player). value player_table s rows ≡ Node before) c.is a.was))
+            | inl n ↦ subst (λ (s : Seat Player). ActsHaveCauses (ticks_in s rows) before input after) (sym n.fact)
+                (node_acts n.me n.some before after input (subst (λ (s : Seat Player). Acts ahead scenario rows row s (Node before) (Node after) input) n.fact a))
+            | inr c ↦ absurd (no_node c.first c.asks before (subst (λ (s : Seat Player). value player_table s rows ≡ Node before) c.fact a.was))
           ]
 
       turns : (seat : Seat Player) (before after : ClientState) (input : Input Mail OrderLine) → Acts ahead scenario rows row seat (Client before) (Client after) input → KeepsTurn before after input row.sent
       turns seat before after input a =
           elim (seat_is ahead scenario row.who seat a.seated).1 [
-            | inl n ↦ absurd (no_client ahead scenario n.me n.some rows before (subst (λ (s : Seat Player). value player_table s rows ≡ Client before) n.is a.was))
-            | inr c ↦ client_turn c.first c.asks before after input (subst (λ (s : Seat Player). Acts ahead scenario rows row s (Client before) (Client after) input) c.is a)
+            | inl n ↦ absurd (no_client ahead scenario n.me n.some rows before (subst (λ (s : Seat Player). value player_table s rows ≡ Client before) n.fact a.was))
+            | inr c ↦ client_turn c.first c.asks before after input (subst (λ (s : Seat Player). Acts ahead scenario rows row s (Client before) (Client after) input) c.fact a)
           ]
 
 -- ---- a journal
@@ -313,12 +310,12 @@ has_step ahead words scenario journal lawful before row later are =
 pub valid_refuse : QueuesKeepOneCall → ValidJournalsRefuseWithCause
 valid_refuse queues ahead open_slots words scenario valid journal lawful = record {
   rows = λ before row later are. (let has = has_step ahead words scenario journal lawful before row later are in row_has ahead words scenario before row has.lawful has.step);
-  queues = λ before later are seat seated node is. (
+  queues = λ before later are seat seated node fact. (
       let at : IsSeat ahead scenario seat = Each-among (IsSeat ahead scenario) (births ahead scenario) seat (seats ahead scenario) seated in
       let prefix : Lawful ahead words scenario before = lawful-prefix (system_of ahead words scenario) (schedule scenario) before later (subst (Lawful ahead words scenario) are lawful) in
       elim at [
-        | inl n ↦ queues ahead scenario n.me before node (subst (λ (s : Seat Player). value player_table s before ≡ Node node) n.is is)
-        | inr c ↦ absurd (subst (Placed ahead words scenario c.first c.asks before) (subst (λ (s : Seat Player). value player_table s before ≡ Node node) c.is is) (placed ahead words scenario c.first c.asks before prefix))
+        | inl n ↦ queues ahead scenario n.me before node (subst (λ (s : Seat Player). value player_table s before ≡ Node node) n.fact fact)
+        | inr c ↦ absurd (subst (Placed ahead words scenario c.first c.asks before) (subst (λ (s : Seat Player). value player_table s before ≡ Node node) c.fact fact) (placed ahead words scenario c.first c.asks before prefix))
       ]);
   given_up = λ before later are. lawful_give_up ahead open_slots words scenario before (lawful-prefix (system_of ahead words scenario) (schedule scenario) before later (subst (Lawful ahead words scenario) are lawful));
   reported = λ before row later are. (let has = has_step ahead words scenario journal lawful before row later are in rows_report ahead open_slots words scenario valid before has.lawful row has.step);

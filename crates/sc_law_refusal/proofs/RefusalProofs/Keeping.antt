@@ -101,16 +101,16 @@ module _ (A : Command → Type 0) (G : Draw → ℕ → Type 0) where
   fewer_due acts fewer few d tx = (let p = d tx in let less = few tx in let most = p.1 in (p.0, omega (arith, less, most), p.2))
 
   other_due : (acts more : List Command) → ((tx : Draw) → ends_queued tx more ≡ ends_queued tx acts + 0) → DueAll acts → DueAll more
-  other_due acts more is d = fewer_due acts more (λ tx. (let same = is tx in omega (arith, same))) d
+  other_due acts more fact d = fewer_due acts more (λ tx. (let same = fact tx in omega (arith, same))) d
 
   -- with one that may be
   pub more_due : (command : Command) (acts more : List Command) → ((tx : Draw) → ends_queued tx more ≡ ends_queued tx acts + ends_queued tx (command ∷ [])) → Due command acts → DueAll acts → DueAll more
-  more_due (GiveUp other) acts more is k d = λ tx.
+  more_due (GiveUp other) acts more fact k d = λ tx.
       cond_both (same_draw tx other) (GiveUp other ∷ []) [] (λ (one : List Command). ends_queued tx more ≡ ends_queued tx acts + length one → (count : ℕ) × (ends_queued tx more ≤ count) × G tx count)
       (λ e now. (let p = subst (λ (name : Draw). Due (GiveUp name) acts) (sym (draw_is tx other e)) k in let most = p.1 in (p.0, omega (arith, now, most), p.2)))
-      (λ _ now. (let p = d tx in let most = p.1 in (p.0, omega (arith, now, most), p.2))) (is tx)
-  more_due Noop acts more is k d = other_due acts more is d
-  more_due _ acts more is k d = other_due acts more is d
+      (λ _ now. (let p = d tx in let most = p.1 in (p.0, omega (arith, now, most), p.2))) (fact tx)
+  more_due Noop acts more fact k d = other_due acts more fact d
+  more_due _ acts more fact k d = other_due acts more fact d
 
   -- ---- what goes back
 

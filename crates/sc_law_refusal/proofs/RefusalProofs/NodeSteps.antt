@@ -61,12 +61,12 @@ module _ (T : ReplicaState → Type 0) where
 
   children_each : (me : ℕ) → ((child : Base) → T (born_replica slots_ahead me child)) → (children : List Base) (node : NodeState) → node.me ≡ me → Rs node.replicas → Rs (with_children children node).replicas
   unfolding with_children
-  children_each me born [] node is k = k
-  children_each me born (child ∷ children) node is k =
+  children_each me born [] node fact k = k
+  children_each me born (child ∷ children) node fact k =
       let more : NodeState = record node { replicas = with_new (born_replica slots_ahead node.me child) node.replicas } in
       let there : Bool = is_some (replica_of child.core.id node.replicas) in
-      children_each me born children (with_born child node) (either_way (λ (n : NodeState). n.me ≡ me) there node more is is)
-      (either_way (λ (n : NodeState). Rs n.replicas) there node more k (new_each (born_replica slots_ahead node.me child) node.replicas (subst (λ (n : ℕ). T (born_replica slots_ahead n child)) (sym is) (born child)) k))
+      children_each me born children (with_born child node) (either_way (λ (n : NodeState). n.me ≡ me) there node more fact fact)
+      (either_way (λ (n : NodeState). Rs n.replicas) there node more k (new_each (born_replica slots_ahead node.me child) node.replicas (subst (λ (n : ℕ). T (born_replica slots_ahead n child)) (sym fact) (born child)) k))
 
 -- ---- a replica that is made of a state that is sent has waited for nothing, and has no act
 
@@ -77,19 +77,19 @@ record IsNew (me : ℕ) (place : Place) : Type 0 where
 
 elected_new : (me : ℕ) (r : ReplicaState) (mails : List Mail) → IsNew me (r, mails) → IsNew me (elected (r, mails))
 unfolding elected
-elected_new me r mails is = either_way (IsNew me) (eqb r.top.round (2 ^ 32 - 1)) _ _ is (record { me_is = is.me_is; acts = is.acts; waits = refl })
+elected_new me r mails fact = either_way (IsNew me) (eqb r.top.round (2 ^ 32 - 1)) _ _ fact (record { me_is = fact.me_is; acts = fact.acts; waits = refl })
 
 for_new : (me : ℕ) (gone : Option Route) (r : ReplicaState) (mails : List Mail) → IsNew me (r, mails) → IsNew me (looked_for gone (r, mails))
-for_new me (Some into) r mails is = is
-for_new me None r mails is =
-    let hinted : (hint : Option ℕ) → IsNew me (record r { hint = hint }, mails) = λ hint. record { me_is = is.me_is; acts = is.acts; waits = is.waits } in
-    either_way (IsNew me) (is_among (members r) r.hint) (r, mails) _ is
+for_new me (Some into) r mails fact = fact
+for_new me None r mails fact =
+    let hinted : (hint : Option ℕ) → IsNew me (record r { hint = hint }, mails) = λ hint. record { me_is = fact.me_is; acts = fact.acts; waits = fact.waits } in
+    either_way (IsNew me) (is_among (members r) r.hint) (r, mails) _ fact
     (either_way (IsNew me) (eqb (least_of (members r)) r.me) (elected (record r { hint = Some r.me }, mails)) (record r { hint = Some (least_of (members r)) }, mails)
     (elected_new me (record r { hint = Some r.me }) mails (hinted (Some r.me))) (hinted (Some (least_of (members r)))))
 
 looked_new : (me : ℕ) (r : ReplicaState) (mails : List Mail) → IsNew me (r, mails) → IsNew me (looked (r, mails))
 unfolding looked
-looked_new me r mails is = either_way (IsNew me) r.running (r, mails) (looked_for r.group.core.gone (r, mails)) is (for_new me r.group.core.gone r mails is)
+looked_new me r mails fact = either_way (IsNew me) r.running (r, mails) (looked_for r.group.core.gone (r, mails)) fact (for_new me r.group.core.gone r mails fact)
 
 made_new : (me from : ℕ) (group : Draw) (slot : ℕ) (base : Base) (sets : List (List ℕ)) → IsNew me (made_by me from group slot base sets)
 unfolding made_by looked_up forgotten
@@ -156,17 +156,17 @@ module _ (me : ℕ) (W W' : Draw → Ballot → Draw → ℕ) (grows : (name : D
   -- a replica's own step keeps it
   step_keeps : (on : Bool) (drawer : Drawer) (r : ReplicaState) (input : ReplicaInput) → 1 ≤ me → (input ≡ Given.Tick → CountsTick W W' r) → Keeps me W r → Keeps me W' (stepped on drawer input (r, [])).0.0
   step_keeps on drawer r input some counts k =
-      let is = k.me_is in
+      let fact = k.me_is in
       let now = still_keeps r k in
-      let shown = step_shown r (W' (name_of r)) ⊤ (omega (arith, some, is)) (λ q runs. now.patient runs) on drawer input (λ tick leads q tx body order heard lock. (
+      let shown = step_shown r (W' (name_of r)) ⊤ (omega (arith, some, fact)) (λ q runs. now.patient runs) on drawer input (λ tick leads q tx body order heard lock. (
       let few : r.waits ≤ W (name_of r) r.leader.ballot tx = subst (λ (l : Lock). r.waits ≤ allowed (W (name_of r)) r.leader.ballot l) lock (k.patient (running_of r leads)) in
       let more = counts tick leads tx body order heard lock in omega (arith, few, more))) in
       let after : ReplicaState = (stepped on drawer input (r, [])).0.0 in
-      record { me_is = shown.me_is ∙ is; patient = λ runs. subst (λ (name : Draw). after.waits ≤ allowed (W' name) after.leader.ballot after.group.core.lock) (sym shown.name_is) (shown.patient tt runs) }
+      record { me_is = shown.me_is ∙ fact; patient = λ runs. subst (λ (name : Draw). after.waits ≤ allowed (W' name) after.leader.ballot after.group.core.lock) (sym shown.name_is) (shown.patient tt runs) }
 
   -- so is one that is made
   new_keeps : (r : ReplicaState) → r.me ≡ me → r.waits ≡ 0 → Keeps me W' r
-  new_keeps r is none = record { me_is = is; patient = λ runs. omega (arith, none) }
+  new_keeps r fact none = record { me_is = fact; patient = λ runs. omega (arith, none) }
 
   abbrev Ks : List ReplicaState → Type 0
   Ks replicas = Each (Keeps me W') replicas

@@ -1,6 +1,5 @@
 -- What a settled replica offers: each call that it turns down has its cause in the executed state.
-use Rattle.std.proofs.Common.{◌≡◌, ℕ, ◌+◌, ◌&&◌, nat_le, Bool, true, false, List, [], ◌∷◌, Option, Some, None, refl, sym, subst}
-use Rattle.std.specs.Prelude.{is_some}
+use Rattle.std.proofs.Common.{◌≡◌, ℕ, Bool, true, false, List, [], ◌∷◌, Option, Some, None, refl, sym, subst}
 use Rattle.std.specs.List.{list_any}
 use Rattle.std.proofs.lemmas.Bool.{cond_both, not-false}
 use Rattle.sc_base.specs.Definitions.{client_actor}
@@ -11,8 +10,8 @@ use Rattle.sc_group_table.specs.machine.Definitions.{Group, state_after}
 use Rattle.sc_words.proofs.PaxosProofs.Lemmas.{Each-append}
 use Rattle.sc_words.specs.declared.paxos.answers.Must.TheVariants.{Value, Free as Open}
 use Rattle.sc_words.specs.paxos.Definitions.{must}
-use Rattle.sc_node_table.specs.Definitions.{answered, Found, is_act, admits_requests, waits, refused_by, turned_down, next_queued, from_backlog, from_acts, from_queues, found_by, found_for, offered, pumped_from, pumped, ReplicaState, Place, name_of, next, settled, may_offer, taken_at, under_way, is_idle, last_slot}
-use Rattle.sc_law_walks.proofs.Lemmas.{either_way, next_found}
+use Rattle.sc_node_table.specs.Definitions.{answered, Found, is_act, admits_requests, waits, refused_by, turned_down, next_queued, from_backlog, from_acts, from_queues, found_by, found_for, offered, pumped, ReplicaState, Place, name_of, under_way, is_idle}
+use Rattle.sc_law_walks.proofs.Lemmas.{either_way, next_found, Offers, pumped_place}
 use Rattle.sc_law_refusal.specs.refusal.Definitions.{LacksKey}
 use Rattle.sc_law_refusal.proofs.RefusalProofs.Keeping.{Kept, KeptAll, KeptOne, DueAll, Flying, MustKept, with_calls, with_acts, must_kept, fewer_due, ends_behind}
 use Rattle.sc_law_refusal.proofs.RefusalProofs.Standing.{CauseSo, AllCaused, answer_caused, FineAs, Fine, resent, with_all}
@@ -36,13 +35,13 @@ module _ (start : ReplicaState) (A : Command → Type 0) (G : Draw → ℕ → T
 
   -- a call that the executed state does not serve is answered with cause
   pub lacking : (entries : List Command) (group : Group) (op : Op) (answer : AnswerBody) → group ≡ state_after start.group entries → LacksKey group op answer → CauseSo start A G W Q entries refused true op answer
-  lacking entries group op (Says.Value reply) is l = absurd l
-  lacking entries group op (Says.NotLeader hint) is l = absurd l
-  lacking entries group op (Says.NotMine arc succ) is l = (refl, subst (λ g. LacksKey g op (Says.NotMine arc succ)) is l)
-  lacking entries group op (Says.Gone into) is l = (refl, subst (λ g. LacksKey g op (Says.Gone into)) is l)
-  lacking entries group op (Says.Stale last) is l = absurd l
+  lacking entries group op (Says.Value reply) fact l = absurd l
+  lacking entries group op (Says.NotLeader hint) fact l = absurd l
+  lacking entries group op (Says.NotMine arc succ) fact l = (refl, subst (λ g. LacksKey g op (Says.NotMine arc succ)) fact l)
+  lacking entries group op (Says.Gone into) fact l = (refl, subst (λ g. LacksKey g op (Says.Gone into)) fact l)
+  lacking entries group op (Says.Stale last) fact l = absurd l
 
-  module _ (entries : List Command) (me : ℕ) (idle : Bool) (group : Group) (is : group ≡ state_after start.group entries) (own : group.core.id ≡ start.group.core.id) where
+  module _ (entries : List Command) (me : ℕ) (idle : Bool) (group : Group) (fact : group ≡ state_after start.group entries) (own : group.core.id ≡ start.group.core.id) where
     abbrev C : List Mail → Type 0
     C mails = AllCaused start A G W Q entries refused true mails
 
@@ -58,7 +57,7 @@ module _ (start : ReplicaState) (A : Command → Type 0) (G : Draw → ℕ → T
           op = op;
           receiver = refl;
           was_asked = k;
-          cause = lacking entries group op answer is (refused_so group.core.gone group op answer refl (not-false (admits_requests group.core.lock) w) e);
+          cause = lacking entries group op answer fact (refused_so group.core.gone group op answer refl (not-false (admits_requests group.core.lock) w) e);
         }) c
     turned_one _ answer mails k w e c = c
 
@@ -102,22 +101,13 @@ module _ (start : ReplicaState) (A : Command → Type 0) (G : Draw → ℕ → T
         with_all start A G W Q refused true r mails r.me set (Accept (name_of r) r.leader.ballot slot command) tt f.1,
       )
 
-  pump_by : (slot : ℕ) (set : List ℕ) (sets : List (List ℕ)) (found : Found) → FoundFine found → ((place : Place) → F place → F (pumped_from (slot + 1) sets place))
-      → F (elim (found.0) [ None ↦ found.1 | Some command ↦ pumped_from (slot + 1) sets (offered slot set command found.1) ])
-  pump_by slot set sets (None, place) f more = f.1
-  pump_by slot set sets (Some command, place) f more = more (offered slot set command place) (offered_fine slot set command place f.0 f.1)
-
-  from_fine : (slot : ℕ) (sets : List (List ℕ)) (place : Place) → F place → F (pumped_from slot sets place)
-  unfolding pumped_from
-  from_fine slot [] place f = f
-  from_fine slot (set ∷ sets) place f =
-      either_way F (is_some (taken_at place.0 slot)) _ _ (from_fine (slot + 1) sets place f)
-      (either_way F (may_offer place.0 set) _ _ (pump_by slot set sets (found_for slot place) (found_fine slot place f) (λ p g. from_fine (slot + 1) sets p g)) f)
+  found_offers : (slot : ℕ) (set : List ℕ) (found : Found) → FoundFine found → Offers F slot set found
+  found_offers slot set (None, place) f = f.1
+  found_offers slot set (Some command, place) f = offered_fine slot set command place f.0 f.1
 
   -- what a replica offers
   pub pumped_fine : (place : Place) → F place → F (pumped place)
-  unfolding pumped
-  pumped_fine place f = either_way F (settled place.0 && nat_le (next place.0) last_slot) (pumped_from (next place.0) place.0.sets place) place (from_fine (next place.0) place.0.sets place f) f
+  pumped_fine place f = pumped_place F (λ slot set p g. found_offers slot set (found_for slot p) (found_fine slot p g)) place f
 
 -- what a replica offers, whether or not another leader was named
 pub pumped_still : (start : ReplicaState) (A : Command → Type 0) (G : Draw → ℕ → Type 0) (W : Ballot → Draw → ℕ) (Q : Type 0) (place : Place) → Fine start A G W Q place → Fine start A G W Q (pumped place)

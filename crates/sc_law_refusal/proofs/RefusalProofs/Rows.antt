@@ -4,17 +4,16 @@ use Rattle.std.specs.List.{list_any}
 use Rattle.std.specs.Prelude.{is_some}
 use Rattle.std.proofs.lemmas.Bool.{cond_both, leb-true, and_parts, not-true, not-false}
 use Rattle.sc_base.specs.Definitions.{Drawer, next_name, client_actor, is_member}
-use Rattle.sc_node_table.specs.Values.{Ballot, Draw, Op, Body, Offer, Watch, Command, Call, GiveUp, Prepared, RecordVote, Finish, Watched, RecordWatch, Lock, Free, Coordinating, Promised, Watching, Route, Order, OrderLine, OrderRefusal, Heard, Outcome, Past, Vote, AnswerBody, Mail, Answer, TxOutcome, TxElsewhere, Told}
+use Rattle.sc_node_table.specs.Values.{Ballot, Draw, Op, Body, Offer, Watch, Command, Call, GiveUp, Lock, Free, Coordinating, Promised, Watching, Route, Order, OrderLine, OrderRefusal, Heard, Outcome, Past, Vote, AnswerBody, Mail, Answer, TxOutcome, TxElsewhere, Told}
 use Rattle.sc_words.specs.ideal.Definitions.{key_of, holds_key}
 use Rattle.sc_words.specs.declared.commands.orders.Order.TheVariants as An
-use Rattle.sc_words.specs.declared.commands.orders.OrderResult.TheVariants as Tells
-use Rattle.sc_words.specs.declared.commands.votes.Past.TheVariants as Cast
-use Rattle.sc_words.specs.declared.commands.votes.Vote.TheVariants as Vows
+use Rattle.sc_words.specs.declared.commands.orders.OrderResult.TheVariants as Results
 use Rattle.sc_mail.specs.declared.bodies.AnswerBody.TheVariants as Says
 use Rattle.sc_words.proofs.PaxosProofs.Lemmas.{Each-append}
 use Rattle.sc_words.specs.paxos.Definitions.{entry_at}
-use Rattle.sc_node_table.specs.Definitions.{has_act, is_of_kind, with_act, act_queued, elected, sent, ordered_command, untaken, queued_or_refused, ordered_row, wished_line, with_command, with_line, wishing, admits_requests, pumped, queued_number, without_request, patience, one_tick_more, waited_in, reminders, reminded, ReplicaState, Place, name_of, next, listed, members, open_slots, settled, taken_at, taken_from, is_idle, request_refusal, refused_at, queued, requested, request_row, asked_again, last_entry_sent, tick_row, noted_outcome, standing_vote, sent_elsewhere, offered_by, offer_row, watched_by, watch_row, awaits_vote, awaits_watch, outcome_sent, vote_queued, vote_met, vote_row, watch_queued, watch_met, watched_row, asked_next, elsewhere_row, is_bound, outcome_row}
-use Rattle.sc_law_walks.proofs.Lemmas.{either_way}
+use Rattle.sc_node_table.specs.Definitions.{has_act, is_of_kind, with_act, act_queued, elected, sent, ordered_command, untaken, queued_or_refused, ordered_row, wished_line, with_command, with_line, wishing, admits_requests, pumped, queued_number, without_request, patience, one_tick_more, waited_in, reminders, reminded, ReplicaState, Place, name_of, next, listed, members, open_slots, settled, taken_at, taken_from, is_idle, request_refusal, refused_at, queued, requested, request_row, asked_again, last_entry_sent, tick_row, offer_row, watch_row, vote_row, watched_row, elsewhere_row, outcome_row}
+use Rattle.sc_law_walks.proofs.Lemmas.{either_way, TransactionParts}
+use Rattle.sc_law_walks.proofs.TransactionRows.{offer_keeps, watch_keeps, vote_keeps, watched_keeps, elsewhere_keeps, outcome_keeps}
 use Rattle.sc_law_refusal.specs.refusal.Definitions.{LacksKey}
 use Rattle.sc_law_refusal.proofs.RefusalProofs.Keeping.{Kept, Due, with_calls, with_acts, without_kept, more_due, ends_after}
 use Rattle.sc_law_refusal.proofs.RefusalProofs.Plain.{again_plain, last_plain, reminders_plain, vote_plain, watched_plain, next_plain}
@@ -161,70 +160,35 @@ module _ (start : ReplicaState) (A : Command → Type 0) (G : Draw → ℕ → T
 
   -- ---- the parties of a transaction
 
-  elsewhere_sent : (node : ℕ) (tx coord : Draw) (place : Place) → F place → F (sent_elsewhere node tx coord place)
-  elsewhere_sent node tx coord (r, mails) f = (f.0, with_plain start A G W Q false true r mails r.me node (TxElsewhere tx coord r.hint) tt f.1)
-
-  offered_fine : (o : Option Past) (from : ℕ) (tx : Draw) (offer : Offer) (place : Place) → F place → F (offered_by o from tx offer place)
-  offered_fine (Some vote) from tx offer (r, mails) f =
-      (f.0, resent start A G W Q false true r mails _ f.1 (vote_plain (AllCaused start A G W Q f.1.entries false true) (plain_caused start A G W Q f.1.entries false true) r.me r.group from tx offer vote mails f.1.sent))
-  offered_fine None from tx offer (r, mails) f =
-      either_way F r.running (act_queued (Prepared tx offer) (r, mails)) (sent_elsewhere from tx offer.coord (r, mails)) (queued_act (Prepared tx offer) r mails tt (λ _. tt) f) (elsewhere_sent from tx offer.coord (r, mails) f)
+  -- which commands such mail may queue, and what it sends
+  abbrev transactions : TransactionParts F
+  transactions = record {
+    Files = λ act. Kept A G act × ((acts : List Command) → Due A G act acts);
+    queues = λ act place q f. queued_act act place.0 place.1 q.0 (λ _. q.1 place.0.acts) f;
+    votes = λ to tx offer vote r mails q f. (f.0, resent start A G W Q false true r mails _ f.1 (vote_plain (AllCaused start A G W Q f.1.entries false true) (plain_caused start A G W Q f.1.entries false true) r.me r.group to tx offer vote mails f.1.sent));
+    sees = λ to tx watch vote r mails f. (f.0, resent start A G W Q false true r mails _ f.1 (watched_plain (AllCaused start A G W Q f.1.entries false true) (plain_caused start A G W Q f.1.entries false true) r.me to tx watch vote mails f.1.sent));
+    ends = λ to tx part outcome r mails f. (f.0, with_plain start A G W Q false true r mails r.me to (TxOutcome tx part outcome) tt f.1);
+    sends_on = λ to tx coord r mails f. (f.0, with_plain start A G W Q false true r mails r.me to (TxElsewhere tx coord r.hint) tt f.1);
+    asks_next = λ from tx hint r mails f. (f.0, resent start A G W Q false true r mails _ f.1 (next_plain (AllCaused start A G W Q f.1.entries false true) (plain_caused start A G W Q f.1.entries false true) r.group.core.lock r.me r.group.core from tx hint mails f.1.sent));
+  }
 
   pub offer_fine : (from : ℕ) (tx : Draw) (offer : Offer) (r : ReplicaState) (mails : List Mail) → F (r, mails) → F (offer_row from tx offer (r, mails))
-  unfolding offer_row
-  offer_fine from tx offer r mails f = offered_fine (standing_vote r.group.core tx) from tx offer (r, mails) f
-
-  watched_by_fine : (o : Option Past) (from : ℕ) (tx : Draw) (watch : Watch) (place : Place) → F place → F (watched_by o from tx watch place)
-  watched_by_fine (Some vote) from tx watch (r, mails) f =
-      (f.0, resent start A G W Q false true r mails _ f.1 (watched_plain (AllCaused start A G W Q f.1.entries false true) (plain_caused start A G W Q f.1.entries false true) r.me from tx watch vote mails f.1.sent))
-  watched_by_fine None from tx watch (r, mails) f =
-      either_way F r.running (act_queued (Watched tx watch) (r, mails)) (sent_elsewhere from tx watch.coord (r, mails)) (queued_act (Watched tx watch) r mails tt (λ _. tt) f) (elsewhere_sent from tx watch.coord (r, mails) f)
+  offer_fine from tx offer r mails f = offer_keeps F transactions from tx offer (r, mails) (tt, λ _. tt) f
 
   pub watch_fine : (from : ℕ) (tx : Draw) (watch : Watch) (r : ReplicaState) (mails : List Mail) → F (r, mails) → F (watch_row from tx watch (r, mails))
-  unfolding watch_row
-  watch_fine from tx watch r mails f = watched_by_fine (standing_vote r.group.core tx) from tx watch (r, mails) f
-
-  outcome_told : (node : ℕ) (tx part : Draw) (outcome : Outcome) (r : ReplicaState) (mails : List Mail) → F (r, mails) → F (r, outcome_sent r.me node tx part outcome mails)
-  outcome_told node tx part outcome r mails f = (f.0, with_plain start A G W Q false true r mails r.me node (TxOutcome tx part outcome) tt f.1)
-
-  vote_queued_fine : (from : ℕ) (tx : Draw) (vote : Vote) (place : Place) → F place → F (vote_queued from tx vote place)
-  vote_queued_fine from tx vote (r, mails) f =
-      either_way F (r.running && awaits_vote r.group.core.lock tx) (act_queued (RecordVote tx vote from) (r, mails)) (r, mails) (queued_act (RecordVote tx vote from) r mails tt (λ _. tt) f) f
-
-  vote_met_fine : (vote : Vote) (o : Option Outcome) (from : ℕ) (tx part : Draw) (place : Place) → F place → F (vote_met vote o from tx part place)
-  vote_met_fine (Vows.Yes frozen) (Some outcome) from tx part (r, mails) f = outcome_told from tx part outcome r mails f
-  vote_met_fine (Vows.Yes frozen) None from tx part place f = vote_queued_fine from tx (Vows.Yes frozen) place f
-  vote_met_fine (Vows.No why) outcome from tx part place f = vote_queued_fine from tx (Vows.No why) place f
+  watch_fine from tx watch r mails f = watch_keeps F transactions from tx watch (r, mails) (tt, λ _. tt) f
 
   pub vote_fine : (from : ℕ) (tx part : Draw) (vote : Vote) (r : ReplicaState) (mails : List Mail) → F (r, mails) → F (vote_row from tx part vote (r, mails))
-  unfolding vote_row
-  vote_fine from tx part vote r mails f = vote_met_fine vote (noted_outcome r.group.core tx) from tx part (r, mails) f
-
-  watch_queued_fine : (from : ℕ) (tx : Draw) (vote : Past) (place : Place) → F place → F (watch_queued from tx vote place)
-  watch_queued_fine from tx vote (r, mails) f =
-      either_way F (r.running && awaits_watch r.group.core.lock tx) (act_queued (RecordWatch tx vote from) (r, mails)) (r, mails) (queued_act (RecordWatch tx vote from) r mails tt (λ _. tt) f) f
-
-  watch_met_fine : (vote : Past) (o : Option Outcome) (from : ℕ) (tx part : Draw) (place : Place) → F place → F (watch_met vote o from tx part place)
-  watch_met_fine Cast.Yes (Some outcome) from tx part (r, mails) f = outcome_told from tx part outcome r mails f
-  watch_met_fine Cast.Yes None from tx part place f = watch_queued_fine from tx Cast.Yes place f
-  watch_met_fine (Cast.No why) outcome from tx part place f = watch_queued_fine from tx (Cast.No why) place f
-  watch_met_fine Cast.Ended outcome from tx part place f = watch_queued_fine from tx Cast.Ended place f
+  vote_fine from tx part vote r mails f = vote_keeps F transactions from tx part vote (r, mails) (tt, λ _. tt) f
 
   pub watched_fine : (from : ℕ) (tx part : Draw) (vote : Past) (r : ReplicaState) (mails : List Mail) → F (r, mails) → F (watched_row from tx part vote (r, mails))
-  unfolding watched_row
-  watched_fine from tx part vote r mails f = watch_met_fine vote (noted_outcome r.group.core tx) from tx part (r, mails) f
+  watched_fine from tx part vote r mails f = watched_keeps F transactions from tx part vote (r, mails) (tt, λ _. tt) f
 
   pub elsewhere_fine : (from : ℕ) (tx : Draw) (hint : Option ℕ) (r : ReplicaState) (mails : List Mail) → F (r, mails) → F (elsewhere_row from tx hint (r, mails))
-  unfolding elsewhere_row
-  elsewhere_fine from tx hint r mails f =
-      let s = f.1 in
-      either_way F (settled r) (r, asked_next r.group.core.lock r.me r.group.core from tx hint mails) (r, mails)
-      (f.0, resent start A G W Q false true r mails _ s (next_plain (AllCaused start A G W Q s.entries false true) (plain_caused start A G W Q s.entries false true) r.group.core.lock r.me r.group.core from tx hint mails s.sent)) f
+  elsewhere_fine from tx hint r mails f = elsewhere_keeps F transactions from tx hint (r, mails) f
 
   pub outcome_fine : (tx : Draw) (outcome : Outcome) (r : ReplicaState) (mails : List Mail) → F (r, mails) → F (outcome_row tx outcome (r, mails))
-  unfolding outcome_row
-  outcome_fine tx outcome r mails f =
-      either_way F (r.running && is_bound r.group.core.lock tx) (act_queued (Finish tx outcome) (r, mails)) (r, mails) (queued_act (Finish tx outcome) r mails tt (λ _. tt) f) f
+  outcome_fine tx outcome r mails f = outcome_keeps F transactions tx outcome (r, mails) (tt, λ _. tt) f
 
   -- ---- orders
 
@@ -233,7 +197,7 @@ module _ (start : ReplicaState) (A : Command → Type 0) (G : Draw → ℕ → T
   order_kept name number _ = tt
 
   taken_fine : (o : Option OrderRefusal) (number : ℕ) (command : Command) (place : Place) → Kept A G command → F place → F (queued_or_refused o number command place)
-  taken_fine (Some why) number command (r, mails) k f = (f.0, with_plain start A G W Q false true r mails r.me 0 (Told number (Tells.Refused why)) tt f.1)
+  taken_fine (Some why) number command (r, mails) k f = (f.0, with_plain start A G W Q false true r mails r.me 0 (Told number (Results.Refused why)) tt f.1)
   taken_fine None number command (r, mails) k f =
       pumped_fine start A G W Q false (record r { backlog = r.backlog ++ command ∷ [] }, mails) (with_calls A G r (r.backlog ++ command ∷ []) (Each-append (Kept A G) r.backlog (command ∷ []) f.0.backlog (k, tt)) f.0, f.1)
 

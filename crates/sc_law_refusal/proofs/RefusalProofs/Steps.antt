@@ -74,12 +74,12 @@ module _ (start : ReplicaState) (input : Input Mail OrderLine) (W : Ballot → D
   kept_call command k client seq op e = subst (Kept A G) e k
 
   -- the answers of one that began as another, in the name and number of both
-  module _ (from after : ReplicaState) (entries : List Command) (refused : Bool) (me : from.me ≡ start.me) (name : name_of from ≡ name_of start) (out : refused ≡ true → LeadsNoMore start input after) (is : after.group ≡ state_after from.group entries) where
+  module _ (from after : ReplicaState) (entries : List Command) (refused : Bool) (me : from.me ≡ start.me) (name : name_of from ≡ name_of start) (out : refused ≡ true → LeadsNoMore start input after) (fact : after.group ≡ state_after from.group entries) where
     cause_of : (op : Op) (answer : AnswerBody) → CauseSo from A G W Q entries refused true op answer → HasCauseAfter start input after op answer
     cause_of op (Says.Value reply) c = c
     cause_of op (Says.NotLeader hint) c = out c
-    cause_of op (Says.NotMine arc succ) c = subst (λ g. LacksKey g op (Says.NotMine arc succ)) (sym is) c.1
-    cause_of op (Says.Gone into) c = subst (λ g. LacksKey g op (Says.Gone into)) (sym is) c.1
+    cause_of op (Says.NotMine arc succ) c = subst (λ g. LacksKey g op (Says.NotMine arc succ)) (sym fact) c.1
+    cause_of op (Says.Gone into) c = subst (λ g. LacksKey g op (Says.Gone into)) (sym fact) c.1
     cause_of op (Says.Stale last) c = c
 
     abbrev After1 : ℕ → Draw → ℕ → AnswerBody → Type 0
@@ -218,7 +218,7 @@ module _ (start : ReplicaState) (input : Input Mail OrderLine) (W : Ballot → D
       sent : Saying place.1
 
     hinted_looked : (r : ReplicaState) (hint : Option ℕ) (place : Place) → IsLooked (record r { hint = hint }) place → IsLooked r place
-    hinted_looked r hint place is = record { me = is.me; name = is.name; acts = is.acts; backlog = is.backlog; waits = is.waits; out = is.out; sent = is.sent }
+    hinted_looked r hint place fact = record { me = fact.me; name = fact.name; acts = fact.acts; backlog = fact.backlog; waits = fact.waits; out = fact.out; sent = fact.sent }
 
     idle_looked : (r : ReplicaState) (mails : List Mail) → r.running ≡ false → Saying mails → IsLooked r (r, mails)
     idle_looked r mails idle c = record { me = refl; name = refl; acts = refl; backlog = refl; waits = λ runs. absurd (true≢false (sym runs ∙ idle)); out = inl idle; sent = c }
@@ -295,7 +295,7 @@ module _ (start : ReplicaState) (input : Input Mail OrderLine) (W : Ballot → D
     kept_act (inr same) tx = subst (λ acts. G tx (ends_queued tx acts)) (sym same) (inl (omega arith))
 
     why_stopped : (before : ReplicaState) (place : Place) → IsTakenOver input → IsLooked before place → (start.running ≡ true) × (before.backlog ≡ []) → LeadsNoMore start input place.0
-    why_stopped before place over is ran = elim is.out [ inl idle ↦ inl idle | inr anew ↦ inr (record { ran = ran.0; over = over; empty = is.backlog ∙ ran.1; anew = anew }) ]
+    why_stopped before place over fact ran = elim fact.out [ inl idle ↦ inl idle | inr anew ↦ inr (record { ran = ran.0; over = over; empty = fact.backlog ∙ ran.1; anew = anew }) ]
 
     -- it takes the state over
     taken_by : (from slot : ℕ) (base : Base) (sets : List (List ℕ)) (before : ReplicaState) (mails : List Mail) → HasStopped before mails → IsTakenOver input → Shows (looked_up from (jumped slot base sets before, mails))
@@ -303,19 +303,19 @@ module _ (start : ReplicaState) (input : Input Mail OrderLine) (W : Ballot → D
     taken_by from slot base sets before mails h over =
         let jump : ReplicaState = jumped slot base sets before in
         let place : Place = looked_up from (jump, mails) in
-        let is : IsLooked jump place = look_up from jump mails h.idle h.low h.sent in
+        let fact : IsLooked jump place = look_up from jump mails h.idle h.low h.sent in
         record {
           causes = record {
             learnt = [];
             counted = [];
             learns = inr (refl, refl);
             executed = inr (refl, refl, over);
-            answers = told_mails place.0 (λ e. why_stopped jump place over is (h.told e)) place.1 is.sent;
-            acts = λ tx. subst (λ acts. G tx (ends_queued tx acts)) (sym is.acts) (kept_act h.acts tx);
+            answers = told_mails place.0 (λ e. why_stopped jump place over fact (h.told e)) place.1 fact.sent;
+            acts = λ tx. subst (λ acts. G tx (ends_queued tx acts)) (sym fact.acts) (kept_act h.acts tx);
           };
-          me_is = is.me ∙ h.me;
-          name_is = is.name ∙ h.name;
-          patient = λ q runs. (let none = is.waits runs in omega (arith, none));
+          me_is = fact.me ∙ h.me;
+          name_is = fact.name ∙ h.name;
+          patient = λ q runs. (let none = fact.waits runs in omega (arith, none));
         }
 
   -- it takes the state over, where it ran and where it did not

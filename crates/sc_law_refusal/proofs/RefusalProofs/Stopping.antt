@@ -3,7 +3,7 @@ use Rattle.std.proofs.Common.{◌≡◌, ℕ, ◌+◌, ◌-◌, ◌^◌, refl, a
 use Rattle.sc_base.specs.Definitions.{client_actor}
 use Rattle.sc_node_table.specs.Values.{Ballot, Draw, Op, Command, Call, Join, Leave, Split, Begin, AnswerBody, Mail, Answer, Prepare, Install}
 use Rattle.sc_words.specs.declared.commands.orders.OrderRefusal.TheVariants as Why
-use Rattle.sc_words.specs.declared.commands.orders.OrderResult.TheVariants as Tells
+use Rattle.sc_words.specs.declared.commands.orders.OrderResult.TheVariants as Results
 use Rattle.sc_mail.specs.declared.bodies.AnswerBody.TheVariants as Says
 use Rattle.sc_group_table.specs.machine.Definitions.{base_of}
 use Rattle.sc_words.specs.paxos.Definitions.{below, new_leader}
@@ -37,8 +37,8 @@ module _ (start : ReplicaState) (A : Command → Type 0) (G : Draw → ℕ → T
     answers_caused [] mails k c = c
     answers_caused (command ∷ commands) mails k c = answers_caused commands (answered me group answer command mails) k.1 (answered_caused command mails k.0 c)
 
-    desk : (number : ℕ) (hint : Option ℕ) (mails : List Mail) → C mails → C (order_reported me number (Tells.Refused (Why.NotLeader hint)) mails)
-    desk number hint mails c = reported_plain (AllCaused start A G W Q entries refused turned) (plain_caused start A G W Q entries refused turned) me number (Tells.Refused (Why.NotLeader hint)) mails c
+    desk : (number : ℕ) (hint : Option ℕ) (mails : List Mail) → C mails → C (order_reported me number (Results.Refused (Why.NotLeader hint)) mails)
+    desk number hint mails c = reported_plain (AllCaused start A G W Q entries refused turned) (plain_caused start A G W Q entries refused turned) me number (Results.Refused (Why.NotLeader hint)) mails c
 
     dismissed_caused : (hint : Option ℕ) (command : Command) (mails : List Mail) → Kept A G command → C mails → C (dismissed me group hint answer command mails)
     unfolding dismissed

@@ -64,10 +64,10 @@ all_four false b c d p q r s = cc
 
 itself : (tx : Draw) (r : ReplicaState) (body : Body) (order : ℕ) (heard : Option Heard) → settled r ≡ true → r.group.core.lock ≡ Coordinating tx body order heard → coordinates (name_of r) r.leader.ballot tx r ≡ true
 itself tx r body order heard leads lock =
-    let is : is_coordinating r.group.core.lock tx ≡ true = ap (λ (l : Lock). is_coordinating l tx) lock ∙ same_name tx tx refl in
+    let fact : is_coordinating r.group.core.lock tx ≡ true = ap (λ (l : Lock). is_coordinating l tx) lock ∙ same_name tx tx refl in
     let named : same_draw (name_of r) (name_of r) ≡ true = same_name (name_of r) (name_of r) refl in
     let ballot : same_ballot r.leader.ballot r.leader.ballot ≡ true = ballot_itself r.leader.ballot in
-    all_four (same_draw (name_of r) (name_of r)) (settled r) (same_ballot r.leader.ballot r.leader.ballot) (is_coordinating r.group.core.lock tx) named leads ballot is
+    all_four (same_draw (name_of r) (name_of r)) (settled r) (same_ballot r.leader.ballot r.leader.ballot) (is_coordinating r.group.core.lock tx) named leads ballot fact
 
 -- ---- events and numbers
 
@@ -138,14 +138,14 @@ module _ (ahead : Ahead) (scenario : Scenario) (me : ℕ) (some : 1 ≤ me) wher
 
   -- one more row of its own
   one_known : (rows : Rows) (row : Row Mail OrderLine) (player : Player) → player ≡ value player_table seat rows → row.who ≡ me → (input : Input Mail OrderLine) → input_of (mails rows) row.event ≡ Some input → Known rows player → Known (rows ++ row ∷ []) (player_table player input).0
-  one_known rows row (Client client) is who input e k = k
-  one_known rows row (Node node) is who input e k =
+  one_known rows row (Client client) fact who input e k = k
+  one_known rows row (Node node) fact who input e k =
       record {
         own = me_stays node input ∙ k.own;
         keep = node_keeps me (counts seat rows) (counts seat (rows ++ row ∷ [])) (grows seat rows row) node k.own some k.keep input
             (λ tick r stood leads tx body order heard lock. (
             let found : node_coordinates (name_of r) r.leader.ballot tx (value player_table seat rows) ≡ true =
-            subst (λ (p : Player). node_coordinates (name_of r) r.leader.ballot tx p ≡ true) is (found_one (name_of r) r.leader.ballot tx node.replicas r stood (itself tx r body order heard leads lock)) in
+            subst (λ (p : Player). node_coordinates (name_of r) r.leader.ballot tx p ≡ true) fact (found_one (name_of r) r.leader.ballot tx node.replicas r stood (itself tx r body order heard leads lock)) in
             let counted : is_counted seat (name_of r) r.leader.ballot tx rows row ≡ true =
             all_three (eqb row.who me) (is_tick row.event) (node_coordinates (name_of r) r.leader.ballot tx (value player_table seat rows)) (eq-eqb row.who me who) (tick_event (mails rows) row.event (e ∙ ap Some tick)) found in
             let one : one_at seat (name_of r) r.leader.ballot tx rows row ≡ 1 = cond-true (is_counted seat (name_of r) r.leader.ballot tx rows row) 1 0 counted in

@@ -66,10 +66,10 @@ module _ (client : Client) (input : Input Mail OrderLine) (gone : Bool) (place :
 
   -- it takes a reply
   goes_on : (seq : ℕ) (reply : Reply) → IsReplyTo seq reply input → client.waiting ≡ Some seq → after.replies ≡ client.replies ++ reply ∷ [] → GoesOn client after input
-  goes_on seq reply (mail, group, is, body) waited replies =
+  goes_on seq reply (mail, group, fact, body) waited replies =
       let number : after.waiting ≡ number_in client.requests (seq + 1) =
-      subst (λ (i : Input Mail OrderLine). (table client i).0.waiting ≡ number_in client.requests (seq + 1)) (sym is) (reply_number client mail mail.body group seq reply body waited) in
-      record { seq = seq; reply = reply; is_reply = (mail, group, is, body); waited = waited; number = subst (λ requests. after.waiting ≡ number_in requests (seq + 1)) (sym turn.requests) number; replies = replies }
+      subst (λ (i : Input Mail OrderLine). (table client i).0.waiting ≡ number_in client.requests (seq + 1)) (sym fact) (reply_number client mail mail.body group seq reply body waited) in
+      record { seq = seq; reply = reply; is_reply = (mail, group, fact, body); waited = waited; number = subst (λ requests. after.waiting ≡ number_in requests (seq + 1)) (sym turn.requests) number; replies = replies }
 
   -- its number stays the next one after its replies
   starts_rises : Starts client after input → (seq : ℕ) → after.waiting ≡ Some seq → seq ≡ length after.replies + 1
@@ -86,8 +86,8 @@ module _ (client : Client) (input : Input Mail OrderLine) (gone : Bool) (place :
       let t = turn in
       elim t.moves [
         | inl w ↦ record { turn = t; rises = λ seq e. place.rises seq (sym w.number ∙ e) ∙ ap (λ rs. length rs + 1) (sym w.replies); moves = inl w }
-        | inr (inl s) ↦ (let is = starts s.go s.replies in record { turn = t; rises = starts_rises is; moves = inr (inl is) })
-        | inr (inr g) ↦ (let is = goes_on g.seq g.reply g.is_reply g.waited g.replies in record { turn = t; rises = goes_rises is; moves = inr (inr is) })
+        | inr (inl s) ↦ (let fact = starts s.go s.replies in record { turn = t; rises = starts_rises fact; moves = inr (inl fact) })
+        | inr (inr g) ↦ (let fact = goes_on g.seq g.reply g.is_reply g.waited g.replies in record { turn = t; rises = goes_rises fact; moves = inr (inr fact) })
       ]
 
   -- one that has not started begins nothing

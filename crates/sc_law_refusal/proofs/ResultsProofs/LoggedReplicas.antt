@@ -1,23 +1,24 @@
 -- A replica executes the log of its group while a row lasts: what it executes is the next entry of a log of the steps before the row, and what is ready was chosen.
-use Rattle.std.proofs.Common.{◌≡◌, ℕ, ◌+◌, ◌-◌, ◌≤◌, true, refl, sym, ◌∙◌, ap, subst, List, [], ◌∷◌, ◌++◌, length, Option, Some, None, arith, eqb}
+use Rattle.std.proofs.Common.{◌≡◌, ℕ, ◌+◌, ◌-◌, ◌≤◌, refl, sym, ◌∙◌, ap, subst, List, [], ◌∷◌, ◌++◌, length, Option, Some, None, arith, eqb}
 use Rattle.std.specs.Prelude.{slice_get, nat_lt}
-use Rattle.std.proofs.lemmas.Bool.{cond_both, eqb-true, ltb-true, ltb-false}
+use Rattle.std.proofs.lemmas.Bool.{cond_both, eqb-true, ltb-false}
 use Rattle.std.proofs.lemmas.List.{length_push, drop_all}
 use Rattle.sc_base.specs.Definitions.{Among, Each, is_majority, same_ballot}
 use Rattle.sc_node_table.specs.Values.{Ballot, Draw, Command, Base, Counted, Chosen, Flight}
 use Rattle.sc_group_table.specs.machine.Definitions.{Group, group_of, applied}
 use Rattle.sc_words.specs.paxos.Definitions.{LeaderState, LogState, flight_at, installed, kept_voters, voters_after, counted, vote_at}
-use Rattle.sc_words.proofs.PaxosProofs.Lemmas.{Each-among, Each-weaker, find_found}
-use Rattle.sc_paxos_law.specs.Definitions.{Accepted, Offered, needed, members_of, IsLog, IsLawfulHistory}
-use Rattle.sc_paxos_law.proofs.Lemmas.{earlier, longer_log, was_offered, one_offer}
+use Rattle.sc_words.proofs.PaxosProofs.Lemmas.{find_found}
+use Rattle.sc_paxos_law.specs.Definitions.{Accepted, needed, members_of, IsLog, IsLawfulHistory}
+use Rattle.sc_paxos_law.proofs.Lemmas.{earlier, longer_log}
 use Rattle.sc_node_table.specs.Definitions.{ReplicaState, name_of, next, set_at, entered, with_slot, forgotten, jumped, named, without_slot, floor_of, installed_replica}
 use Rattle.sc_law_entries.proofs.HistoryProofs.Lemmas.{state_same}
 use Rattle.sc_law_walks.proofs.Lemmas.{entry_is}
 use Rattle.sc_meaning.specs.sound.Definitions.{Ahead}
-use Rattle.sc_law_groups.proofs.GroupProofs.Lemmas.{IsLearnt, by_own_log, Each-without_slot, each_after, Steps, rule, first, birth, IsReplica, IsState, next_after}
+use Rattle.sc_law_groups.proofs.GroupProofs.Lemmas.{IsLearnt, by_own_log, Each-without_slot, Steps, rule, first, birth, IsReplica, IsState, next_after}
 use Rattle.sc_law_groups.proofs.GroupProofs.Invariant.{HasLog, next_is, pushed_has, cut_has}
 use Rattle.sc_law_groups.proofs.GroupProofs.ForgottenEntries.{floor_low}
 use Rattle.sc_law_groups.proofs.GroupProofs.Counting.{each_with_slot}
+use Rattle.sc_law_groups.proofs.GroupProofs.MajorityVotes.{learnt_here}
 
 module _ (ahead : Ahead) (base : Base) (h : Steps) (lawful : IsLawfulHistory (rule ahead base) (first ahead base) h) where
   abbrev Any : Command → Type 0
@@ -111,37 +112,9 @@ module _ (ahead : Ahead) (base : Base) (h : Steps) (lawful : IsLawfulHistory (ru
   -- ---- a vote
 
   module _ (made : Command → Type 0) (me from slot : ℕ) (set : List ℕ) (r : ReplicaState) (k : IsReplica ahead base made h me r) (d : Command) (did : Among (Accepted from r.leader.ballot slot d) h)
-      (is : set ≡ members_of (rule ahead base) k.whole slot) (known : needed (rule ahead base) slot ≤ length k.whole) where
+      (fact : set ≡ members_of (rule ahead base) k.whole slot) (known : needed (rule ahead base) slot ≤ length k.whole) where
     abbrev b : Ballot
     b = r.leader.ballot
-
-    same_value : (g : Flight Command) → Among g r.leader.flights → g.slot ≡ slot → d ≡ g.value
-    same_value g a e =
-        let flies = Each-among _ r.leader.flights g k.flights a in
-        one_offer (rule ahead base) (first ahead base) h b slot d g.value lawful (was_offered (rule ahead base) (first ahead base) h from b slot d lawful did) (subst (λ n. Among (Offered b n g.value) h) e flies.0)
-
-    accepted_by : (flight : Flight Command) → Among flight r.leader.flights → flight.slot ≡ slot → Each (λ n. Among (Accepted n b slot d) h) (kept_voters (voters_after set from flight.voters))
-    accepted_by flight a e =
-        let flies = Each-among _ r.leader.flights flight k.flights a in
-        each_after (λ n. Among (Accepted n b slot d) h) set from flight.voters did
-        (Each-weaker _ _ (λ n x. subst (λ v. Among (Accepted n b slot v) h) (sym (same_value flight a e)) (subst (λ m. Among (Accepted n b m flight.value) h) e x)) (kept_voters flight.voters) flies.1)
-
-    learnt_here : (flight : Flight Command) → Among flight r.leader.flights → flight.slot ≡ slot → is_majority set (kept_voters (voters_after set from flight.voters)) ≡ true → IsLearnt (rule ahead base) h slot flight.value
-    learnt_here flight a e most =
-        subst (IsLearnt (rule ahead base) h slot) (same_value flight a e)
-        (record {
-          log = k.whole;
-          is_log = k.log_is.is_log;
-          chosen = record {
-            known = known;
-            chosen = record {
-              ballot = b;
-              voters = kept_voters (voters_after set from flight.voters);
-              each = accepted_by flight a e;
-              majority = ltb-true _ _ (subst (λ ms. is_majority ms (kept_voters (voters_after set from flight.voters)) ≡ true) is most);
-            };
-          };
-        })
 
     abbrev Chooses : Counted Command × LeaderState Command → Type 0
     Chooses p = (command : Command) → p.0 ≡ Chosen command → IsLearnt (rule ahead base) h slot command
@@ -152,7 +125,7 @@ module _ (ahead : Ahead) (base : Base) (h : Steps) (lawful : IsLawfulHistory (ru
         let there = find_found (λ (g : Flight Command). eqb g.slot slot) r.leader.flights flight e in
         let at = eqb-true flight.slot slot there.1 in
         cond_both (is_majority set (kept_voters (voters_after set from flight.voters))) _ _ Chooses
-        (λ most command f. (let same : flight.value ≡ command = cc in subst (IsLearnt (rule ahead base) h slot) same (learnt_here flight there.0 at most))) (λ _ command f. cc)
+        (λ most command f. (let same : flight.value ≡ command = cc in subst (IsLearnt (rule ahead base) h slot) same (learnt_here ahead base made me h lawful from slot set r k d did fact known flight there.0 at most))) (λ _ command f. cc)
 
     pub chooses : Chooses (counted from b slot set r.leader)
     chooses = cond_both (same_ballot b r.leader.ballot) _ _ Chooses (λ _. chooses_at (flight_at slot r.leader.flights) refl) (λ _ command f. cc)

@@ -29,7 +29,7 @@ use Rattle.sc_law_groups.proofs.GroupProofs.Lemmas.{Kept, IsNodeAt, h_of, rule, 
 use Rattle.sc_law_groups.proofs.GroupProofs.RowSteps.{number_among}
 use Rattle.sc_law_groups.proofs.WholeProofs.Lemmas.{goes_on_from, holds, orders_allowed, valid_scenarios_begin_well}
 use Rattle.sc_law_refusal.specs.refusal.RowCauses.{Rows, Acts}
-use Rattle.sc_law_refusal.specs.results.Definitions.{EndsOrder, TellAs, IsDecided, IsNotTaken, IsDismissed, HasHappened, ReportsWhatHappened}
+use Rattle.sc_law_refusal.specs.results.Definitions.{EndsOrder, ReportAs, IsDecided, IsNotTaken, IsDismissed, HasHappened, ReportsWhatHappened}
 use Rattle.sc_law_refusal.proofs.ResultsProofs.ReportedNodes.{Takes, node_reports}
 
 module _ (sources : Sources) (ahead : Ahead) (words : ℕ → ℕ → ℕ × ℕ) (scenario : Scenario) (route : Route) (rows : Rows) (row : Row Mail OrderLine)
@@ -38,14 +38,14 @@ module _ (sources : Sources) (ahead : Ahead) (words : ℕ → ℕ → ℕ × ℕ
   Fact number result = HasHappened ahead scenario rows row number result
 
   abbrev Q : List Mail → Type 0
-  Q sent = TellAs Fact sent
+  Q sent = ReportAs Fact sent
 
   abbrev bases : List Base
   bases = groups_at ahead scenario.groups rows
 
   -- an entry of a log of the steps is one of the decided log
   decides : (base : Base) → Among base bases → (whole : List Command) (command : Command) → IsLog (rule ahead base) (h_of rows base) (whole ++ command ∷ []) → (number : ℕ) (result : OrderResult) → EndsOrder (state_after (birth ahead base) whole) command number result → IsDecided ahead scenario rows number result
-  decides base a whole command is number result ends =
+  decides base a whole command fact number result ends =
       let rest = drop (length (whole ++ command ∷ [])) (decided_log ahead base rows) in
       record {
         base = base;
@@ -53,15 +53,15 @@ module _ (sources : Sources) (ahead : Ahead) (words : ℕ → ℕ → ℕ × ℕ
         prefix = whole;
         entry = command;
         later = rest;
-        log_is = goes_on_from ahead base rows (kept.parts base a).lawful (whole ++ command ∷ []) is ∙ append_assoc whole (command ∷ []) rest;
+        log_is = goes_on_from ahead base rows (kept.parts base a).lawful (whole ++ command ∷ []) fact ∙ append_assoc whole (command ∷ []) rest;
         ends = ends;
       }
 
   happened : (base : Base) → Among base bases → (whole : List Command) (command : Command) → IsLog (rule ahead base) (h_of rows base) (whole ++ command ∷ []) → (number : ℕ) (result : OrderResult) → EndsOrder (state_after (birth ahead base) whole) command number result → Fact number result
-  happened base a whole command is number Done ends = decides base a whole command is number Done ends
-  happened base a whole command is number Committed ends = decides base a whole command is number Committed ends
-  happened base a whole command is number Aborted ends = decides base a whole command is number Aborted ends
-  happened base a whole command is number (Refused why) ends = inl (decides base a whole command is number (Refused why) ends)
+  happened base a whole command fact number Done ends = decides base a whole command fact number Done ends
+  happened base a whole command fact number Committed ends = decides base a whole command fact number Committed ends
+  happened base a whole command fact number Aborted ends = decides base a whole command fact number Aborted ends
+  happened base a whole command fact number (Refused why) ends = inl (decides base a whole command fact number (Refused why) ends)
 
   -- ---- a node
 
@@ -78,7 +78,7 @@ module _ (sources : Sources) (ahead : Ahead) (words : ℕ → ℕ → ℕ × ℕ
       seated = seated;
       was = at.value_is;
       takes = e;
-      is = value-snoc player_table seat rows row
+      fact = value-snoc player_table seat rows row
           ∙ cond-true (eqb row.who n) (acted player_table (value player_table seat rows) (input_of (mails rows) row.event)).0 (value player_table seat rows) (eq-eqb row.who n who)
           ∙ ap (λ (p : Player). (acted player_table p (input_of (mails rows) row.event)).0) at.value_is ∙ ap (λ (o : Option (Input Mail OrderLine)). (acted player_table (Node at.node) o).0) e;
     }
@@ -94,10 +94,10 @@ module _ (sources : Sources) (ahead : Ahead) (words : ℕ → ℕ → ℕ × ℕ
 
     node_acts : (input : Input Mail OrderLine) → input_of (mails rows) row.event ≡ Some input → Brought input → Q (player_table (Node at.node) input).1
     node_acts input e a =
-        node_reports ahead bases (MayQueue sources ahead scenario rows) (IsHeardAt sources ahead scenario rows) (h_of rows) (λ base b. (kept.parts base b).lawful) Fact happened n at.node at.is input
+        node_reports ahead bases (MayQueue sources ahead scenario rows) (IsHeardAt sources ahead scenario rows) (h_of rows) (λ base b. (kept.parts base b).lawful) Fact happened n at.node at.fact input
         (λ number why c. refuses input e number why (inl c)) (λ number why c. refuses input e number why (inr c)) input refl (takes input a)
       where
-        takes : (i : Input Mail OrderLine) → Brought i → Takes ahead bases (MayQueue sources ahead scenario rows) (IsHeardAt sources ahead scenario rows) (h_of rows) (λ base b. (kept.parts base b).lawful) Fact happened n at.node at.is input
+        takes : (i : Input Mail OrderLine) → Brought i → Takes ahead bases (MayQueue sources ahead scenario rows) (IsHeardAt sources ahead scenario rows) (h_of rows) (λ base b. (kept.parts base b).lawful) Fact happened n at.node at.fact input
             (λ number why c. refuses input e number why (inl c)) (λ number why c. refuses input e number why (inr c)) i
         takes (Got mail) b = ((λ base c. (kept.parts base c).true_mail mail b), kept.named mail b)
         takes Tick b = tt
@@ -130,10 +130,10 @@ module _ (sources : Sources) (ahead : Ahead) (words : ℕ → ℕ → ℕ × ℕ
   -- ---- a row
 
   seat_acts : (seat : Seat Player) → IsSeat ahead scenario seat → row.who ≡ seat.who → find (λ (other : Seat Player). eqb other.who row.who) (births ahead scenario) ≡ Some seat → Q (acted player_table (value player_table seat rows) (input_of (mails rows) row.event)).1
-  seat_acts seat (inl (n, low, high, is)) who seated =
-      let same_who : row.who ≡ n = who ∙ ap (λ (s : Seat Player). s.who) is in
-      let same_seat = seated ∙ ap (λ (s : Seat Player). Some s) is in
-      subst (λ (s : Seat Player). Q (acted player_table (value player_table s rows) (input_of (mails rows) row.event)).1) (sym is)
+  seat_acts seat (inl (n, low, high, fact)) who seated =
+      let same_who : row.who ≡ n = who ∙ ap (λ (s : Seat Player). s.who) fact in
+      let same_seat = seated ∙ ap (λ (s : Seat Player). Some s) fact in
+      subst (λ (s : Seat Player). Q (acted player_table (value player_table s rows) (input_of (mails rows) row.event)).1) (sym fact)
       (subst (λ (p : Player). Q (acted player_table p (input_of (mails rows) row.event)).1) (sym (at n low high same_who same_seat).value_is) (row_acts n low high same_who same_seat row.event refl))
   seat_acts seat (inr client) who seated = by (value player_table seat rows) (replay_client seat.who seat.actor [] rows client)
     where

@@ -16,7 +16,7 @@ use Rattle.sc_law_groups.proofs.GroupProofs.Lemmas.{Steps, rule, first, birth, I
 use Rattle.sc_law_walks.proofs.Lemmas.{either_way}
 use Rattle.sc_law_refusal.specs.refusal.Definitions.{IsBroughtBy, IsHeldOrBrought, replica_for, takers}
 use Rattle.sc_law_refusal.specs.refusal.Causes.{IsBrought}
-use Rattle.sc_law_refusal.specs.results.Definitions.{EndsOrder, TellAs, RefusesLine, IsNotTaken, IsDismissed}
+use Rattle.sc_law_refusal.specs.results.Definitions.{EndsOrder, ReportAs, RefusesLine, IsNotTaken, IsDismissed}
 use Rattle.sc_law_refusal.proofs.RefusalProofs.NodeSteps.{put_among, children_among}
 use Rattle.sc_law_refusal.proofs.HeldCommands.{Held}
 use Rattle.sc_law_refusal.proofs.ResultsProofs.ReportedRows.{Waits, IsBack, HasStopped, Brings}
@@ -36,8 +36,8 @@ refused_line drawer line r why e = by_gone r.group.core.gone refl (settled r) re
     named_by stands leads none false drawn t d f = cc
 
     found_by : r.group.core.gone ≡ None → settled r ≡ true → (o : Option OrderRefusal) → refusal_of r.group.core command ≡ o → first_of_both o (named_refused drawer line.order r) ≡ Some why → RefusesLine drawer line (Some r) why
-    found_by stands leads (Some other) is f = (let same : other ≡ why = cc in inr (record { stands = stands; leads = leads; cause = inl (is ∙ ap Some same) }))
-    found_by stands leads None is f = named_by stands leads is (takes_name line.order) (has_drawn_all drawer) refl refl f
+    found_by stands leads (Some other) fact f = (let same : other ≡ why = cc in inr (record { stands = stands; leads = leads; cause = inl (fact ∙ ap Some same) }))
+    found_by stands leads None fact f = named_by stands leads fact (takes_name line.order) (has_drawn_all drawer) refl refl f
 
     by_gone : (gone : Option Route) → r.group.core.gone ≡ gone → (leads : Bool) → settled r ≡ leads
         → cond (is_some gone || not leads) (Some (NotLeader r.hint)) (first_of_both (refusal_of r.group.core command) (named_refused drawer line.order r)) ≡ Some why → RefusesLine drawer line (Some r) why
@@ -69,7 +69,7 @@ module _ (ahead : Ahead) (bases : List Base) (made : Base → Command → Type 0
     (refused : (number : ℕ) (why : OrderRefusal) → IsNotTaken node input number why → Fact number (Refused why))
     (dismissed : (number : ℕ) (why : OrderRefusal) → IsDismissed node (node_table node input).0 input number why → Fact number (Refused why)) where
   abbrev Q : List Mail → Type 0
-  Q mails = TellAs Fact mails
+  Q mails = ReportAs Fact mails
 
   abbrev after : NodeState
   after = (node_table node input).0
@@ -132,15 +132,15 @@ module _ (ahead : Ahead) (bases : List Base) (made : Base → Command → Type 0
   taken_reports : (o : Option ReplicaState) (group : Draw) (mail : Mail) → input ≡ Got mail → replica_of group node.replicas ≡ o → group_of_mail mail.body ≡ Some group
       → ((r : ReplicaState) → replica_of group node.replicas ≡ Some r → Among r (takers node input)) → ((later : ReplicaState) → Among later (taken_by o group mail.from mail.body node).0.replicas → Among later after.replicas)
       → IsTrueMail mail → Q (taken_by o group mail.from mail.body node).1
-  taken_reports None group mail got e is taker stays t = unknown_reports mail mail.body t.0 t.1
-  taken_reports (Some r) group mail got e is taker stays t =
+  taken_reports None group mail got e fact taker stays t = unknown_reports mail mail.body t.0 t.1
+  taken_reports (Some r) group mail got e fact taker stays t =
       let found = find_found (λ (other : ReplicaState). same_draw (name_of other) group) node.replicas r e in
       let own = of_group r found.0 in
       let same : group ≡ own.base.core.id = sym (draw_is (name_of r) group found.1) ∙ own.same in
       let step : Executed = mailed mail.from mail.body (r, []) in
       let b = begins ahead own.base (h own.base) (lawful own.base own.stands) (made own.base) Fact (decided own.base own.stands) (W r) r.top.round me r [] own.replica own.same (held_at r) (omega arith) tt in
       let ends = mailed_ends ahead own.base (h own.base) (lawful own.base own.stands) (made own.base) Fact (decided own.base own.stands) (W r) r.top.round me mail.from mail.body r []
-      (brings own.base r group mail mail.body (λ command a number own_it n. inl (inr (subst (λ (i : Input Mail OrderLine). IsBrought i command) (sym got) a))) is same (t.0 own.base own.stands)) own.replica b in
+      (brings own.base r group mail mail.body (λ command a number own_it n. inl (inr (subst (λ (i : Input Mail OrderLine). IsBrought i command) (sym got) a))) fact same (t.0 own.base own.stands)) own.replica b in
       let put : NodeState = record node { replicas = with_replica group step.0.0 node.replicas } in
       let there : Among step.0.0 after.replicas = stays step.0.0 (children_among step.0.0 step.1 put (put_among group step.0.0 r node.replicas e)) in
       ends.1 (λ number result back stops. back_so r step.0.0 found.0 (taker r e) there (ends.0 ∙ sym own.same) number result back stops)
@@ -148,8 +148,8 @@ module _ (ahead : Ahead) (bases : List Base) (made : Base → Command → Type 0
   routed_reports : (o : Option Draw) (mail : Mail) → input ≡ Got mail → group_of_mail mail.body ≡ o
       → ((group : Draw) → o ≡ Some group → (r : ReplicaState) → replica_of group node.replicas ≡ Some r → Among r (takers node input)) → ((later : ReplicaState) → Among later (routed o mail.from mail.body node).0.replicas → Among later after.replicas)
       → IsTrueMail mail → Q (routed o mail.from mail.body node).1
-  routed_reports None mail got is taker stays t = tt
-  routed_reports (Some group) mail got is taker stays t = taken_reports (replica_of group node.replicas) group mail got refl is (taker group refl) stays t
+  routed_reports None mail got fact taker stays t = tt
+  routed_reports (Some group) mail got fact taker stays t = taken_reports (replica_of group node.replicas) group mail got refl fact (taker group refl) stays t
 
   -- ---- an order, and a tick
 
@@ -164,7 +164,7 @@ module _ (ahead : Ahead) (bases : List Base) (made : Base → Command → Type 0
       let b = begins ahead own.base (h own.base) (lawful own.base own.stands) (made own.base) Fact (decided own.base own.stands) (W r) r.top.round me r [] own.replica own.same (held_at r) (omega arith) tt in
       let ends = ordered_ends ahead own.base (h own.base) (lawful own.base own.stands) (made own.base) Fact (decided own.base own.stands) (W r) r.top.round node.draws line r []
       (λ why f. refused line.number why (record { line = line; given = given; own = refl; cause = subst (λ (o : Option ReplicaState). RefusesLine node.draws line o why) (sym e) (refused_line node.draws line r why f) }))
-      (λ number is n. inr (line, given, number_is (next_name node.draws) line.number number line.order is)) b in
+      (λ number fact n. inr (line, given, number_is (next_name node.draws) line.number number line.order fact)) b in
       ends.1 (λ number result back stops. back_so r step.0 found.0 (taker r e) (stays step.0 (put_among group step.0 r node.replicas e)) (ends.0 ∙ sym own.same) number result back stops)
 
   ticked_all : (on : Bool) (drawer : Drawer) (replicas : List ReplicaState) (mails : List Mail) → ((r : ReplicaState) → Among r replicas → Among r node.replicas) → ((r : ReplicaState) → Among r replicas → Among r (takers node input))

@@ -19,11 +19,11 @@ use Rattle.sc_law_walks.proofs.Lemmas.{counted_ballot}
 use Rattle.sc_law_walks.proofs.TableParts.{execution, pumps}
 use Rattle.sc_law_walks.proofs.TableRows as rows
 use Rattle.sc_law_walks.proofs.TableTicks as tick
-use Rattle.sc_law_refusal.specs.results.Definitions.{IsOf, EndsOrder, TellAs}
+use Rattle.sc_law_refusal.specs.results.Definitions.{IsOf, EndsOrder, ReportAs}
 use Rattle.sc_law_refusal.proofs.ResultsProofs.Reports.{puts}
 use Rattle.sc_law_refusal.proofs.HeldCommands.{Flights, Reports, Held, last_held, counted_held, chosen_held}
 use Rattle.sc_law_refusal.proofs.ResultsProofs.LoggedReplicas.{is_logged, readies_more, makes, vote_chooses}
-use Rattle.sc_law_refusal.proofs.ResultsProofs.ReportedRows.{tell_so, Waits, IsBack, HasStopped, Brings, MayTell, Keeps, with_leader, with_backlog, reported_walk, reported_ticks}
+use Rattle.sc_law_refusal.proofs.ResultsProofs.ReportedRows.{tell_so, Waits, IsBack, HasStopped, Brings, MayGiveOrder, ReportsSo, with_leader, with_backlog, reported_walk, reported_ticks}
 
 -- an order of a policy has no number that is reported
 wished_number : (o : Option Order) (line : OrderLine) → option_map policy_line o ≡ Some line → line.number ≡ 0
@@ -48,7 +48,7 @@ module _ (ahead : Ahead) (base : Base) (h : Steps) (lawful : IsLawfulHistory (ru
     (decided : (whole : List Command) (command : Command) → IsLog (rule ahead base) h (whole ++ command ∷ []) → (number : ℕ) (result : OrderResult) → EndsOrder (state_after (birth ahead base) whole) command number result → Fact number result)
     (W : ℕ → Command → Type 0) (round : ℕ) where
   abbrev Goes : Place → Type 0
-  Goes place = Keeps ahead base h lawful made Fact decided W round place
+  Goes place = ReportsSo ahead base h lawful made Fact decided W round place
 
   abbrev P : Command → Type 0
   P command = Waits W command
@@ -74,10 +74,10 @@ module _ (ahead : Ahead) (base : Base) (h : Steps) (lawful : IsLawfulHistory (ru
 
   voted_keeps : (me from : ℕ) (ballot : Ballot) (slot : ℕ) (o : Option (List ℕ)) (r : ReplicaState) (mails : List Mail) → set_at slot r ≡ o → r.running ≡ true → ballot ≡ r.leader.ballot → IsReplica ahead base made h me r → (d : Command) → Among (AcceptedStep from ballot slot d) h
       → Goes (r, mails) → Goes (voted from ballot slot o (r, mails)).0
-  voted_keeps me from ballot slot None r mails e on is replica d did k = k
-  voted_keeps me from ballot slot (Some set) r mails e on is replica d did k =
+  voted_keeps me from ballot slot None r mails e on fact replica d did k = k
+  voted_keeps me from ballot slot (Some set) r mails e on fact replica d did k =
       tallied_keeps slot (counted from ballot slot set r.leader) r mails on
-      (λ command f. (vote_chooses ahead base h lawful made me from slot ballot set r replica d did is e command f, chosen_held P from ballot slot set r.leader (k.1.1.2, k.1.1.3) command f))
+      (λ command f. (vote_chooses ahead base h lawful made me from slot ballot set r replica d did fact e command f, chosen_held P from ballot slot set r.leader (k.1.1.2, k.1.1.3) command f))
       (counted_ballot from ballot slot set r.leader) (counted_held P from ballot slot set r.leader (k.1.1.2, k.1.1.3)) k
 
   counted_keeps : (me from : ℕ) (ballot : Ballot) (slot : ℕ) (r : ReplicaState) (mails : List Mail) → IsReplica ahead base made h me r → (d : Command) → Among (AcceptedStep from ballot slot d) h → Goes (r, mails) → Goes (accepted_row from ballot slot (r, mails)).0
@@ -88,17 +88,17 @@ module _ (ahead : Ahead) (base : Base) (h : Steps) (lawful : IsLawfulHistory (ru
 
   -- ---- where a row begins and ends
 
-  pub begins : (me : ℕ) (r : ReplicaState) (mails : List Mail) → IsReplica ahead base made h me r → name_of r ≡ base.core.id → Held P r → round ≤ r.top.round → TellAs Fact mails → Goes (r, mails)
-  begins me r mails replica same held low m = (false, ((same, is_logged ahead base h lawful made me r replica), held, low, λ e. absurd (true≢false (sym e))), tell_so Fact (MayTell ahead base h lawful made Fact decided W round false) (λ number result t. inl t) mails m)
+  pub begins : (me : ℕ) (r : ReplicaState) (mails : List Mail) → IsReplica ahead base made h me r → name_of r ≡ base.core.id → Held P r → round ≤ r.top.round → ReportAs Fact mails → Goes (r, mails)
+  begins me r mails replica same held low m = (false, ((same, is_logged ahead base h lawful made me r replica), held, low, λ e. absurd (true≢false (sym e))), tell_so Fact (MayGiveOrder ahead base h lawful made Fact decided W round false) (λ number result t. inl t) mails m)
 
   -- the replica keeps its name, and what it reports is so where each order that is given back is so
   abbrev pub RowEnds : Place → Type 0
-  RowEnds place = (name_of place.0 ≡ base.core.id) × (((number : ℕ) (result : OrderResult) → IsBack W number result → HasStopped round place.0 → Fact number result) → TellAs Fact place.1)
+  RowEnds place = (name_of place.0 ≡ base.core.id) × (((number : ℕ) (result : OrderResult) → IsBack W number result → HasStopped round place.0 → Fact number result) → ReportAs Fact place.1)
 
   ends_of : (place : Place) → Goes place → RowEnds place
   ends_of place k = (
     k.1.0.0,
-    λ f. tell_so (MayTell ahead base h lawful made Fact decided W round k.0) Fact (λ number result t. elim t [ inl so ↦ so | inr back ↦ f number result back.1 (k.1.3 back.0) ]) place.1 k.2,
+    λ f. tell_so (MayGiveOrder ahead base h lawful made Fact decided W round k.0) Fact (λ number result t. elim t [ inl so ↦ so | inr back ↦ f number result back.1 (k.1.3 back.0) ]) place.1 k.2,
   )
 
   -- ---- all rows
@@ -125,7 +125,7 @@ module _ (ahead : Ahead) (base : Base) (h : Steps) (lawful : IsLawfulHistory (ru
 
   -- an order is refused, or queued where it waits
   queued_ends : (o : Option OrderRefusal) (line : OrderLine) (command : Command) (r : ReplicaState) (mails : List Mail) → ((why : OrderRefusal) → o ≡ Some why → Fact line.number (Refused why)) → P command → Goes (r, mails) → RowEnds (queued_or_refused o line.number command (r, mails))
-  queued_ends (Some why) line command r mails given p k = ends_of (r, result_sent r.me line.number (Refused why) mails) (k.0, k.1, puts r.me (MayTell ahead base h lawful made Fact decided W round k.0) 0 _ mails (inl (given why refl)) k.2)
+  queued_ends (Some why) line command r mails given p k = ends_of (r, result_sent r.me line.number (Refused why) mails) (k.0, k.1, puts r.me (MayGiveOrder ahead base h lawful made Fact decided W round k.0) 0 _ mails (inl (given why refl)) k.2)
   queued_ends None line command r mails given p k =
       ends_of (queued_or_refused None line.number command (r, mails)) (pumps (reported_walk ahead base h lawful made Fact decided W round) (record r { backlog = r.backlog ++ command ∷ [] }, mails)
       (with_backlog ahead base h lawful made Fact decided W round r mails (r.backlog ++ command ∷ []) (last_held P r.backlog command p k.1.1.0) k))

@@ -2,108 +2,42 @@
 use Rattle.std.proofs.Common.{◌≡◌, ℕ, Bool, true, false, refl, sym, ap, ◌∙◌, subst, List, [], ◌∷◌, Option, Some, None, inl, inr}
 use Rattle.std.proofs.lemmas.Bool.{cond_both}
 use Rattle.std.specs.Prelude.{if◌then◌else◌}
-use Rattle.sc_base.specs.Definitions.{Among, Drawer, least_of, next_name}
-use Rattle.sc_node_table.specs.Values.{Draw, Body, Offer, Watch, Command, Noop, Call, Join, Leave, Split, Begin, Prepared, RecordVote, GiveUp, Watched, RecordWatch, Core, Lock, Free, Coordinating, Promised, Watching, Effect, Link, Route, OrderLine, OrderRefusal, OrderResult, Heard, Outcome, Past, Vote, AnswerBody, Mail, MailBody, TxPrepare, TxOutcome}
-use Rattle.sc_words.specs.declared.commands.bodies.Body.TheVariants as At
+use Rattle.sc_base.specs.Definitions.{Among}
+use Rattle.sc_node_table.specs.Values.{Draw, Body, Command, Noop, Call, Join, Leave, Split, Begin, RecordVote, GiveUp, RecordWatch, Core, Lock, Free, Coordinating, Promised, Watching, Effect, Route, OrderRefusal, OrderResult, Heard, Outcome, AnswerBody, Mail, MailBody, Told}
 use Rattle.sc_words.specs.declared.commands.effects.Effect.TheVariants as Was
 use Rattle.sc_words.specs.declared.commands.orders.OrderRefusal.TheVariants.{NotLeader}
 use Rattle.sc_words.specs.declared.commands.orders.OrderResult.TheVariants.{Done, Committed, Aborted, Refused}
 use Rattle.sc_words.specs.declared.commands.votes.Outcome.TheVariants as Is
-use Rattle.sc_words.specs.declared.commands.votes.Past.TheVariants as Cast
-use Rattle.sc_words.specs.declared.commands.votes.Vote.TheVariants as Says
-use Rattle.sc_words.specs.commands.Definitions.{cast_in, decided_in, is_alone, is_changed, refused_result, result_of}
+use Rattle.sc_words.specs.commands.Definitions.{is_alone, refused_result, result_of}
 use Rattle.sc_group_table.specs.machine.Definitions.{Group, applied, begun_group, has_named, ordered, refusal_of, split_group, with_node, without_node}
 use Rattle.sc_words.proofs.PaxosProofs.Lemmas.{Each-append}
 use Rattle.sc_group_table.specs.policy.Definitions.{is_reported}
 use Rattle.sc_node_table.specs.declared.Before.{Before}
-use Rattle.sc_node_table.specs.Definitions.{ReplicaState, Place, name_of, under_way, sent, answered, answered_all, answer_of, answered_or_put_back, order_result, effect_reported, announced, entered, before_of, before_in, begun_result, decided_result, dismissed, dismissed_all, ended, order_number, ordered_row, outcome_result, spoken, spoken_mails, spoken_number, begun_reported, result_sent, order_reported, result_reported, untaken, queued_or_refused, ordered_command, offer_of, heard_question, question, asked_first, outcome_sent, asked_on, begun_asks, vote_sent, watch_sent, aborted_to, aborted_watcher, given_up_by, vote_answered, released_to, watch_answered_by, went_on}
+use Rattle.sc_node_table.specs.Definitions.{ReplicaState, Place, name_of, under_way, sent, answered_all, answer_of, answered_or_put_back, order_result, effect_reported, announced, entered, before_of, before_in, begun_result, decided_result, dismissed, dismissed_all, ended, order_number, outcome_result, spoken, spoken_mails, spoken_number, begun_reported, result_sent, order_reported, result_reported, went_on}
 use Rattle.sc_law_walks.proofs.Ways.{either_way}
-use Rattle.sc_law_walks.proofs.Talks.{all_sent}
-use Rattle.sc_law_refusal.specs.results.Definitions.{IsOf, IsAtOnce, IsCommit, DecidesFor, FindsCause, EndsOrder, IfTold, TellAs, said_of_entry, IsGivenBack, ReportsAreDecided}
+use Rattle.sc_law_walks.proofs.PlaceWalks.{IsToParty, Parties}
+use Rattle.sc_law_walks.proofs.Talks.{went_said, all_replied}
+use Rattle.sc_law_walks.proofs.RefusedOrders.{order_refused}
+use Rattle.sc_law_refusal.specs.results.Definitions.{IsOf, IsAtOnce, IsCommit, DecidesFor, FindsCause, EndsOrder, IfReported, ReportAs, said_of_entry, IsGivenBack, ReportsAreDecided}
 
 module _ (me : ℕ) (Fact : ℕ → OrderResult → Type 0) where
   abbrev Q : List Mail → Type 0
-  Q mails = TellAs Fact mails
+  Q mails = ReportAs Fact mails
 
-  pub puts : (to : ℕ) (body : MailBody) (mails : List Mail) → IfTold Fact body → Q mails → Q (sent me to body mails)
-  puts to body mails told m = Each-append (λ (mail : Mail). IfTold Fact mail.body) mails (record { from = me; to = to; body = body } ∷ []) m (told, tt)
+  pub puts : (to : ℕ) (body : MailBody) (mails : List Mail) → IfReported Fact body → Q mails → Q (sent me to body mails)
+  puts to body mails told m = Each-append (λ (mail : Mail). IfReported Fact mail.body) mails (record { from = me; to = to; body = body } ∷ []) m (told, tt)
 
   pub reported : (number : ℕ) (result : OrderResult) (mails : List Mail) → (is_reported number ≡ true → Fact number result) → Q mails → Q (order_reported me number result mails)
   unfolding order_reported
   reported number result mails fact m = cond_both (is_reported number) (result_sent me number result mails) mails Q (λ t. puts 0 _ mails (fact t) m) (λ _. m)
 
-  -- ---- what tells no result
+  -- a mail to a client or to a party of a transaction tells no result
+  untold : (to : ℕ) (body : MailBody) → IsToParty me to body → IfReported Fact body
+  untold to (Told number result) q = absurd q
+  untold to _ q = tt
 
-  pub heard_said : (to : ℕ) (core : Core) (tx : Draw) (body : Body) (heard : Option Heard) (mails : List Mail) → Q mails → Q (sent me to (heard_question me core tx body heard) mails)
-  heard_said to core tx body None mails m = puts to _ mails tt m
-  heard_said to core tx body (Some heard) mails m = puts to _ mails tt m
-
-  pub question_said : (to : ℕ) (core : Core) (tx : Draw) (body : Body) (heard : Option Heard) (mails : List Mail) → Q mails → Q (sent me to (question me core tx body heard) mails)
-  question_said to core tx At.Merge heard mails m = heard_said to core tx At.Merge heard mails m
-  question_said to core tx (At.Repart at) heard mails m = heard_said to core tx (At.Repart at) heard mails m
-  question_said to core tx (At.Migrate node) heard mails m = heard_said to core tx (At.Migrate node) heard mails m
-  question_said to core tx (At.Split at child) heard mails m = puts to _ mails tt m
-
-  first_asked : (lock : Lock) (core : Core) (mails : List Mail) → Q mails → Q (asked_first lock me core mails)
-  first_asked Free core mails m = m
-  first_asked (Coordinating tx body order heard) core mails m = question_said _ core tx body heard mails m
-  first_asked (Promised tx offer) core mails m = m
-  first_asked (Watching tx watch) core mails m = m
-
-  on_asked : (effect : Effect) (core : Core) (mails : List Mail) → Q mails → Q (asked_on effect me core mails)
-  on_asked effect core mails m = either_way Q (is_changed effect) (asked_first core.lock me core mails) mails (first_asked core.lock core mails m) m
-
-  begun_asked : (effect : Effect) (core : Core) (tx : Draw) (body : Body) (mails : List Mail) → Q mails → Q (begun_asks effect me core tx body mails)
-  begun_asked effect core tx body mails m = either_way Q (is_changed effect) (sent me (least_of core.succ.members) (TxPrepare tx (offer_of me core body)) mails) mails (puts _ _ mails tt m) m
-
-  vote_said : (o : Option Past) (group : Group) (tx : Draw) (offer : Offer) (mails : List Mail) → Q mails → Q (vote_sent o me group tx offer mails)
-  vote_said None group tx offer mails m = m
-  vote_said (Some Cast.Yes) group tx offer mails m = puts _ _ mails tt m
-  vote_said (Some (Cast.No why)) group tx offer mails m = puts _ _ mails tt m
-  vote_said (Some Cast.Ended) group tx offer mails m = m
-
-  watch_said : (o : Option Past) (tx : Draw) (watch : Watch) (mails : List Mail) → Q mails → Q (watch_sent o me tx watch mails)
-  watch_said None tx watch mails m = m
-  watch_said (Some Cast.Yes) tx watch mails m = puts _ _ mails tt m
-  watch_said (Some (Cast.No why)) tx watch mails m = puts _ _ mails tt m
-  watch_said (Some Cast.Ended) tx watch mails m = m
-
-  aborted_said : (tx : Draw) (link : Link) (mails : List Mail) → Q mails → Q (aborted_to me tx link mails)
-  aborted_said tx link mails m = all_sent me Q (TxOutcome tx link.group Is.Abort) (λ to ms q. puts to _ ms tt q) link.members mails m
-
-  watcher_said : (tx : Draw) (o : Option (ℕ × Link)) (mails : List Mail) → Q mails → Q (aborted_watcher me tx o mails)
-  watcher_said tx None mails m = m
-  watcher_said tx (Some heard) mails m = aborted_said tx heard.1 mails m
-
-  given_up_said : (o : Option Outcome) (before : Before) (tx : Draw) (mails : List Mail) → Q mails → Q (given_up_by o me before tx mails)
-  given_up_said None before tx mails m = m
-  given_up_said (Some outcome) before tx mails m = watcher_said tx before.heard (aborted_to me tx before.succ mails) (aborted_said tx before.succ mails m)
-
-  vote_replied : (o : Option Outcome) (vote : Vote) (before : Before) (tx : Draw) (by : ℕ) (mails : List Mail) → Q mails → Q (vote_answered o vote me before tx by mails)
-  vote_replied None vote before tx by mails m = m
-  vote_replied (Some outcome) (Says.Yes frozen) before tx by mails m = puts by _ mails tt m
-  vote_replied (Some outcome) (Says.No why) before tx by mails m = m
-
-  released_said : (o : Option (ℕ × Link)) (succ : Link) (tx : Draw) (by : ℕ) (outcome : Outcome) (mails : List Mail) → Q mails → Q (released_to o me succ tx by outcome mails)
-  released_said None succ tx by outcome mails m = puts by _ mails tt m
-  released_said (Some heard) succ tx by outcome mails m = puts by _ (outcome_sent me heard.0 tx succ.group outcome mails) tt (puts heard.0 _ mails tt m)
-
-  watch_replied : (o : Option Outcome) (vote : Past) (before : Before) (tx : Draw) (by : ℕ) (mails : List Mail) → Q mails → Q (watch_answered_by o vote me before tx by mails)
-  watch_replied None vote before tx by mails m = m
-  watch_replied (Some outcome) Cast.Yes before tx by mails m = released_said before.heard before.succ tx by outcome mails m
-  watch_replied (Some outcome) (Cast.No why) before tx by mails m = either_way Q before.merges (aborted_to me tx before.succ mails) mails (aborted_said tx before.succ mails m) m
-  watch_replied (Some outcome) Cast.Ended before tx by mails m = m
-
-  pub went_said : (group : Group) (before : Before) (effect : Effect) (command : Command) (mails : List Mail) → Q mails → Q (went_on me group before effect command mails)
-  unfolding went_on
-  went_said group before effect (Split at child order) mails m = on_asked effect group.core mails m
-  went_said group before effect (Begin tx body order) mails m = begun_asked effect group.core tx body mails m
-  went_said group before effect (Prepared tx offer) mails m = vote_said (cast_in effect) group tx offer mails m
-  went_said group before effect (RecordVote tx vote by) mails m = vote_replied (decided_in effect) vote before tx by (asked_on effect me group.core mails) (on_asked effect group.core mails m)
-  went_said group before effect (GiveUp tx) mails m = given_up_said (decided_in effect) before tx mails m
-  went_said group before effect (Watched tx watch) mails m = watch_said (cast_in effect) tx watch mails m
-  went_said group before effect (RecordWatch tx vote by) mails m = watch_replied (decided_in effect) vote before tx by mails m
-  went_said group before effect _ mails m = m
+  pub parties_told : Parties me Q
+  parties_told to body mails q m = puts to body mails (untold to body q) m
 
   -- a result, where there is one
   pub begun_said : (number : ℕ) (o : Option OrderResult) (mails : List Mail) → ((result : OrderResult) → o ≡ Some result → is_reported number ≡ true → Fact number result) → Q mails → Q (result_reported me o number mails)
@@ -111,16 +45,6 @@ module _ (me : ℕ) (Fact : ℕ → OrderResult → Type 0) where
   begun_said number (Some result) mails fact m = reported number result mails (λ t. fact result refl t) m
 
   -- ---- who stops
-
-  pub one_answered : (group : Draw) (answer : AnswerBody) (command : Command) (mails : List Mail) → Q mails → Q (answered me group answer command mails)
-  unfolding answered
-  one_answered group answer (Call client seq op) mails m = puts _ _ mails tt m
-  one_answered group answer _ mails m = m
-
-  pub all_answered : (group : Draw) (answer : AnswerBody) (commands : List Command) (mails : List Mail) → Q mails → Q (answered_all me group answer commands mails)
-  unfolding answered_all
-  all_answered group answer [] mails m = m
-  all_answered group answer (command ∷ commands) mails m = all_answered group answer commands (answered me group answer command mails) (one_answered group answer command mails m)
 
   one_dismissed : (group : Draw) (hint : Option ℕ) (answer : AnswerBody) (command : Command) (mails : List Mail) → (is_reported (order_number command) ≡ true → Fact (order_number command) (Refused (NotLeader hint))) → Q mails → Q (dismissed me group hint answer command mails)
   unfolding dismissed
@@ -180,7 +104,7 @@ module _ (group : Group) (command : Command) (number : ℕ) where
   decided_ends tx body heard locked (Was.Decided outcome) e result f =
       let same : outcome_result outcome ≡ result = cc in
       subst (λ (x : OrderResult). EndsOrder group command number x) same
-      (stands_for outcome (λ Such is. record { tx = tx; body = body; heard = heard; locked = locked; outcome = outcome; effect = e; such = is }))
+      (stands_for outcome (λ Such fact. record { tx = tx; body = body; heard = heard; locked = locked; outcome = outcome; effect = e; such = fact }))
   decided_ends tx body heard locked Was.Changed e result f = cc
   decided_ends tx body heard locked _ e result f = cc
 
@@ -235,33 +159,33 @@ begun_ends group _ result e t = cc
 -- ---- the parts of the table
 
 module _ (Fact : ℕ → OrderResult → Type 0) where
-  call_said : (answer : Option AnswerBody) (command : Command) (place : Place) → TellAs Fact place.1 → TellAs Fact (answered_or_put_back answer command place).1
+  call_said : (answer : Option AnswerBody) (command : Command) (place : Place) → ReportAs Fact place.1 → ReportAs Fact (answered_or_put_back answer command place).1
   unfolding answered_or_put_back
   call_said (Some answer) (Call client seq op) (r, mails) m = puts r.me Fact _ _ mails tt m
   call_said None (Call client seq op) (r, mails) m = m
   call_said (Some answer) _ place m = m
   call_said None _ place m = m
 
-  effect_said : (o : Option OrderResult) (command : Command) (place : Place) → ((result : OrderResult) → o ≡ Some result → Fact (order_number command) result) → TellAs Fact place.1 → TellAs Fact (effect_reported o command place).1
+  effect_said : (o : Option OrderResult) (command : Command) (place : Place) → ((result : OrderResult) → o ≡ Some result → Fact (order_number command) result) → ReportAs Fact place.1 → ReportAs Fact (effect_reported o command place).1
   unfolding effect_reported
   effect_said None command place fact m = m
   effect_said (Some result) command (r, mails) fact m = reported r.me Fact (order_number command) result mails (λ t. fact result refl) m
 
-  announced_said : (counted : Bool) (effect : Effect) (command : Command) (place : Place) → ((result : OrderResult) → order_result command effect ≡ Some result → Fact (order_number command) result) → TellAs Fact place.1 → TellAs Fact (announced counted effect command place).1
+  announced_said : (counted : Bool) (effect : Effect) (command : Command) (place : Place) → ((result : OrderResult) → order_result command effect ≡ Some result → Fact (order_number command) result) → ReportAs Fact place.1 → ReportAs Fact (announced counted effect command place).1
   unfolding announced
   announced_said counted effect command place fact m =
       effect_said (order_result command effect) command (if counted then answered_or_put_back (answer_of effect) command place else place) fact
-      (either_way (λ (p : Place). TellAs Fact p.1) counted (answered_or_put_back (answer_of effect) command place) place (call_said (answer_of effect) command place m) m)
+      (either_way (λ (p : Place). ReportAs Fact p.1) counted (answered_or_put_back (answer_of effect) command place) place (call_said (answer_of effect) command place m) m)
 
   spoken_said : (counted : Bool) (before : Before) (effect : Effect) (command : Command) (place : Place) → ((result : OrderResult) → begun_result before.alone effect command ≡ Some result → is_reported (spoken_number before.order command) ≡ true → Fact (spoken_number before.order command) result)
-      → TellAs Fact place.1 → TellAs Fact (spoken counted before effect command place).1
+      → ReportAs Fact place.1 → ReportAs Fact (spoken counted before effect command place).1
   unfolding spoken spoken_mails begun_reported
   spoken_said counted before effect command (r, mails) fact m =
       let told : List Mail = result_reported r.me (begun_result before.alone effect command) (spoken_number before.order command) mails in
-      let said : TellAs Fact told = begun_said r.me Fact (spoken_number before.order command) (begun_result before.alone effect command) mails fact m in
-      either_way (λ (ms : List Mail). TellAs Fact ms) counted (went_on r.me r.group before effect command told) told (went_said r.me Fact r.group before effect command told said) said
+      let said : ReportAs Fact told = begun_said r.me Fact (spoken_number before.order command) (begun_result before.alone effect command) mails fact m in
+      either_way (λ (ms : List Mail). ReportAs Fact ms) counted (went_on r.me r.group before effect command told) told (went_said r.me (λ (ms : List Mail). ReportAs Fact ms) (parties_told r.me Fact) r.group before effect command told said) said
 
-entries_end : (counted : Bool) (command : Command) (r : ReplicaState) → TellAs (EndsOrder r.group command) (said_of_entry counted command r)
+entries_end : (counted : Bool) (command : Command) (r : ReplicaState) → ReportAs (EndsOrder r.group command) (said_of_entry counted command r)
 entries_end counted command r =
     let Fact : ℕ → OrderResult → Type 0 = EndsOrder r.group command in
     let effect : Effect = (applied r.group command).1 in
@@ -277,15 +201,11 @@ is_of (Begin tx body order) t = refl
 is_of Noop t = cc
 is_of _ t = cc
 
-queues_end : (hint : Option ℕ) (answer : AnswerBody) (r : ReplicaState) → TellAs (IsGivenBack r hint) (ended hint answer (r, [])).1
+queues_end : (hint : Option ℕ) (answer : AnswerBody) (r : ReplicaState) → ReportAs (IsGivenBack r hint) (ended hint answer (r, [])).1
 unfolding ended
 queues_end hint answer r =
     all_dismissed r.me (IsGivenBack r hint) (name_of r) hint answer r.backlog (answered_all r.me (name_of r) answer (under_way r) []) (λ command a t. record { command = command; queued = a; own = is_of command t; result_is = refl })
-    (all_answered r.me (IsGivenBack r hint) (name_of r) answer (under_way r) [] tt)
-
-orders_end : (drawer : Drawer) (line : OrderLine) (r : ReplicaState) (why : OrderRefusal) → untaken drawer line r ≡ Some why → ordered_row drawer line (r, []) ≡ (r, result_sent r.me line.number (Refused why) [])
-unfolding ordered_row
-orders_end drawer line r why e = ap (λ (o : Option OrderRefusal). queued_or_refused o line.number (ordered_command (next_name drawer) line.number line.order) (r, [])) e
+    (all_replied r.me (λ (ms : List Mail). ReportAs (IsGivenBack r hint) ms) (parties_told r.me (IsGivenBack r hint)) (name_of r) answer (under_way r) [] tt)
 
 -- ---- an entry ends an order with one result
 
@@ -308,4 +228,4 @@ ends_once group command order (Refused why) Aborted a b = (let apart : Was.Refus
 ends_once group command order (Refused why) (Refused other) a b = (let both : Was.Refused why ≡ Was.Refused other = sym a.effect ∙ b.effect in let same : why ≡ other = cc in ap Refused same)
 
 pub reports_are_decided : ReportsAreDecided
-reports_are_decided = record { once = ends_once; entries = entries_end; queues = queues_end; orders = orders_end }
+reports_are_decided = record { once = ends_once; entries = entries_end; queues = queues_end; orders = order_refused }

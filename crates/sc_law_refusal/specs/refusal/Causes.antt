@@ -3,7 +3,7 @@ use Rattle.std.specs.FinMap.{get}
 use Rattle.std.specs.Prelude.{◌≡◌, ℕ, ◌+◌, ◌<◌, ◌≤◌, Bool, true, false, List, [], ◌∷◌, ◌++◌, filter, length, map, Option, None, Some, ◌⊎◌}
 use Rattle.sc_base.specs.Definitions.{Among, Each, Drawer, client_actor}
 use Rattle.sc_node_table.specs.Values.{Draw, Noted, Op, Input, Got, Body, Command, Call, GiveUp, Base, Coordinating, OrderLine, Heard, AnswerBody, Value, NotLeader, NotMine, Gone, Stale, Mail, MailBody, Request, Answer, Prepare, Promise, Accept, Accepted, Nack, Learn, Ask, Install, TxPrepare, TxVote, TxOutcome, TxElsewhere, TxWatch, TxWatched, Told}
-use Rattle.sc_actor.specs.declared.rows.Input.TheVariants.{Tick, Go, Told as Tells}
+use Rattle.sc_actor.specs.declared.rows.Input.TheVariants.{Tick, Go, Told as OrderInput}
 use Rattle.sc_words.specs.ideal.Definitions.{key_of, holds_key}
 use Rattle.sc_group_table.specs.machine.Definitions.{Group, state_after, applied}
 use Rattle.sc_words.specs.paxos.Definitions.{LogState, next_of, log_cut}
@@ -43,7 +43,7 @@ abbrev pub IsBrought : Input Mail OrderLine → Command → Type 0
 IsBrought (Got mail) command = IsBroughtBy mail.body command
 IsBrought Tick command = ⊥
 IsBrought Go command = ⊥
-IsBrought (Tells line) command = ⊥
+IsBrought (OrderInput line) command = ⊥
 
 -- a replica was asked a command: it holds it, or its input brings it
 abbrev pub IsHeldOrBrought : ReplicaState → Input Mail OrderLine → Command → Type 0
@@ -90,7 +90,7 @@ abbrev pub taught : Input Mail OrderLine → Option Command
 taught (Got mail) = taught_by mail.body
 taught Tick = None
 taught Go = None
-taught (Tells line) = None
+taught (OrderInput line) = None
 
 -- a step executes the command that its input teaches, and then others that it counted; or nothing
 abbrev pub LearnsFirst : Input Mail OrderLine → List Command → List Command → Type 0
@@ -277,7 +277,7 @@ pub record StepHasCauses (r : ReplicaState) (input : Input Mail OrderLine) (step
 abbrev pub at_node : ReplicaInput → Input Mail OrderLine
 at_node (Given.Got mail) = Got mail
 at_node Given.Tick = Tick
-at_node (Given.Told line) = Tells line
+at_node (Given.Told line) = OrderInput line
 
 -- every step of a replica of a node has causes; nodes are numbered from 1
 abbrev pub StepsHaveCauses : Type 0

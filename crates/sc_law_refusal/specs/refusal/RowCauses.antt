@@ -22,7 +22,7 @@ pub record Acts (ahead : Ahead) (scenario : Scenario) (rows : Rows) (row : Row M
   pub seated : find (λ other. other.who == row.who) (births ahead scenario) ≡ Some seat
   pub was : value player_table seat rows ≡ before
   pub takes : input_of (mails rows) row.event ≡ Some input
-  pub is : value player_table seat (rows ++ row ∷ []) ≡ after
+  pub fact : value player_table seat (rows ++ row ∷ []) ≡ after
 
 -- ---- the ticks of a leadership
 

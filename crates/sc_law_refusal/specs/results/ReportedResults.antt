@@ -12,7 +12,7 @@ use Rattle.sc_meaning.specs.sound.Definitions.{Ahead, Player, decided_log, group
 use Rattle.sc_law_refusal.specs.refusal.Causes.{IsHeldOrBrought}
 use Rattle.sc_law_refusal.specs.refusal.NodeCauses.{Became, takers}
 use Rattle.sc_law_refusal.specs.refusal.RowCauses.{Rows, Acts}
-use Rattle.sc_law_refusal.specs.results.Results.{IsOf, EndsOrder, TellAs}
+use Rattle.sc_law_refusal.specs.results.Results.{IsOf, EndsOrder, ReportAs}
 
 -- ---- what a log decided
 
@@ -85,4 +85,4 @@ HasHappened ahead scenario rows row order (Refused why) = IsDecided ahead scenar
 
 -- each result that a row reports has happened by the rows before it, or in it
 abbrev pub ReportsWhatHappened : Ahead → Scenario → Rows → Row Mail OrderLine → Type 0
-ReportsWhatHappened ahead scenario rows row = TellAs (HasHappened ahead scenario rows row) row.sent
+ReportsWhatHappened ahead scenario rows row = ReportAs (HasHappened ahead scenario rows row) row.sent

@@ -86,28 +86,28 @@ EndsOrder group command order (Refused why) = RefusesOrder group command order w
 -- ---- what is reported
 
 -- a statement of the result that a mail reports, if it reports one
-abbrev pub IfTold : (ℕ → OrderResult → Type 0) → MailBody → Type 0
-IfTold Fact (Told order result) = Fact order result
-IfTold Fact (Request group client seq op) = Unit {0}
-IfTold Fact (Answer group seq answer) = Unit {0}
-IfTold Fact (Prepare group ballot from_slot) = Unit {0}
-IfTold Fact (Promise group ballot reports) = Unit {0}
-IfTold Fact (Accept group ballot slot command) = Unit {0}
-IfTold Fact (Accepted group ballot slot) = Unit {0}
-IfTold Fact (Nack group promised) = Unit {0}
-IfTold Fact (Learn group slot command) = Unit {0}
-IfTold Fact (Ask group from_slot) = Unit {0}
-IfTold Fact (Install group slot base sets) = Unit {0}
-IfTold Fact (TxPrepare tx offer) = Unit {0}
-IfTold Fact (TxVote tx coord part vote) = Unit {0}
-IfTold Fact (TxOutcome tx part outcome) = Unit {0}
-IfTold Fact (TxElsewhere tx coord hint) = Unit {0}
-IfTold Fact (TxWatch tx watch) = Unit {0}
-IfTold Fact (TxWatched tx coord part vote) = Unit {0}
+abbrev pub IfReported : (ℕ → OrderResult → Type 0) → MailBody → Type 0
+IfReported Fact (Told order result) = Fact order result
+IfReported Fact (Request group client seq op) = Unit {0}
+IfReported Fact (Answer group seq answer) = Unit {0}
+IfReported Fact (Prepare group ballot from_slot) = Unit {0}
+IfReported Fact (Promise group ballot reports) = Unit {0}
+IfReported Fact (Accept group ballot slot command) = Unit {0}
+IfReported Fact (Accepted group ballot slot) = Unit {0}
+IfReported Fact (Nack group promised) = Unit {0}
+IfReported Fact (Learn group slot command) = Unit {0}
+IfReported Fact (Ask group from_slot) = Unit {0}
+IfReported Fact (Install group slot base sets) = Unit {0}
+IfReported Fact (TxPrepare tx offer) = Unit {0}
+IfReported Fact (TxVote tx coord part vote) = Unit {0}
+IfReported Fact (TxOutcome tx part outcome) = Unit {0}
+IfReported Fact (TxElsewhere tx coord hint) = Unit {0}
+IfReported Fact (TxWatch tx watch) = Unit {0}
+IfReported Fact (TxWatched tx coord part vote) = Unit {0}
 
 -- each result that these mails report is so
-abbrev pub TellAs : (ℕ → OrderResult → Type 0) → List Mail → Type 0
-TellAs Fact mails = Each (λ (mail : Mail). IfTold Fact mail.body) mails
+abbrev pub ReportAs : (ℕ → OrderResult → Type 0) → List Mail → Type 0
+ReportAs Fact mails = Each (λ (mail : Mail). IfReported Fact mail.body) mails
 
 -- what a replica says of an entry that it executes, to clients, to the desk and to the parties of a transaction
 abbrev pub said_of_entry : Bool → Command → ReplicaState → List Mail
@@ -126,8 +126,8 @@ pub record ReportsAreDecided : Type 0 where
   -- an entry ends an order with one result, so that all who execute it report the same
   pub once : (group : Group) (command : Command) (order : ℕ) (result other : OrderResult) → EndsOrder group command order result → EndsOrder group command order other → result ≡ other
   -- of an entry that it executes, how the entry ends an order in the group that it meets
-  pub entries : (counted : Bool) (command : Command) (r : ReplicaState) → TellAs (EndsOrder r.group command) (said_of_entry counted command r)
+  pub entries : (counted : Bool) (command : Command) (r : ReplicaState) → ReportAs (EndsOrder r.group command) (said_of_entry counted command r)
   -- where it stops, that it does not lead, of each order that waits
-  pub queues : (hint : Option ℕ) (answer : AnswerBody) (r : ReplicaState) → TellAs (IsGivenBack r hint) (ended hint answer (r, [])).1
+  pub queues : (hint : Option ℕ) (answer : AnswerBody) (r : ReplicaState) → ReportAs (IsGivenBack r hint) (ended hint answer (r, [])).1
   -- of an order that it does not take, the first cause, and no more
   pub orders : (drawer : Drawer) (line : OrderLine) (r : ReplicaState) (why : OrderRefusal) → untaken drawer line r ≡ Some why → ordered_row drawer line (r, []) ≡ (r, result_sent r.me line.number (Refused why) [])

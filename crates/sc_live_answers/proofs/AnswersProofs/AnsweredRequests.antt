@@ -11,9 +11,9 @@ use Rattle.sc_actor.specs.Definitions.{value, System, has_started, IsLawful, is_
 use Rattle.sc_actor.proofs.Lemmas.{lawful-prefix}
 use Rattle.sc_client_table.specs.table.Definitions.{Client as ClientState}
 use Rattle.sc_node_table.specs.Definitions.{numbers_from}
-use Rattle.sc_paxos_law.proofs.Lemmas.{Among-right}
+use Rattle.sc_paxos_law.proofs.Lemmas.{Among-left, Among-right}
 use Rattle.sc_words.proofs.PaxosProofs.Lemmas.{Each-among}
-use Rattle.sc_live_orderly.proofs.Lemmas.{WasQuiet, was_quiet, seat_found}
+use Rattle.sc_live_orderly.proofs.Lemmas.{was_quiet_started, seat_found}
 use Rattle.sc_scenario.specs.scenario.Definitions.{IsValid, ValidScenariosAreBounded}
 use Rattle.sc_scenario.specs.declared.scenario.scenarios.Asks.{Asks}
 use Rattle.sc_scenario.specs.declared.scenario.scenarios.Scenario.{Scenario}
@@ -35,9 +35,9 @@ module _ (sound_law : ValidJournalsAreSound) (words : ℕ → ℕ → ℕ × ℕ
       let one : 1 ≤ seq + 1 = omega arith in
       let kept = sound.answers.kept s.first s.others s.groups_are asks a (seq + 1) reply
       (cond-false (eqb (seq + 1) 0) None (slice_get (kept_replies (route_of s.first) asks journal) (seq + 1 - 1)) (not_zero seq) ∙ (ap (slice_get (kept_replies (route_of s.first) asks journal)) (let back : seq + 1 - 1 ≡ seq = omega arith in back) ∙ e)) in
-      let is = sound.answers.requests kept.entry kept.stands in
-      let same : is.0 ≡ asks = s.once is.0 asks is.1 a (sym is.2.client ∙ kept.client_is) in
-      let low = slice_get_within is.0.ops (kept.entry.seq - 1) kept.entry.op is.2.op in
+      let fact = sound.answers.requests kept.entry kept.stands in
+      let same : fact.0 ≡ asks = s.once fact.0 asks fact.1 a (sym fact.2.client ∙ kept.client_is) in
+      let low = slice_get_within fact.0.ops (kept.entry.seq - 1) kept.entry.op fact.2.op in
       let number = kept.seq_is in
       let ops = ap (λ (x : Asks). length x.ops) same in
       omega (arith, low, number, ops)
@@ -90,9 +90,11 @@ answered_calmly all_bounded sound_law words scenario journal valid lawful whole 
     let lines : schedule scenario ≡ start ++ map line_of served.after =
     ap (map line_of) served.lines_are ∙ (map-append line_of served.before (Go asks.client ∷ served.after) ∙ sym (append_assoc (map line_of served.before) (line.Go (client_actor asks.client) ∷ []) (map line_of served.after))) in
     let rest_is : map line_of served.after ≡ map line_of d.0 ++ line_of d.1 ∷ map line_of d.2 = ap (map line_of) d.3 ∙ map-append line_of d.0 (d.1 ∷ d.2) in
-    let was : WasQuiet sys (client_actor asks.client) seat born journal =
-    was_quiet sys (client_actor asks.client) seat born (schedule scenario) start (map line_of served.after) lines
-    (Among-right (line.Go (client_actor asks.client)) (map line_of served.before) (line.Go (client_actor asks.client) ∷ []) (inl refl)) (map line_of d.0) (line_of d.1) (map line_of d.2) rest_is (many_line d.1 d.4) journal lawful uncut whole in
+    let parts : schedule scenario ≡ (start ++ map line_of d.0) ++ line_of d.1 ∷ map line_of d.2 =
+    lines ∙ (ap (λ l. start ++ l) rest_is ∙ sym (append_assoc start (map line_of d.0) (line_of d.1 ∷ map line_of d.2))) in
+    let goes : Among (line.Go (client_actor asks.client)) (start ++ map line_of d.0) =
+    Among-left (line.Go (client_actor asks.client)) start (map line_of d.0) (Among-right (line.Go (client_actor asks.client)) (map line_of served.before) (line.Go (client_actor asks.client) ∷ []) (inl refl)) in
+    let was = was_quiet_started sys (client_actor asks.client) seat born (schedule scenario) (start ++ map line_of d.0) (map line_of d.2) (line_of d.1) parts goes (many_line d.1 d.4) journal lawful uncut whole in
     let begins : IsLawful sys (schedule scenario) was.before = lawful-prefix sys (schedule scenario) was.before was.after (subst (λ l. IsLawful sys (schedule scenario) l) was.rows_are lawful) in
     let quiet = rest_law s.first s.others was.before was.after was.rows_are begins s.groups_are was.quiet in
-    answered_since sound_law words scenario s journal valid lawful asks a was.before was.after was.rows_are quiet was.gone first others groups
+    answered_since sound_law words scenario s journal valid lawful asks a was.before was.after was.rows_are quiet was.held first others groups

@@ -17,13 +17,13 @@ use Rattle.sc_live_answers.specs.Definitions.{IsFirstChart, BirthsAreCovered}
 -- a client with a request owes no more than its share: for each request, and for each order
 share_of : (share reach requests orders : ℕ) → requests + orders ≡ share → 1 ≤ requests
     → 28 * requests + (reach * (2 + 2 * (orders + 1)) + 2 * (orders + 1)) ≤ share * (32 + 8 * reach)
-share_of share reach requests orders is some =
-    let less = mul-le-mul_left reach (let low : 2 + 2 * (orders + 1) ≤ 8 * share = omega (arith, is, some) in low) in
+share_of share reach requests orders fact some =
+    let less = mul-le-mul_left reach (let low : 2 + 2 * (orders + 1) ≤ 8 * share = omega (arith, fact, some) in low) in
     let parts = mul-add share 32 (8 * reach) in
     let turned : share * (8 * reach) ≡ reach * (8 * share) = mul_left_comm share 8 reach ∙ ap (λ n. 8 * n) (mul_comm share reach) ∙ sym (mul_left_comm reach 8 share) in
-    omega (arith, less, parts, turned, is, some)
+    omega (arith, less, parts, turned, fact, some)
 
-module _ (scenario : Scenario) (first : Chart) (is : IsFirstChart scenario first) where
+module _ (scenario : Scenario) (first : Chart) (fact : IsFirstChart scenario first) where
   abbrev orders : ℕ
   orders = orders_of scenario
 
@@ -37,7 +37,7 @@ module _ (scenario : Scenario) (first : Chart) (is : IsFirstChart scenario first
   owes seat = birth_owes first seat.actor
 
   searched : first.reach.most * (2 + 2 * first.ways.most) + 2 * first.ways.most ≡ reach * (2 + 2 * (orders + 1)) + 2 * (orders + 1)
-  searched = ap (λ n. first.reach.most * (2 + 2 * n) + 2 * n) is.most ∙ ap (λ n. n * (2 + 2 * (orders + 1)) + 2 * (orders + 1)) is.reach
+  searched = ap (λ n. first.reach.most * (2 + 2 * n) + 2 * n) fact.most ∙ ap (λ n. n * (2 + 2 * (orders + 1)) + 2 * (orders + 1)) fact.reach
 
   share_by : (requests : ℕ) → 28 * requests + cond (ltb 0 requests) (first.reach.most * (2 + 2 * first.ways.most) + 2 * first.ways.most) 0 ≤ (requests + orders) * share
   share_by zero = omega arith
@@ -77,9 +77,9 @@ module _ (scenario : Scenario) (first : Chart) (is : IsFirstChart scenario first
       let none = nodes_owe_none in
       let clients = clients_owe scenario.groups scenario.clients in
       let same : sum_by (λ (asks : Asks). length asks.ops + orders) scenario.clients * share ≡ (requests_of scenario + orders * length scenario.clients) * share = ap (λ n. n * share) (all_shares scenario.clients) in
-      let most = is.most in
+      let most = fact.most in
       omega (arith, split, none, clients, same, most, some)
 
 -- The budget of a calm scenario with an order covers what its clients owe at their births and what one order raises, by a chart on which no way by hints is longer than one more than there are orders, and no client is sent on more often than there are groups and orders.
 pub births_covered : BirthsAreCovered
-births_covered scenario first is some = covered scenario first is some
+births_covered scenario first fact some = covered scenario first fact some

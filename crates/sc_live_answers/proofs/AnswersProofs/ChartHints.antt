@@ -46,7 +46,7 @@ nearer most latest r there (room, some_most) (first, low) high stops stands near
 -- where there is no replica, or one that does not run and is not gone, some way is left
 some_way : (most latest : ℕ) (o : Option ReplicaState) → 1 ≤ most → ((r : ReplicaState) → o ≡ Some r → (r.top.round ≤ latest) × ((r.running || is_some r.group.core.gone) ≡ false)) → 1 ≤ way_by most latest o
 some_way most latest None room k = omega (arith, room)
-some_way most latest (Some r) room k = (let is = k r refl in let low = is.0 in let some = some_left most latest r is.1 in omega (arith, low, some, room))
+some_way most latest (Some r) room k = (let fact = k r refl in let low = fact.0 in let some = some_left most latest r fact.1 in omega (arith, low, some, room))
 
 -- ---- the latest round
 
@@ -61,9 +61,9 @@ latest_low name most (r ∷ rs) k = by (same_draw (name_of r) name) refl (latest
 latest_high : (name : Draw) (rs : List ReplicaState) (r : ReplicaState) → Among r rs → name_of r ≡ name → r.top.round ≤ latest_in name rs
 latest_high name [] r a same = absurd a
 latest_high name (x ∷ rs) r (inl e) same =
-    let is = cond-true (same_draw (name_of x) name) (max x.top.round (latest_in name rs)) (latest_in name rs) (same_name (name_of x) name (ap name_of e ∙ same)) in
+    let fact = cond-true (same_draw (name_of x) name) (max x.top.round (latest_in name rs)) (latest_in name rs) (same_name (name_of x) name (ap name_of e ∙ same)) in
     let top = ap (λ (y : ReplicaState). y.top.round) e in
-    omega (arith, is, top)
+    omega (arith, fact, top)
 latest_high name (x ∷ rs) r (inr a) same = by (same_draw (name_of x) name) (latest_high name rs r a same)
   where
     by : (b : Bool) → r.top.round ≤ latest_in name rs → r.top.round ≤ cond b (max x.top.round (latest_in name rs)) (latest_in name rs)
@@ -96,7 +96,7 @@ module _ (all_bounded : ValidScenariosAreBounded) (named : LawfulReplicasAreName
       ∙ ap (way_by far (latest_in group all)) (views.charts scenario quiet group node ∙ agree group node)
 
   round_low : (group : Draw) (node : ℕ) (r : ReplicaState) → at group node ≡ Some r → r.top.round ≤ latest_in group all
-  round_low group node r e = latest_high group all r (seen_all all_bounded named words scenario first others quiet valid groups lawful rests.is homes group node r e) (rests.is.kept group node r e).name_is
+  round_low group node r e = latest_high group all r (seen_all all_bounded named words scenario first others quiet valid groups lawful rests.fact homes group node r e) (rests.fact.kept group node r e).name_is
 
   some_far : 1 ≤ far
   some_far = omega (arith, room)
@@ -104,7 +104,7 @@ module _ (all_bounded : ValidScenariosAreBounded) (named : LawfulReplicasAreName
   latest_few : (group : Draw) → latest_in group all ≤ far
   latest_few group =
       let low = latest_low group (orders quiet + 1) all (λ r a same. (
-      let v = all_seen all_bounded named words scenario first others quiet valid groups lawful rests.is homes r a in
+      let v = all_seen all_bounded named words scenario first others quiet valid groups lawful rests.fact homes r a in
       (rests.rounds (name_of r) v.0 r (agree (name_of r) v.0 ∙ v.1)).1)) in
       omega (arith, low, room)
 
@@ -115,11 +115,11 @@ module _ (all_bounded : ValidScenariosAreBounded) (named : LawfulReplicasAreName
   rise = record {
     leads = λ group q node ne. (
         let zero_ = lead_zero group q in
-        let is = far_is group node in
+        let fact = far_is group node in
         let some = some_way far (latest_in group all) (at group node) some_far (λ r e. (round_low group node r e, stopped group q node r ne e)) in
-        omega (arith, zero_, is, some));
+        omega (arith, zero_, fact, some));
     hints = λ group node hint r there stops stands h. (
-        let rises = rests.is.quiet.rises group node r there stops stands in
+        let rises = rests.fact.quiet.rises group node r there stops stands in
         let same : r.top.node ≡ hint = some_is (sym rises.hint_is ∙ h) in
         let mine = far_is group node ∙ ap (way_by far (latest_in group all)) there in
         let is_there : at group hint ≡ Some rises.there = ap (at group) (sym same) ∙ rises.is_there in
@@ -131,7 +131,7 @@ module _ (all_bounded : ValidScenariosAreBounded) (named : LawfulReplicasAreName
       stopped : (group : Draw) (q : StandsQuiet at group) (node : ℕ) (r : ReplicaState) → (node ≡ q.lead.me → ⊥) → at group node ≡ Some r → (r.running || is_some r.group.core.gone) ≡ false
       stopped group q node r ne e =
           let off : r.running ≡ false = elim (cases_Bool r.running) [
-            | inl runs ↦ absurd (ne (sym (rests.is.kept group node r e).me_is ∙ ap (λ (x : ReplicaState). x.me) (q.alone node r e runs)))
+            | inl runs ↦ absurd (ne (sym (rests.fact.kept group node r e).me_is ∙ ap (λ (x : ReplicaState). x.me) (q.alone node r e runs)))
             | inr f ↦ f
           ] in
           or_from r.running (is_some r.group.core.gone) off (ap is_some (rests.reach.stand group q node r e))
@@ -139,7 +139,7 @@ module _ (all_bounded : ValidScenariosAreBounded) (named : LawfulReplicasAreName
   reached : AreReached (setting_at at frames ways)
   reached frame a =
       let f = are.are frame a in
-      let named_so : f.1.lead.group.core.id ≡ f.0 = (rests.is.kept f.0 f.1.lead.me f.1.lead f.1.newest.is_there).name_is in
+      let named_so : f.1.lead.group.core.id ≡ f.0 = (rests.fact.kept f.0 f.1.lead.me f.1.lead f.1.newest.is_there).name_is in
       ap (λ (x : Frame). ways.far x.core.id x.lead) (sym f.2) ∙ (ap (λ name. ways.far name f.1.lead.me) named_so ∙ lead_zero f.0 f.1)
 
 pub hints_rise : ValidScenariosAreBounded → LawfulReplicasAreNamedOnce → ViewsAgree → ChartHintsRise

@@ -11,7 +11,7 @@ use Rattle.sc_meaning.specs.sound.Definitions.{Player}
 use Rattle.sc_live_steps.specs.calm.Definitions.{Rows}
 use Rattle.sc_live_journals.specs.charts.Definitions.{all_replicas, asked_by, asked_in}
 use Rattle.sc_live_steps.specs.orders.Definitions.{Turn, First, Lone, Next, is_watch, Bond, Unbound, Asking, Bound, Here, Scene, turn_of, bond_in, bond_of, Leg, Mailed, Filed, closing, heard, bound_by, parties_of, Stage, Still, Ordered, Asks, SentOn, Weighs, Replied, Recorded, Closes, ClosesBoth, IsAt}
-use Rattle.sc_live_steps.proofs.OrdersProofs.Lemmas.{tokens, tagged, found}
+use Rattle.sc_live_steps.proofs.OrderStepsProofs.Lemmas.{tokens, tagged, found}
 use Rattle.sc_live_journals.specs.scenes.Definitions.{scene_at, ScenesDescribe}
 use Rattle.sc_live_answers.specs.Definitions.{AllLeadAlone, StagesAsk}
 
@@ -44,14 +44,14 @@ none_closing tx name Filed host = refl
 
 -- of two that stand in a list of one at most each is that one
 one_only : {X : Type 0} (x a b : X) (xs ys : List X) → xs ≡ [] → ys ≡ [] → Among a (x ∷ (xs ++ ys)) → Among b (x ∷ (xs ++ ys)) → a ≡ b
-one_only x a b xs ys none empty left right = sym (is a (subst (Among a) all left)) ∙ is b (subst (Among b) all right)
+one_only x a b xs ys none empty left right = sym (fact a (subst (Among a) all left)) ∙ fact b (subst (Among b) all right)
   where
     all : x ∷ (xs ++ ys) ≡ x ∷ []
     all = ap (λ l. x ∷ (l ++ ys)) none ∙ ap (λ l. x ∷ l) empty
 
-    is : (c : _) → Among c (x ∷ []) → x ≡ c
-    is c (inl e) = e
-    is c (inr none_) = absurd none_
+    fact : (c : _) → Among c (x ∷ []) → x ≡ c
+    fact c (inl e) = e
+    fact c (inr none_) = absurd none_
 
 nobody : {X : Type 0} (a b : X) (xs ys : List X) → xs ≡ [] → ys ≡ [] → Among a (xs ++ ys) → a ≡ b
 nobody a b xs ys none empty left = absurd (subst (Among a) (ap (λ l. l ++ ys) none ∙ empty) left)
@@ -73,7 +73,7 @@ one_asks (ClosesBoth tx one two) a b left right =
 
 -- a group that asks stands among those
 asks_there : (now : Scene) (stage : Stage) (name tx asked : Draw) (turn : Turn) → IsAt stage now → (now.at name).bond ≡ Asking tx asked turn → Among (name, (tx, (asked, turn))) (tokens asks_of (parties_of stage))
-asks_there now stage name tx asked turn at is = found asks_of now.at name (tx, (asked, turn)) (subst (λ b. Among (tx, (asked, turn)) (asks_by b)) (sym is) (inl refl)) (parties_of stage) at.parties refl
+asks_there now stage name tx asked turn at fact = found asks_of now.at name (tx, (asked, turn)) (subst (λ b. Among (tx, (asked, turn)) (asks_by b)) (sym fact) (inl refl)) (parties_of stage) at.parties refl
 
 -- ---- what a lock asks
 
@@ -151,11 +151,11 @@ module _ (tell : ScenesDescribe) (births : List (Seat Player)) (rows : Rows) (st
   same : (x : ReplicaState) → Among x (all_replicas births rows) → Speaks tx x ≡ true → asked_by tx x.group.core x.group.core.lock ≡ Some (asked, is_watch turn)
   same x a s =
       let both = and_parts x.running (is_some (asked_by tx x.group.core x.group.core.lock)) s in
-      let is = asked_some tx x.group.core x.group.core.lock both.1 in
-      let there = asks_there now stage (name_of x) tx is.asked is.turn at (bond_is x a both.0 ∙ is.bond) in
+      let fact = asked_some tx x.group.core x.group.core.lock both.1 in
+      let there = asks_there now stage (name_of x) tx fact.asked fact.turn at (bond_is x a both.0 ∙ fact.bond) in
       let here = asks_there now stage coord tx asked turn at bond in
-      let e : (name_of x, (tx, (is.asked, is.turn))) ≡ (coord, (tx, (asked, turn))) = one_asks stage (name_of x, (tx, (is.asked, is.turn))) (coord, (tx, (asked, turn))) there here in
-      is.by ∙ ap (λ (t : Draw × Sought). Some (t.1.1.0, is_watch t.1.1.1)) e
+      let e : (name_of x, (tx, (fact.asked, fact.turn))) ≡ (coord, (tx, (asked, turn))) = one_asks stage (name_of x, (tx, (fact.asked, fact.turn))) (coord, (tx, (asked, turn))) there here in
+      fact.by ∙ ap (λ (t : Draw × Sought). Some (t.1.1.0, is_watch t.1.1.1)) e
 
   asks : asked_in tx (all_replicas births rows) ≡ Some (asked, is_watch turn)
   asks = first_asks tx (Some (asked, is_watch turn)) (all_replicas births rows) r same among speaks

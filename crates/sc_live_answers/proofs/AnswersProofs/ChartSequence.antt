@@ -11,7 +11,7 @@ use Rattle.sc_live_steps.specs.calm.Definitions.{players, MayFollow, Rows}
 use Rattle.sc_live_journals.specs.rows.Definitions.{view_at, with_event}
 use Rattle.sc_live_journals.specs.charts.Definitions.{all_replicas, asked_in, chart_at, WaitsForNone, AsksSame, ChartsFollow}
 use Rattle.sc_live_steps.specs.orders.Definitions.{Turn, First, Lone, Next, is_watch, Elsewhere, Asking, Here, errand_by, Deal, Stage, Asks, SentOn, IsAt, closed, OfQuestion, OfVote, OfOutcome, LastTakes, OneTakes, TwoTakes, LastFreed, OneFreed, TwoFreed, IsStepOf, ByRest, ByOrder, ByChange, ByDeal, ByPassing, ByAsking, ByTaking, ByVote, ByNo, ByHearing, ByDeciding, ByEnd}
-use Rattle.sc_live_steps.proofs.OrdersProofs.Lemmas.{among-left, among-right}
+use Rattle.sc_live_steps.proofs.OrderStepsProofs.Lemmas.{among-left, among-right}
 use Rattle.sc_live_journals.specs.scenes.Definitions.{StageAfter, left_after, scene_at}
 use Rattle.sc_live_journals.proofs.ScenesProofs.Lemmas.{lead_runs}
 use Rattle.sc_live_answers.specs.Definitions.{AllLeadAlone, StagesAsk, OrderChartsFollow}
@@ -43,7 +43,7 @@ sent_from group before after deal (ByRest same) e = inl (sym same ∙ e)
 sent_from group before after deal (ByOrder k) e = (let bad = sym k.after_is ∙ e in cc)
 sent_from group before after deal (ByChange k) e = (let bad = sym k.after_is ∙ e in cc)
 sent_from group before after deal (ByDeal k) e = (let bad = sym k.after_is ∙ e in cc)
-sent_from group before after deal (ByPassing k) e = (let same : SentOn k.deal ≡ SentOn deal = sym k.after_is ∙ e in let is : k.deal ≡ deal = cc in inr (k.to, k.before_is ∙ ap (λ d. Asks d k.to) is))
+sent_from group before after deal (ByPassing k) e = (let same : SentOn k.deal ≡ SentOn deal = sym k.after_is ∙ e in let fact : k.deal ≡ deal = cc in inr (k.to, k.before_is ∙ ap (λ d. Asks d k.to) fact))
 sent_from group before after deal (ByAsking k) e = (let bad = sym k.after_is ∙ e in cc)
 sent_from group before after deal (ByTaking (OfQuestion k)) e = (let bad = sym k.after_is ∙ e in cc)
 sent_from group before after deal (ByTaking (OfVote k)) e = (let bad = sym k.after_is ∙ e in cc)
@@ -73,11 +73,11 @@ module _ (asks_law : StagesAsk) (follow : ChartsFollow) (words : ℕ → ℕ →
   s = players words (births as_nodes scenario)
 
   -- of a coordinator in a stage, whose leader is there
-  asks_so : (journal : Rows) (is : Stage) (deal : Deal) → AllLeadAlone all journal → IsAt is (scene_at all journal) → ((scene_at all journal).at deal.coord).bond ≡ Asking deal.tx deal.asked deal.turn → (scene_at all journal).lead deal.coord ≡ Some deal.chief
+  asks_so : (journal : Rows) (fact : Stage) (deal : Deal) → AllLeadAlone all journal → IsAt fact (scene_at all journal) → ((scene_at all journal).at deal.coord).bond ≡ Asking deal.tx deal.asked deal.turn → (scene_at all journal).lead deal.coord ≡ Some deal.chief
       → asked_in deal.tx (all_replicas all journal) ≡ Some (deal.asked, is_watch deal.turn)
-  asks_so journal is deal lone at bond led =
+  asks_so journal fact deal lone at bond led =
       let runs = runs_there (view_at all journal deal.coord deal.chief) (lead_runs (view_at all journal deal.coord) (numbers_of all) deal.chief led) in
-      asks_law all journal is deal.tx deal.coord deal.asked deal.turn runs.0 lone at bond (among_all all journal deal.coord deal.chief runs.0 runs.1) runs.2 (named_so all journal deal.coord deal.chief runs.0 runs.1)
+      asks_law all journal fact deal.tx deal.coord deal.asked deal.turn runs.0 lone at bond (among_all all journal deal.coord deal.chief runs.0 runs.1) runs.2 (named_so all journal deal.coord deal.chief runs.0 runs.1)
 
   sent_asks : (journal : Rows) (deal : Deal) → AllLeadAlone all journal → IsAt (SentOn deal) (scene_at all journal) → asked_in deal.tx (all_replicas all journal) ≡ Some (deal.asked, is_watch deal.turn)
   sent_asks journal deal lone at = asks_so journal (SentOn deal) deal lone at (ap (λ (h : Here). h.bond) at.parties.0.0) at.leads.0
@@ -90,9 +90,9 @@ module _ (asks_law : StagesAsk) (follow : ChartsFollow) (words : ℕ → ℕ →
   was_asked deal (inr asks) = question_asks rows deal asks.0 alone (subst (λ x. IsAt x (scene_at all rows)) asks.1 stands)
 
   came_from : (deal : Deal) → after_row.0 ≡ SentOn deal → (stage ≡ SentOn deal) ⊎ ((to : ℕ) × (stage ≡ Asks deal to))
-  came_from deal is = elim after_row.2 [
-    | inl same ↦ inl (sym same ∙ is)
-    | inr goes ↦ sent_from goes.group stage after_row.0 deal goes.step is
+  came_from deal fact = elim after_row.2 [
+    | inl same ↦ inl (sym same ∙ fact)
+    | inr goes ↦ sent_from goes.group stage after_row.0 deal goes.step fact
   ]
 
   same_asked : (mail : Mail) → Among mail (under_way s (with_event rows seat event)) → AsksSame all rows (with_event rows seat event) mail.body

@@ -35,12 +35,12 @@ use Rattle.sc_live_answers.proofs.AnswersProofs.SentMail.{sent_with}
 
 -- what is sent to somebody else than the desk
 not_desk : (who : ℕ) (player : Player) (mail : Mail) → IsPlayers who player mail → (mail.to ≡ 0 → ⊥) → IsDelivered mail.body
-not_desk who (Node node) mail is other = by mail.body is
+not_desk who (Node node) mail fact other = by mail.body fact
   where
     by : (body : MailBody) → IsNodesBody who mail.to body → IsDelivered body
     by (Told order result) k = absurd (other k)
     by _ k = tt
-not_desk who (Client client) mail is other = by mail.body is.1
+not_desk who (Client client) mail fact other = by mail.body fact.1
   where
     by : (body : MailBody) → IsClientsBody client.me body → IsDelivered body
     by (Told order result) k = absurd k
@@ -90,24 +90,24 @@ module _ (segment : SegmentLaws) (rows_laws : RowLaws) (laws : LineLaws) (words 
   in_calm rows lawful timely short = record { valid = valid; lawful = lawful; timely = timely; short = short; given = laws.given_law words scenario rows valid calm lawful }
 
   frame : (rows : Rows) → IsCalmJournal words scenario rows → IsFramed words scenario begins.first begins.others (orders_of scenario + 1) (length scenario.groups + orders_of scenario) rows
-  frame rows is = record {
+  frame rows fact = record {
     groups = begins.groups_are;
-    calm = is;
-    few = λ prefix begins_so. (let low = told_low prefix (rows_laws.found_law words scenario rows prefix is begins_so).lawful in (omega (arith, low), omega (arith, low)));
+    calm = fact;
+    few = λ prefix begins_so. (let low = told_low prefix (rows_laws.found_law words scenario rows prefix fact begins_so).lawful in (omega (arith, low), omega (arith, low)));
   }
 
   whole : (rows : Rows) → IsPrefixOf rows rows
-  whole rows = record { more = []; is = sym (append-nil rows) }
+  whole rows = record { more = []; fact = sym (append-nil rows) }
 
   delivered : (rows : Rows) → AreInTime s rows → Each (λ mail. IsDelivered mail.body) (under_way s rows)
   delivered rows timely = Each-from (λ (mail : Mail). IsDelivered mail.body) (under_way s rows) (λ mail a. (
       let born = (with_other (λ m. is_born s (s.receiver m)) (λ m. true) (mails rows) (copies rows) mail a).0 in
       let posted = Each-among (IsPosted all) (mails rows) mail (laws.posted_law words scenario rows timely) (sent_with (λ m. is_born s (s.receiver m)) (mails rows) (copies rows) mail a) in
-      not_desk posted.seat.who posted.seat.actor mail posted.is (λ desk. true≢false (sym born ∙ (ap (is_born s) desk ∙ unseated all 0 (laws.desk_law scenario))))))
+      not_desk posted.seat.who posted.seat.actor mail posted.fact (λ desk. true≢false (sym born ∙ (ap (is_born s) desk ∙ unseated all 0 (laws.desk_law scenario))))))
 
   -- such a journal rests where it is quiet
   rests_in : (rows : Rows) → IsCalmJournal words scenario rows → is_quiet s rows ≡ true → IsQuietJournal words scenario begins.first rows
-  rests_in rows is quiet = (rows_of.quiet_rests segment rows_laws words scenario begins.first begins.others (orders_of scenario + 1) (length scenario.groups + orders_of scenario) rows (frame rows is) rows (whole rows) is.timely quiet).rests.is
+  rests_in rows fact quiet = (rows_of.quiet_rests segment rows_laws words scenario begins.first begins.others (orders_of scenario + 1) (length scenario.groups + orders_of scenario) rows (frame rows fact) rows (whole rows) fact.timely quiet).rests.fact
 
   -- a quiet journal whose rows come in time rests
   pub rests_timely : (rows : Rows) → Lawful as_nodes words scenario rows → AreInTime s rows → length rows ≤ 2 ^ 28 → is_quiet s rows ≡ true → IsQuietJournal words scenario begins.first rows
@@ -116,8 +116,8 @@ module _ (segment : SegmentLaws) (rows_laws : RowLaws) (laws : LineLaws) (words 
   -- in a quiet journal in which no line was cut off the results of all orders are reported
   pub reports_settled : (rows : Rows) → Lawful as_nodes words scenario rows → unsettled s (schedule scenario) rows ≡ false → length rows ≤ 2 ^ 28 → is_quiet s rows ≡ true → AreReported (births as_nodes scenario) rows
   reports_settled rows lawful uncut short quiet =
-      let is = in_calm rows lawful (settled_in_time s (schedule scenario) (laws.spaced_law 0 scenario calm).0 rows lawful uncut) short in
-      (rows_of.quiet_rests segment rows_laws words scenario begins.first begins.others (orders_of scenario + 1) (length scenario.groups + orders_of scenario) rows (frame rows is) rows (whole rows) is.timely quiet).reported
+      let fact = in_calm rows lawful (settled_in_time s (schedule scenario) (laws.spaced_law 0 scenario calm).0 rows lawful uncut) short in
+      (rows_of.quiet_rests segment rows_laws words scenario begins.first begins.others (orders_of scenario + 1) (length scenario.groups + orders_of scenario) rows (frame rows fact) rows (whole rows) fact.timely quiet).reported
 
   -- a quiet journal in which no line was cut off rests
   pub rests_settled : (rows : Rows) → Lawful as_nodes words scenario rows → unsettled s (schedule scenario) rows ≡ false → length rows ≤ 2 ^ 28 → is_quiet s rows ≡ true → IsQuietJournal words scenario begins.first rows
@@ -145,13 +145,13 @@ module _ (segment : SegmentLaws) (rows_laws : RowLaws) (laws : LineLaws) (words 
       first = record { most = refl; reach = refl };
       keeps = record {
         keeps = λ rows row lawful timely low. (
-            let is = is_calm (rows ++ row ∷ []) lawful timely (one_more rows row low) in
-            rows_of.keeps segment rows_laws words scenario begins.first begins.others (orders_of scenario + 1) (length scenario.groups + orders_of scenario) (rows ++ row ∷ []) (frame (rows ++ row ∷ []) is) rows row (whole (rows ++ row ∷ [])) timely);
+            let fact = is_calm (rows ++ row ∷ []) lawful timely (one_more rows row low) in
+            rows_of.keeps segment rows_laws words scenario begins.first begins.others (orders_of scenario + 1) (length scenario.groups + orders_of scenario) (rows ++ row ∷ []) (frame (rows ++ row ∷ []) fact) rows row (whole (rows ++ row ∷ [])) timely);
         delivered = λ rows lawful timely low. delivered rows timely;
       };
       rests = λ rows lawful timely low quiet. (
-          let is = is_calm rows lawful timely (omega (arith, low)) in
-          rows_of.rests_calm segment rows_laws words scenario begins.first begins.others (orders_of scenario + 1) (length scenario.groups + orders_of scenario) rows (frame rows is) rows (whole rows) timely quiet);
+          let fact = is_calm rows lawful timely (omega (arith, low)) in
+          rows_of.rests_calm segment rows_laws words scenario begins.first begins.others (orders_of scenario + 1) (length scenario.groups + orders_of scenario) rows (frame rows fact) rows (whole rows) timely quiet);
     }
 
     -- ---- lawful journals

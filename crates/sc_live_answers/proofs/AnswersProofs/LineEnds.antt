@@ -76,8 +76,8 @@ plain_budget scenario none =
 
 -- what is owed at birth, and what all orders raise, is no more than all deliveries
 pub within_deliveries : (still most orders budget : ℕ) → most ≡ orders + 1 → still + (242 + 4 * most) ≤ budget → still + orders * (242 + 4 * most) ≤ budget + orders * (242 + 4 * (orders + 1))
-within_deliveries still most orders budget is within =
-    let same : orders * (242 + 4 * most) ≡ orders * (242 + 4 * (orders + 1)) = ap (λ n. orders * (242 + 4 * n)) is in
+within_deliveries still most orders budget fact within =
+    let same : orders * (242 + 4 * most) ≡ orders * (242 + 4 * (orders + 1)) = ap (λ n. orders * (242 + 4 * n)) fact in
     omega (arith, same, within)
 
 module _ (all_bounded : ValidScenariosAreBounded) (spaced : CalmLinesAreSpaced) (quiet : KeptCalmEndsQuiet) (plain : PlainLinesEndQuiet) where

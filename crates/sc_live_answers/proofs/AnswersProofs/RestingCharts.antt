@@ -24,7 +24,7 @@ use Rattle.sc_live_plain.specs.Definitions.{replicas_after}
 use Rattle.sc_live_plain.proofs.Lemmas.{stage}
 use Rattle.sc_live_answers.specs.Definitions.{LawfulReplicasAreNamedOnce, IsCalmJournal, PrefixesAreFound, RestsAt, ViewsAgree}
 use Rattle.sc_live_answers.proofs.OrdersProofs.OrderDeliveries.{led_there, gone_leads}
-use Rattle.sc_live_answers.proofs.MailProofs.LeadersElsewhere.{any_found}
+use Rattle.sc_live_answers.proofs.LedMailProofs.LeadersElsewhere.{any_found}
 use Rattle.sc_live_answers.proofs.ReplicasProofs.Nodes.{node_replays}
 use Rattle.sc_live_answers.proofs.ReplicasProofs.PlayerReplicas.{place_of}
 use Rattle.sc_live_answers.proofs.ReplicasProofs.AllReplicas.{into_seats}
@@ -91,7 +91,7 @@ module _ (found_law : PrefixesAreFound) (words : ℕ → ℕ → ℕ × ℕ) (sc
 
   -- each group that has a replica is led
   pub there_is_led : (name : Draw) → IsThere (births as_nodes scenario) quiet name → is_led (births as_nodes scenario) quiet name ≡ true
-  there_is_led name there = led_so name (rests.is.quiet.groups name there.0 (there.1, seen_so name there.0 ∙ there.2))
+  there_is_led name there = led_so name (rests.fact.quiet.groups name there.0 (there.1, seen_so name there.0 ∙ there.2))
 
 module _ (all_bounded : ValidScenariosAreBounded) (found_law : PrefixesAreFound) (once_law : LawfulReplicasAreNamedOnce) (agree_law : ViewsAgree) (last_law : ReplicasLast) (rest_law : QuietChartsRest)
     (words : ℕ → ℕ → ℕ × ℕ) (scenario : Scenario) (first : Base) (others : List Base) (journal rows : Rows) (groups : scenario.groups ≡ first ∷ others) (calm : IsCalmJournal words scenario journal) (timely : AreInTime (players words (births as_nodes scenario)) rows) (rests : RestsAt words scenario first journal rows) where
@@ -118,20 +118,20 @@ module _ (all_bounded : ValidScenariosAreBounded) (found_law : PrefixesAreFound)
   -- ---- players
 
   node_rests : (seat : Seat Player) → Among seat all → (node : NodeState) → value player_table seat rows ≡ Node node → Each IsAtRest node.replicas
-  node_rests seat a node is =
+  node_rests seat a node fact =
       let f = found_law words scenario journal rows calm rests.prefix in
       Each-from IsAtRest node.replicas (λ r here. (
-      let p = place_of all_bounded once_law agree_law words scenario rows calm.valid f.lawful f.homes r (into_seats rows all seat r a (subst (λ (x : Player). Among r (chart_replicas x)) (sym is) here)) in
-      rests.is.quiet.at_rest (name_of r) p.0 r (views (name_of r) p.0 ∙ p.1)))
+      let p = place_of all_bounded once_law agree_law words scenario rows calm.valid f.lawful f.homes r (into_seats rows all seat r a (subst (λ (x : Player). Among r (chart_replicas x)) (sym fact) here)) in
+      rests.fact.quiet.at_rest (name_of r) p.0 r (views (name_of r) p.0 ∙ p.1)))
 
   waits_none : (b : Bool) (client : ClientState) → IsAnswered b (route_of first) client → client.waiting ≡ None
-  waits_none false client is = ap (λ (c : ClientState). c.waiting) is
-  waits_none true client is = is.0
+  waits_none false client fact = ap (λ (c : ClientState). c.waiting) fact
+  waits_none true client fact = fact.0
 
   client_rests : (asks : Asks) → Among asks scenario.clients → IsResting (value player_table (client_seat (route_of first) asks) rows)
   client_rests asks a =
-      let p = rests.is.players asks a in
-      let answer = Each-among (λ (client : Bool × ClientState). IsAnswered client.0 (route_of first) client.1) rests.is.clients (has_started rows (client_actor asks.client), p.0) rests.is.quiet.answered p.4 in
+      let p = rests.fact.players asks a in
+      let answer = Each-among (λ (client : Bool × ClientState). IsAnswered client.0 (route_of first) client.1) rests.fact.clients (has_started rows (client_actor asks.client), p.0) rests.fact.quiet.answered p.4 in
       subst IsResting (sym p.1) (waits_none (has_started rows (client_actor asks.client)) p.0 answer)
 
   seat_rests : (seat : Seat Player) → Among seat all → IsResting (value player_table seat rows)
@@ -139,8 +139,8 @@ module _ (all_bounded : ValidScenariosAreBounded) (found_law : PrefixesAreFound)
     | inl node ↦ (
         let m = from_map (node_seat as_nodes scenario.groups scenario.policy) (numbers_from 1 scenario.nodes) seat node in
         let n = node_replays m.0 [] rows (born_node slots_ahead m.0 scenario.groups scenario.policy) in
-        let is : value player_table seat rows ≡ Node n.0 = ap (λ x. value player_table x rows) (sym m.2) ∙ n.1 in
-        subst IsResting (sym is) (node_rests seat a n.0 is))
+        let fact : value player_table seat rows ≡ Node n.0 = ap (λ x. value player_table x rows) (sym m.2) ∙ n.1 in
+        subst IsResting (sym fact) (node_rests seat a n.0 fact))
     | inr client ↦ (
         let here : Among seat (map (client_seat (route_of first)) scenario.clients) = subst (λ gs. Among seat (client_seats gs scenario.clients)) groups client in
         let m = from_map (client_seat (route_of first)) scenario.clients seat here in

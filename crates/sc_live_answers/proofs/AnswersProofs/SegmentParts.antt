@@ -79,7 +79,7 @@ module _ (laws : SegmentLaws) (words : ℕ → ℕ → ℕ × ℕ) (scenario : S
   OrdersSo quiet rows = IsOrderedSince words scenario first journal quiet (quiet ++ rows)
 
   prefix_before : (rows : Rows) (row : Row Mail OrderLine) → IsPrefixOf journal (rows ++ row ∷ []) → IsPrefixOf journal rows
-  prefix_before rows row prefix = record { more = row ∷ prefix.more; is = prefix.is ∙ append_assoc rows (row ∷ []) prefix.more }
+  prefix_before rows row prefix = record { more = row ∷ prefix.more; fact = prefix.fact ∙ append_assoc rows (row ∷ []) prefix.more }
 
   pub asks_none : (quiet : Rows) → IsPrefixOf journal quiet → RestsSo quiet → AsksSo quiet []
   asks_none quiet prefix r = record {
@@ -116,13 +116,13 @@ module _ (laws : SegmentLaws) (words : ℕ → ℕ → ℕ × ℕ) (scenario : S
   event_of row = row.event
 
   -- what the row of an order gives
-  module _ (quiet : Rows) (row : Row Mail OrderLine) (prefix : IsPrefixOf journal (quiet ++ row ∷ [])) (timely : AreInTime s (quiet ++ row ∷ [])) (r : RestsSo quiet) (seat : Seat Player) (line : OrderLine) (is : row ≡ row_of player_table seat quiet (Told line)) (seated : IsSeat all seat) where
+  module _ (quiet : Rows) (row : Row Mail OrderLine) (prefix : IsPrefixOf journal (quiet ++ row ∷ [])) (timely : AreInTime s (quiet ++ row ∷ [])) (r : RestsSo quiet) (seat : Seat Player) (line : OrderLine) (fact : row ≡ row_of player_table seat quiet (Told line)) (seated : IsSeat all seat) where
     abbrev told_all : IsOrderedSince words scenario first journal quiet (with_event quiet seat (Told line)) × StageAfter all quiet seat (Told line) Still × ((far_ sent : ℕ) → FindsCalm (chart_at far_ sent s quiet) all quiet seat (Told line))
     told_all =
-        laws.told_law words scenario first journal quiet seat line frame.calm r.rests r.home seated (subst (λ x. IsPrefixOf journal (quiet ++ x ∷ [])) is prefix) (subst (λ x. AreInTime s (quiet ++ x ∷ [])) is timely)
+        laws.told_law words scenario first journal quiet seat line frame.calm r.rests r.home seated (subst (λ x. IsPrefixOf journal (quiet ++ x ∷ [])) fact prefix) (subst (λ x. AreInTime s (quiet ++ x ∷ [])) fact timely)
 
     pub row_of_entry : OrdersSo quiet (row ∷ [])
-    row_of_entry = subst (λ x. OrdersSo quiet (x ∷ [])) (sym is) told_all.0
+    row_of_entry = subst (λ x. OrdersSo quiet (x ∷ [])) (sym fact) told_all.0
 
     pub told_finds : FindsCalm (chart_at far sends s quiet) all quiet seat (Told line)
     told_finds = told_all.2 far sends
@@ -131,16 +131,16 @@ module _ (laws : SegmentLaws) (words : ℕ → ℕ → ℕ × ℕ) (scenario : S
     told_stage = told_all.1
 
   -- what a delivery does while an order is under way
-  module _ (quiet rows : Rows) (row : Row Mail OrderLine) (prefix : IsPrefixOf journal (rows ++ row ∷ [])) (timely : AreInTime s (rows ++ row ∷ [])) (o : IsOrderedSince words scenario first journal quiet rows) (seat : Seat Player) (number : ℕ) (is : row ≡ row_of player_table seat rows (Deliver number)) (seated : IsSeat all seat) where
+  module _ (quiet rows : Rows) (row : Row Mail OrderLine) (prefix : IsPrefixOf journal (rows ++ row ∷ [])) (timely : AreInTime s (rows ++ row ∷ [])) (o : IsOrderedSince words scenario first journal quiet rows) (seat : Seat Player) (number : ℕ) (fact : row ≡ row_of player_table seat rows (Deliver number)) (seated : IsSeat all seat) where
     goes_by : ContinuesBy words scenario journal rows seat number
-    goes_by = record { prefix = subst (λ x. IsPrefixOf journal (rows ++ x ∷ [])) is prefix; seated = seated; timely = subst (λ x. AreInTime s (rows ++ x ∷ [])) is timely }
+    goes_by = record { prefix = subst (λ x. IsPrefixOf journal (rows ++ x ∷ [])) fact prefix; seated = seated; timely = subst (λ x. AreInTime s (rows ++ x ∷ [])) fact timely }
 
     abbrev delivered_all : IsOrderedSince words scenario first journal quiet (with_event rows seat (Deliver number)) × StageAfter all rows seat (Deliver number) o.under.stage
         × ((far_ sent : ℕ) → quiet_prefix s rows ≡ quiet → DoHintsRise (replicas_after scenario quiet) (chart_at far_ sent s rows).ways → FindsCalm (chart_at far_ sent s rows) all rows seat (Deliver number))
     delivered_all = laws.keep_law words scenario first journal quiet rows seat number frame.calm o goes_by
 
     pub delivered_row : IsOrderedSince words scenario first journal quiet (rows ++ row ∷ [])
-    delivered_row = subst (λ x. IsOrderedSince words scenario first journal quiet (rows ++ x ∷ [])) (sym is) delivered_all.0
+    delivered_row = subst (λ x. IsOrderedSince words scenario first journal quiet (rows ++ x ∷ [])) (sym fact) delivered_all.0
 
     pub delivered_stage : StageAfter all rows seat (Deliver number) o.under.stage
     delivered_stage = delivered_all.1
@@ -158,11 +158,11 @@ module _ (laws : SegmentLaws) (words : ℕ → ℕ → ℕ × ℕ) (scenario : S
         let c = (last_in_time s quiet row timely).0 in
         let t = told_line c.event (ap is_told (sym (ap event_of c.row_is)) ∙ told) in
         row_of_entry quiet row prefix timely r c.seat t.0 (c.row_is ∙ ap (row_of player_table c.seat quiet) t.1) c.born);
-    orders = λ quiet rows row number prefix timely r o is. (
+    orders = λ quiet rows row number prefix timely r o fact. (
         let shift = append_assoc quiet rows (row ∷ []) in
         let timely_row = subst (AreInTime s) (sym shift) timely in
         let c = (last_in_time s (quiet ++ rows) row timely_row).0 in
-        let event : c.event ≡ Deliver number = sym (ap event_of c.row_is) ∙ is in
+        let event : c.event ≡ Deliver number = sym (ap event_of c.row_is) ∙ fact in
         subst (λ l. IsOrderedSince words scenario first journal quiet l) shift
         (delivered_row quiet (quiet ++ rows) row (subst (IsPrefixOf journal) (sym shift) prefix) timely_row o c.seat number (c.row_is ∙ ap (row_of player_table c.seat (quiet ++ rows)) event) c.born));
     answered = λ quiet rows prefix timely r a still. record {

@@ -15,7 +15,7 @@ use Rattle.sc_live_steps.specs.calm.Definitions.{Chart, players, MayFollow, Find
 use Rattle.sc_live_journals.specs.rows.Definitions.{IsSeat}
 use Rattle.sc_live_journals.specs.mail.Definitions.{ReplicasLast}
 use Rattle.sc_live_steps.specs.orders.Definitions.{Stage, Still, IsAt}
-use Rattle.sc_live_steps.proofs.OrdersProofs.Lemmas.{among-left, among-right}
+use Rattle.sc_live_steps.proofs.OrderStepsProofs.Lemmas.{among-left, among-right}
 use Rattle.sc_live_plain.specs.Definitions.{Setting, IsAsideBody, IsCalmMail, Requests, IsPlainBody, DoHintsRise, replicas_after}
 use Rattle.sc_live_journals.specs.scenes.Definitions.{StageAfter, scene_at}
 use Rattle.sc_live_journals.proofs.ScenesProofs.Lemmas.{calm_is}
@@ -31,8 +31,8 @@ use Rattle.sc_live_answers.proofs.AnswersProofs.ChartSequence.{split_among}
 
 -- a player that rests waits for nothing
 waits_none : (player : Player) → IsResting player → WaitsForNone player
-waits_none (Node node) is = tt
-waits_none (Client client) is = is
+waits_none (Node node) fact = tt
+waits_none (Client client) fact = fact
 
 -- mail that is under way is what its receiver has not taken
 pub with_other : (test other : Mail → Bool) (sent : List Mail) (counts : List ℕ) (mail : Mail) → Among mail (mail_with test sent counts) → (test mail ≡ true) × (other mail ≡ true → Among mail (mail_with other sent counts))
@@ -107,7 +107,7 @@ module _ (segment : SegmentLaws) (laws : RowLaws) (words : ℕ → ℕ → ℕ �
 
   none_waits : (rows : Rows) → IsPrefixOf journal rows → AreInTime s rows → is_quiet s rows ≡ true → Each (λ other. WaitsForNone (value player_table other rows)) all
   none_waits rows prefix timely quiet =
-      Each-weaker (λ other. IsResting (value player_table other rows)) (λ other. WaitsForNone (value player_table other rows)) (λ other is. waits_none (value player_table other rows) is) all
+      Each-weaker (λ other. IsResting (value player_table other rows)) (λ other. WaitsForNone (value player_table other rows)) (λ other fact. waits_none (value player_table other rows) fact) all
       (all_rest laws.all_bounded laws.found_law laws.once_law laws.agree_law laws.last_law laws.rest_law words scenario first others journal rows frame.groups frame.calm timely (quiet_rests rows prefix timely quiet).rests)
 
   -- all groups of a prefix are well led
@@ -115,7 +115,7 @@ module _ (segment : SegmentLaws) (laws : RowLaws) (words : ℕ → ℕ → ℕ �
   sent_at rows prefix timely = by (segment_of rows prefix timely)
     where
       by : IsSegment s Rests Asks Orders rows → AreSent words scenario journal rows
-      by seg = elim seg.is [
+      by seg = elim seg.fact [
         | inl none ↦ subst (AreSent words scenario journal) (sym (seg.rows_are ∙ (ap (λ b. quiet_prefix s rows ++ b) none ∙ append-nil (quiet_prefix s rows)))) seg.rests.rests.sent
         | inr behind ↦ elim behind [
           | inl asks ↦ subst (AreSent words scenario journal) (sym seg.rows_are) asks.asked.sent
@@ -131,7 +131,7 @@ module _ (segment : SegmentLaws) (laws : RowLaws) (words : ℕ → ℕ → ℕ �
   hints_rise quiet later rests last =
       let found = laws.found_law words scenario journal quiet frame.calm rests.prefix in
       (laws.rise_law words scenario first others journal quiet later far sends (frames_after scenario quiet) frame.calm.valid frame.groups found.lawful rests found.homes last (frame.few quiet rests.prefix).0
-      (laws.frames_law words scenario first quiet frame.calm.valid found.lawful rests.is found.homes)).0
+      (laws.frames_law words scenario first quiet frame.calm.valid found.lawful rests.fact found.homes)).0
 
   -- ---- a row
 
@@ -140,7 +140,7 @@ module _ (segment : SegmentLaws) (laws : RowLaws) (words : ℕ → ℕ → ℕ �
     before = in_time_before s rows row timely
 
     here : IsPrefixOf journal rows
-    here = record { more = row ∷ prefix.more; is = prefix.is ∙ append_assoc rows (row ∷ []) prefix.more }
+    here = record { more = row ∷ prefix.more; fact = prefix.fact ∙ append_assoc rows (row ∷ []) prefix.more }
 
     seg : IsSegment s Rests Asks Orders rows
     seg = segment_of rows here before
@@ -167,7 +167,7 @@ module _ (segment : SegmentLaws) (laws : RowLaws) (words : ℕ → ℕ → ℕ �
       order : IsOrdered s Rests Asks Orders (quiet_prefix s rows) behind
 
     cases : HasAsked ⊎ HasOrdered
-    cases = elim seg.is [
+    cases = elim seg.fact [
       | inl none ↦ inl (record { behind = []; rows_are = seg.rows_are ∙ ap (λ b. quiet_prefix s rows ++ b) none; asks = parts_of.asks_none segment words scenario first others far sends journal frame (quiet_prefix s rows) seg.rests.rests.prefix seg.rests })
       | inr some ↦ elim some [ inl asks ↦ inl (record { behind = seg.behind; rows_are = seg.rows_are; asks = asks }) | inr order ↦ inr (record { behind = seg.behind; rows_are = seg.rows_are; order = order }) ]
     ]
@@ -188,27 +188,27 @@ module _ (segment : SegmentLaws) (laws : RowLaws) (words : ℕ → ℕ → ℕ �
         (λ last o. parts_of.asks_find segment words scenario first others far sends journal frame (quiet_prefix s rows) h.behind last seg.rests h.asks seat event seated o) refl order
 
     calm_event : (seat : Seat Player) (event : Event OrderLine) → row ≡ row_of player_table seat rows event → IsCalmEvent s rows seat.who event
-    calm_event seat event is = calm_is words all rows seat event (subst (IsCalmRow s rows) is comes.0)
+    calm_event seat event fact = calm_is words all rows seat event (subst (IsCalmRow s rows) fact comes.0)
 
     order_finds : (h : HasOrdered) (seat : Seat Player) (number : ℕ) → IsSeat all seat → row ≡ row_of player_table seat rows (Deliver number) → FindsCalm (chart rows) all rows seat (Deliver number)
-    order_finds h seat number seated is =
-        parts_of.delivered_finds segment words scenario first others far sends journal frame (quiet_prefix s rows) rows row prefix timely (order_at h) seat number is seated refl (hints_rise (quiet_prefix s rows) rows seg.rests.rests refl)
+    order_finds h seat number seated fact =
+        parts_of.delivered_finds segment words scenario first others far sends journal frame (quiet_prefix s rows) rows row prefix timely (order_at h) seat number fact seated refl (hints_rise (quiet_prefix s rows) rows seg.rests.rests refl)
 
     told_rests : (line : OrderLine) → row.event ≡ Told line → Rests rows
-    told_rests line is = quiet_rests rows here before (subst (ComesInTime s rows) is comes.1)
+    told_rests line fact = quiet_rests rows here before (subst (ComesInTime s rows) fact comes.1)
 
     finds : (seat : Seat Player) (event : Event OrderLine) → IsSeat all seat → row ≡ row_of player_table seat rows event → FindsCalm (chart rows) all rows seat event
-    finds seat (Told line) seated is = parts_of.told_finds segment words scenario first others far sends journal frame rows row prefix timely (told_rests line (ap event_of is)) seat line is seated
-    finds seat (Deliver number) seated is = elim cases [
-      | inl asked ↦ asked_finds asked seat (Deliver number) seated (calm_event seat (Deliver number) is)
-      | inr order ↦ order_finds order seat number seated is
+    finds seat (Told line) seated fact = parts_of.told_finds segment words scenario first others far sends journal frame rows row prefix timely (told_rests line (ap event_of fact)) seat line fact seated
+    finds seat (Deliver number) seated fact = elim cases [
+      | inl asked ↦ asked_finds asked seat (Deliver number) seated (calm_event seat (Deliver number) fact)
+      | inr order ↦ order_finds order seat number seated fact
     ]
-    finds seat Go seated is = elim cases [
-      | inl asked ↦ asked_finds asked seat Go seated (calm_event seat Go is)
-      | inr order ↦ (let d = only_delivers order (ap is_told (ap event_of is)) in let bad : Go ≡ Deliver d.0 = sym (ap event_of is) ∙ d.1 in cc)
+    finds seat Go seated fact = elim cases [
+      | inl asked ↦ asked_finds asked seat Go seated (calm_event seat Go fact)
+      | inr order ↦ (let d = only_delivers order (ap is_told (ap event_of fact)) in let bad : Go ≡ Deliver d.0 = sym (ap event_of fact) ∙ d.1 in cc)
     ]
-    finds seat Tick seated is = tt
-    finds seat _ seated is = tt
+    finds seat Tick seated fact = tt
+    finds seat _ seated fact = tt
 
     -- ---- the chart after it
 
@@ -231,31 +231,31 @@ module _ (segment : SegmentLaws) (laws : RowLaws) (words : ℕ → ℕ → ℕ �
 
     -- by a row of an order
     staged : (seat : Seat Player) (event : Event OrderLine) (stage : Stage) → row ≡ row_of player_table seat rows event → IsAt stage (scene_at all rows) → StageAfter all rows seat event stage → MayFollow s (rows ++ row ∷ []) (chart rows) (chart (rows ++ row ∷ []))
-    staged seat event stage is stands after =
-        subst (λ x. MayFollow s (rows ++ x ∷ []) (chart rows) (chart (rows ++ x ∷ []))) (sym is)
-        (laws.order_law words scenario rows far sends seat event stage (subst (λ x. AreInTime s (rows ++ x ∷ [])) is timely) stands after (lone_at rows here before) (subst (λ x. AllLeadAlone all (rows ++ x ∷ [])) is (lone_at (rows ++ row ∷ []) prefix timely))
-        (subst (λ x. is_quiet s (rows ++ x ∷ []) ≡ true → Each (λ other. WaitsForNone (value player_table other (rows ++ x ∷ []))) all) is waits_after))
+    staged seat event stage fact stands after =
+        subst (λ x. MayFollow s (rows ++ x ∷ []) (chart rows) (chart (rows ++ x ∷ []))) (sym fact)
+        (laws.order_law words scenario rows far sends seat event stage (subst (λ x. AreInTime s (rows ++ x ∷ [])) fact timely) stands after (lone_at rows here before) (subst (λ x. AllLeadAlone all (rows ++ x ∷ [])) fact (lone_at (rows ++ row ∷ []) prefix timely))
+        (subst (λ x. is_quiet s (rows ++ x ∷ []) ≡ true → Each (λ other. WaitsForNone (value player_table other (rows ++ x ∷ []))) all) fact waits_after))
 
     follows_by : (event : Event OrderLine) → row.event ≡ event → MayFollow s (rows ++ row ∷ []) (chart rows) (chart (rows ++ row ∷ []))
     follows_by event e = elim (cases_Bool (is_told row.event)) [
       | inl told ↦ (
           let t = told_line row.event told in
-          let is : row ≡ row_of player_table comes.0.seat rows (Told t.0) = comes.0.row_is ∙ ap (row_of player_table comes.0.seat rows) (sym (ap event_of comes.0.row_is) ∙ t.1) in
+          let fact : row ≡ row_of player_table comes.0.seat rows (Told t.0) = comes.0.row_is ∙ ap (row_of player_table comes.0.seat rows) (sym (ap event_of comes.0.row_is) ∙ t.1) in
           let r = told_rests t.0 t.1 in
-          staged comes.0.seat (Told t.0) Still is r.rests.still (parts_of.told_stage segment words scenario first others far sends journal frame rows row prefix timely r comes.0.seat t.0 is comes.0.born))
+          staged comes.0.seat (Told t.0) Still fact r.rests.still (parts_of.told_stage segment words scenario first others far sends journal frame rows row prefix timely r comes.0.seat t.0 fact comes.0.born))
       | inr untold ↦ elim cases [
         | inl asked ↦ asked_follows asked untold
         | inr order ↦ (
             let d = only_delivers order untold in
-            let is : row ≡ row_of player_table comes.0.seat rows (Deliver d.0) = comes.0.row_is ∙ ap (row_of player_table comes.0.seat rows) (sym (ap event_of comes.0.row_is) ∙ d.1) in
+            let fact : row ≡ row_of player_table comes.0.seat rows (Deliver d.0) = comes.0.row_is ∙ ap (row_of player_table comes.0.seat rows) (sym (ap event_of comes.0.row_is) ∙ d.1) in
             let o = order_at order in
-            staged comes.0.seat (Deliver d.0) o.under.stage is o.under.untouched.stands (parts_of.delivered_stage segment words scenario first others far sends journal frame (quiet_prefix s rows) rows row prefix timely o comes.0.seat d.0 is comes.0.born))
+            staged comes.0.seat (Deliver d.0) o.under.stage fact o.under.untouched.stands (parts_of.delivered_stage segment words scenario first others far sends journal frame (quiet_prefix s rows) rows row prefix timely o comes.0.seat d.0 fact comes.0.born))
       ]
     ]
 
     pub keeps : KeepsCalm s (chart_at far sends s) rows row
     keeps = record {
       bounded = λ group node. way_low far _ _;
-      finds = λ seat event seated is. finds seat event seated is;
+      finds = λ seat event seated fact. finds seat event seated fact;
       follows = follows_by row.event refl;
     }

@@ -76,7 +76,7 @@ module _ (s : System Player Mail OrderLine) where
       pub behind : Rows
       pub rows_are : rows ≡ quiet_prefix s rows ++ behind
       pub rests : Rests (quiet_prefix s rows)
-      pub is : IsBehind (quiet_prefix s rows) behind
+      pub fact : IsBehind (quiet_prefix s rows) behind
 
     module _ (Fits : Rows → Type 0) (parts : Parts Fits Rests Asks Orders) where
       -- a quiet journal that rests, with nothing behind it
@@ -85,7 +85,7 @@ module _ (s : System Player Mail OrderLine) where
         behind = [];
         rows_are = sym (append-nil (quiet_prefix s rows) ∙ prefix_whole rows quiet);
         rests = subst Rests (sym (prefix_whole rows quiet)) rests;
-        is = inl refl;
+        fact = inl refl;
       }
 
       module _ (rows : Rows) (row : Row Mail OrderLine) (fits : Fits (rows ++ row ∷ [])) (timely : AreInTime s (rows ++ row ∷ [])) where
@@ -101,7 +101,7 @@ module _ (s : System Player Mail OrderLine) where
                 behind = behind ++ row ∷ [];
                 rows_are = whole ∙ ap (λ q. q ++ (behind ++ row ∷ [])) (sym there);
                 rests = subst Rests (sym there) rests;
-                is = subst (λ q. IsBehind q (behind ++ row ∷ [])) (sym there) (inr holds);
+                fact = subst (λ q. IsBehind q (behind ++ row ∷ [])) (sym there) (inr holds);
               })
         ]
           where
@@ -130,7 +130,7 @@ module _ (s : System Player Mail OrderLine) where
             ap (take (length clear.before)) clear.rows_are ∙ (take-append-le (length clear.before) clear.before clear.after (omega arith) ∙ take_all (length clear.before) clear.before (omega arith)) in
             let least = quiet_longest rows (length clear.before) (length rows) n_low (ap (is_quiet s) prefix_is ∙ clear.quiet) in
             let size = length-take (quiet_upto s rows (length rows)) rows in
-            let most = upto_low s rows row (length rows) in
+            let most = upto_low s rows (length rows) in
             let same = ap length prefix in
             let low : length clear.before ≤ length quiet = omega (arith, least, size, most, same) in
             let untold = stands_behind (λ (r : Row Mail OrderLine). is_told r.event ≡ false) clear.before clear.after quiet order.first order.more (sym clear.rows_are ∙ (e ∙ ap (λ b. quiet ++ b) order.behind_are)) low clear.untold in
@@ -171,7 +171,7 @@ module _ (s : System Player Mail OrderLine) where
               let whole = prefix_whole rows quiet in
               let rests = subst Rests whole seg.rests in
               goes_on rows [] (sym (append-nil rows)) whole rests (inr (record { first = row; more = []; behind_are = refl; tells = told; holds = parts.told rows row fits timely rests told })))
-          | inr untold ↦ untold_row (quiet_prefix s rows) seg.behind seg.rows_are refl seg.rests untold seg.is
+          | inr untold ↦ untold_row (quiet_prefix s rows) seg.behind seg.rows_are refl seg.rests untold seg.fact
         ]
 
       -- so all rows in time that fit are such segments

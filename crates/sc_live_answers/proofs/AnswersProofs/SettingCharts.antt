@@ -1,16 +1,17 @@
 -- The chart of some rows counts as the setting does that the last quiet journal before them gives.
-use Rattle.std.proofs.Common.{◌≡◌, ℕ, zero, suc, ◌+◌, ◌≤◌, cond, true, false, true≢false, Bool, List, ◌∷◌, ◌-◌, length, take, min, Option, Some, None, inl, inr, refl, sym, ◌∙◌, ap, subst, arith}
+use Rattle.std.proofs.Common.{◌≡◌, ℕ, zero, suc, ◌+◌, ◌≤◌, cond, true, false, true≢false, Bool, List, ◌∷◌, ◌-◌, length, min, Option, Some, None, inl, inr, refl, sym, ◌∙◌, ap, subst, arith}
 use Rattle.std.specs.Prelude.{filter, is_some, ◌||◌, not}
 use Rattle.std.proofs.lemmas.List.{take_all}
 use Rattle.sc_base.specs.Definitions.{Among, Each}
 use Rattle.sc_node_table.specs.Values.{Draw, Base, Route, OrderLine, Mail, Seat, Row}
-use Rattle.sc_actor.specs.Definitions.{value, is_quiet}
+use Rattle.sc_actor.specs.Definitions.{value}
 use Rattle.sc_node_table.specs.Definitions.{replica_of, ReplicaState, name_of}
 use Rattle.sc_words.proofs.PaxosProofs.Lemmas.{Among-filter, Each-among, Each-from, Each-passes}
 use Rattle.sc_scenario.specs.declared.scenario.scenarios.Scenario.{Scenario}
 use Rattle.sc_scenario.specs.scenario.Definitions.{IsValid, ValidScenariosAreBounded}
 use Rattle.sc_meaning.specs.sound.Definitions.{Player, player_table, node_seat, as_nodes, births, Lawful}
 use Rattle.sc_live_steps.specs.calm.Definitions.{players, HasReplica, StandsQuiet, leads, is_leading, is_led}
+use Rattle.sc_live_journals.proofs.ChartsProofs.Lemmas.{upto_low}
 use Rattle.sc_live_journals.specs.charts.Definitions.{all_replicas, went_in, ends_by, way_by, names_at, chart_at, reach_in, GoInTurn, EndsFall, LedStandOnce, quiet_upto, quiet_prefix}
 use Rattle.sc_live_journals.proofs.ChartsProofs.Lemmas.{led_by}
 use Rattle.sc_live_plain.specs.Definitions.{replicas_after, setting_at, AreFramesOf, IsQuietJournal, replicas_of, HasGoneTo, Frame}
@@ -87,14 +88,6 @@ module _ (all_bounded : ValidScenariosAreBounded) (named : LawfulReplicasAreName
     | inr g ↦ led_at group g.last.me g.last g.newest.is_there (gone_leads g.last.running g.last.group.core.gone g.into g.went)
   ]
 
-  upto_low : (n : ℕ) → quiet_upto (players words seats) later n ≤ n
-  upto_low zero = omega arith
-  upto_low (suc n) = by (is_quiet (players words seats) (take (suc n) later)) (upto_low n)
-    where
-      by : (b : Bool) → quiet_upto (players words seats) later n ≤ n → cond b (suc n) (quiet_upto (players words seats) later n) ≤ suc n
-      by true le = omega arith
-      by false le = omega (arith, le)
-
   -- ---- how far groups are
 
   frame_named : (frame : Frame) → Among frame frames → (group : Draw) × (q : StandsQuiet at group) × (frame.core.id ≡ group)
@@ -116,7 +109,7 @@ module _ (all_bounded : ValidScenariosAreBounded) (named : LawfulReplicasAreName
   counts = record {
     bounded = λ group node. way_low far _ _;
     far = λ group node. refl;
-    named = λ group node home. led_once seats later (quiet_upto (players words seats) later (length later)) group (upto_low (length later)) (subst (λ q. is_led seats q group ≡ true) (sym prefix) (led group node (home.r, home.is_there)));
+    named = λ group node home. led_once seats later (quiet_upto (players words seats) later (length later)) group (upto_low (players words seats) later (length later)) (subst (λ q. is_led seats q group ≡ true) (sym prefix) (led group node (home.r, home.is_there)));
     stand = λ frame a. subst (λ q. Among frame.core.id (reach_in sent (names_at seats q) (all_replicas seats q)).stands × ((reach_in sent (names_at seats q) (all_replicas seats q)).ends frame.core.id ≡ 0)) (sym prefix)
         (let f = frame_named frame a in
         let none = ap (λ n. went_in n all) f.2 ∙ stands_none f.0 f.1 in

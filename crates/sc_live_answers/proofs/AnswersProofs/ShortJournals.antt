@@ -23,7 +23,7 @@ use Rattle.sc_live_plain.specs.Definitions.{delivers, gives_order, orders_of, ca
 use Rattle.sc_live_plain.proofs.Lemmas.{few_clients}
 use Rattle.sc_live_answers.specs.Definitions.{CalmJournalsAreShort}
 use Rattle.sc_live_answers.proofs.AnswersProofs.LineEnds.{orders_same}
-use Rattle.sc_live_steps.proofs.CalmProofs.Lemmas.{count_numbers}
+use Rattle.sc_live_steps.proofs.CalmStepsProofs.Lemmas.{count_numbers}
 
 -- ---- an order, and a line of deliveries behind it
 
@@ -48,18 +48,18 @@ found_order (one ∷ lines) some = elim (cases_Bool (gives_order one)) [
 
 -- such a line delivers a million times at most
 line_low : (budget nodes : ℕ) (clients : List Asks) (line : SchedLine) → delivers line ≡ true → AllowsCalmly budget line → IsBoundedLine nodes clients line → budget ≤ most_deliveries
-line_low budget nodes clients (Settle most) is allows bounded = (let high = bounded.1 in omega (arith, allows, high))
-line_low budget nodes clients (Free most workers) is allows bounded = (let high = bounded.0.1 in omega (arith, allows, high))
-line_low budget nodes clients (Go client) is allows bounded = absurd (true≢false (sym is))
-line_low budget nodes clients (Told node order) is allows bounded = absurd (true≢false (sym is))
-line_low budget nodes clients (Deliver who k) is allows bounded = absurd (true≢false (sym is))
-line_low budget nodes clients _ is allows bounded = absurd allows
+line_low budget nodes clients (Settle most) fact allows bounded = (let high = bounded.1 in omega (arith, allows, high))
+line_low budget nodes clients (Free most workers) fact allows bounded = (let high = bounded.0.1 in omega (arith, allows, high))
+line_low budget nodes clients (Go client) fact allows bounded = absurd (true≢false (sym fact))
+line_low budget nodes clients (Told node order) fact allows bounded = absurd (true≢false (sym fact))
+line_low budget nodes clients (Deliver who k) fact allows bounded = absurd (true≢false (sym fact))
+line_low budget nodes clients _ fact allows bounded = absurd allows
 
 -- so the budget is no more, where one of these delivers
 lines_low : (budget nodes : ℕ) (clients : List Asks) (lines : List SchedLine) → Each (AllowsCalmly budget) lines → Each (IsBoundedLine nodes clients) lines → list_any delivers lines ≡ true → budget ≤ most_deliveries
 lines_low budget nodes clients [] allows bounded some = absurd (true≢false (sym some))
 lines_low budget nodes clients (line ∷ lines) allows bounded some = elim (cases_Bool (delivers line)) [
-  | inl is ↦ line_low budget nodes clients line is allows.0 bounded.0
+  | inl fact ↦ line_low budget nodes clients line fact allows.0 bounded.0
   | inr none ↦ lines_low budget nodes clients lines allows.1 bounded.1 (sym (ap (λ b. b || list_any delivers lines) none) ∙ some)
 ]
 

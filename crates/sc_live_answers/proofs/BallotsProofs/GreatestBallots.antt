@@ -53,7 +53,7 @@ stays_or_may r low = by_gone r.group.core.gone refl
     by_hint : (b c : Bool) → is_among (members r) r.hint ≡ b → eqb (least_of (members r)) r.me ≡ c → r.group.core.gone ≡ None → Stays r ⊎ MayElect r
     by_hint true c hinted least stands = inl (inl hinted)
     by_hint false true hinted least stands = inr (record { stands = stands; hint = hinted; least = eqb-true (least_of (members r)) r.me least; round = low })
-    by_hint false false hinted least stands = inl (inr (inl (λ is. true≢false (sym (eq-eqb (least_of (members r)) r.me is) ∙ least))))
+    by_hint false false hinted least stands = inl (inr (inl (λ fact. true≢false (sym (eq-eqb (least_of (members r)) r.me fact) ∙ least))))
 
     by_gone : (gone : Option Route) → r.group.core.gone ≡ gone → Stays r ⊎ MayElect r
     by_gone (Some into) e = inl (inr (inr (into, e)))

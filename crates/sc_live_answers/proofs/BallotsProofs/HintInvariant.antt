@@ -10,7 +10,7 @@ use Rattle.sc_scenario.specs.declared.scenario.scenarios.Scenario.{Scenario}
 use Rattle.sc_node_table.specs.Definitions.{ReplicaState, Place, listed, next, mailed, made_by}
 use Rattle.sc_meaning.specs.sound.Definitions.{Player, player_table, births, as_nodes}
 use Rattle.sc_live_steps.specs.calm.Definitions.{players, Rows}
-use Rattle.sc_live_steps.specs.following.Definitions.{Mark, Asks, Votes, Tells, Installs, Prepares, Promises, mark_of, pledged, Course, Progress, Sets, members_at, IsOpen, Tellers, hint_by, AreHeeded, GoesBy, AreLearntLast, IsRow, marks_for, next_ballot}
+use Rattle.sc_live_steps.specs.following.Definitions.{Mark, Asks, Votes, Teaches, Installs, Prepares, Promises, mark_of, pledged, Course, Progress, Sets, members_at, IsOpen, SlotLeaders, hint_by, AreHeeded, GoesBy, AreLearntLast, IsRow, marks_for, next_ballot}
 use Rattle.sc_live_steps.proofs.FollowingProofs.Lemmas.{tables_elect, least_in, hints_follow}
 use Rattle.sc_live_journals.specs.rows.Definitions.{view_at, marks_at, mark_in, taken_mark, promise_in, progress_at, led_course, elected_course, IsSeat, with_event, IsReplicasRow}
 use Rattle.sc_live_journals.proofs.RowsProofs.Lemmas.{entered_name, rows_are, view_others}
@@ -22,25 +22,25 @@ use Rattle.sc_live_answers.proofs.BallotsProofs.PrepareSlotRows.{turn, leader_la
 use Rattle.sc_live_answers.proofs.BallotsProofs.GreatestBallots.{told_idly}
 use Rattle.sc_live_answers.proofs.ReplicasProofs.PlayerEvents.{IsTurn, TurnRests, TurnCreates, TurnTakes, TurnMakes, TurnTold}
 use Rattle.sc_live_answers.specs.Definitions.{AreFated}
-use Rattle.sc_live_answers.proofs.MailProofs.FormerMembers.{idle_fates, takes_fates, leads_fates, elects_fates}
+use Rattle.sc_live_answers.proofs.LedMailProofs.FormerMembers.{idle_fates, takes_fates, leads_fates, elects_fates}
 use Rattle.sc_live_answers.proofs.BallotsProofs.RowHints.{told_fit, own_body, none_flies, told_or, takes_by}
-use Rattle.sc_live_answers.proofs.BallotsProofs.Lists.{round_most, member_open}
+use Rattle.sc_live_answers.proofs.BallotsProofs.MarkLists.{round_most, member_open}
 use Rattle.sc_live_answers.proofs.BallotsProofs.SeenBallotBounds.{topped}
 use Rattle.std.proofs.lemmas.Option.{same_Some, none-some}
 
 -- the mark of an entry
 module _ (name : Draw) (slot : ℕ) where
-  same_one : (b : Bool) (mark : Mark) → cond b (Some mark) None ≡ Some (Tells slot) → (b ≡ true) × (mark ≡ Tells slot)
+  same_one : (b : Bool) (mark : Mark) → cond b (Some mark) None ≡ Some (Teaches slot) → (b ≡ true) × (mark ≡ Teaches slot)
   same_one true mark e = (refl, cc)
   same_one false mark e = cc
 
   abbrev IsEntry : MailBody → Type 0
   IsEntry body = (command : Command) × (body ≡ Learn name slot command)
 
-  entry_of : (from : ℕ) (body : MailBody) → mark_of name from body ≡ Some (Tells slot) → IsEntry body
+  entry_of : (from : ℕ) (body : MailBody) → mark_of name from body ≡ Some (Teaches slot) → IsEntry body
   entry_of from (Learn g at command) e =
-      let o = same_one (same_draw g name) (Tells at) e in
-      let there : at ≡ slot = (let f : Tells at ≡ Tells slot = o.1 in cc) in
+      let o = same_one (same_draw g name) (Teaches at) e in
+      let there : at ≡ slot = (let f : Teaches at ≡ Teaches slot = o.1 in cc) in
       (command, ap (λ n. Learn n at command) (draw_is g name o.0) ∙ ap (λ n. Learn name n command) there)
   entry_of from (Accept g ballot at command) e = (let f = (same_one (same_draw g name) (Asks ballot at) e).1 in cc)
   entry_of from (Accepted g ballot at) e = (let f = (same_one (same_draw g name) (Votes from ballot at) e).1 in cc)
@@ -49,7 +49,7 @@ module _ (name : Draw) (slot : ℕ) where
   entry_of from (Promise g ballot reports) e = (let f = (same_one (same_draw g name) (Promises from ballot) e).1 in cc)
   entry_of from _ e = cc
 
-module _ (words : ℕ → ℕ → ℕ × ℕ) (at : Sets) (over : Ends) (by : Tellers) (scenario : Scenario) (rows : Rows) (seat : Seat Player) (event : Event OrderLine) (base : Base) (course : Course) (idle : JournalsKeepIdle) (wb : AreWellBorn (births as_nodes scenario))
+module _ (words : ℕ → ℕ → ℕ × ℕ) (at : Sets) (over : Ends) (by : SlotLeaders) (scenario : Scenario) (rows : Rows) (seat : Seat Player) (event : Event OrderLine) (base : Base) (course : Course) (idle : JournalsKeepIdle) (wb : AreWellBorn (births as_nodes scenario))
     (one : HasOneLog at over by (births as_nodes scenario) (with_event rows seat event) base) (so : IsSentSo (births as_nodes scenario) (with_event rows seat event) base) (timely : AreInTime (players words (births as_nodes scenario)) (with_event rows seat event))
     (born : IsSeat (births as_nodes scenario) seat) (calm : IsCalmEvent (players words (births as_nodes scenario)) rows seat.who event) (was : IsWellLed at over by words (births as_nodes scenario) rows base course) where
   abbrev all : List (Seat Player)
@@ -87,11 +87,11 @@ module _ (words : ℕ → ℕ → ℕ × ℕ) (at : Sets) (over : Ends) (by : Te
   module _ (from slot : ℕ) (state : Base) (sets : List (List ℕ)) (row_ : IsReplicasRow all rows seat event base.core.id None (made_by seat.who from base.core.id slot state sets)) (took : taken_mark base.core.id (mails rows) event ≡ Some (Installs slot)) (logs : IsLogsState at by base slot from state sets) where
     makes_by : GoesBy at by now (progress_at all (with_event rows seat event) base course) seat.who (taken_mark name (mails rows) event) (hints_at all rows base seat.who) (hints_at all (with_event rows seat event) base seat.who)
     makes_by m e other =
-        let is : Installs slot ≡ m = same_Some (Installs slot) m (sym took ∙ e) in
+        let fact : Installs slot ≡ m = same_Some (Installs slot) m (sym took ∙ e) in
         let first : marks seat.who ≡ Installs slot ∷ (row_in course).left = (row_in course).takes ∙ ap (λ o. listed o ++ (row_in course).left) took in
         let member : is_member state.core.members (by slot) ≡ true = ap (λ ms. is_member ms (by slot)) (sym logs.members_are) ∙ (subst (AreHeeded at by course seat.who (now.promise seat.who) (hints_at all rows base seat.who)) first (was.heeded.heeds seat.who other)).0 in
-        inl (ap (hint_in base) row_.is ∙ (ap (λ n. (made_by seat.who n base.core.id slot state sets).0.hint) logs.slot_leader
-        ∙ (hints_follow.made at by (now.promise seat.who) (hints_at all rows base seat.who) seat.who base.core.id slot state sets member ∙ ap (hint_by at by (now.promise seat.who) (hints_at all rows base seat.who)) is)))
+        inl (ap (hint_in base) row_.fact ∙ (ap (λ n. (made_by seat.who n base.core.id slot state sets).0.hint) logs.slot_leader
+        ∙ (hints_follow.made at by (now.promise seat.who) (hints_at all rows base seat.who) seat.who base.core.id slot state sets member ∙ ap (hint_by at by (now.promise seat.who) (hints_at all rows base seat.who)) fact)))
 
   -- ---- one that elects itself does so with a later round
 
@@ -102,7 +102,7 @@ module _ (words : ℕ → ℕ → ℕ × ℕ) (at : Sets) (over : Ends) (by : Te
     -- it has promised the group's ballot
     promised_it : now.promise seat.who ≡ course.ballot
     promised_it =
-        let first : marks seat.who ≡ Tells e.told.0 ∷ (row_in course).left = (row_in course).takes ∙ ap (λ o. listed o ++ (row_in course).left) e.told.2 in
+        let first : marks seat.who ≡ Teaches e.told.0 ∷ (row_in course).left = (row_in course).takes ∙ ap (λ o. listed o ++ (row_in course).left) e.told.2 in
         let none = (subst (AreLearntLast course.newest) first (was.own.stop e.self_election.idle seat.who)).0 e.told.1 in
         let opened : IsOpen at course.newest seat.who = member_open at seat.who course.newest course.newest (omega arith) (omega arith) least_member in
         sym (pledged_none (now.promise seat.who) (row_in course).left none) ∙ (ap (pledged (now.promise seat.who)) (sym first) ∙ (was.followed.follows.ready seat.who opened).promised)
@@ -120,15 +120,15 @@ module _ (words : ℕ → ℕ → ℕ × ℕ) (at : Sets) (over : Ends) (by : Te
         ballot_is = e.leads.led.may.ballot
 
         by_turn : IsTurn at by words all rows seat event base → ballot.round ≡ r.top.round + 1
-        by_turn (TurnRests same none) = absurd (none-some (Tells e.told.0) (sym (none) ∙ e.told.2))
+        by_turn (TurnRests same none) = absurd (none-some (Teaches e.told.0) (sym (none) ∙ e.told.2))
         by_turn (TurnCreates none made) = absurd (none_left none)
         by_turn (TurnMakes from slot state sets t) = absurd (none_left t.was)
-        by_turn (TurnTold line node q t) = absurd (none-some (Tells e.told.0) (sym ((ap (taken_mark name (mails rows)) t.event_is)) ∙ e.told.2))
+        by_turn (TurnTold line node q t) = absurd (none-some (Teaches e.told.0) (sym ((ap (taken_mark name (mails rows)) t.event_is)) ∙ e.told.2))
         by_turn (TurnTakes number mail node q t) =
             let here : q ≡ r = same_Some q r (sym t.row_.was ∙ row_.was) in
-            let viewed : view_at all (with_event rows seat event) base.core.id seat.who ≡ Some (mailed mail.from mail.body (q, [])).0.0 = ap (λ e_. view_at all (with_event rows seat e_) name seat.who) t.event_is ∙ t.row_.is in
-            let there : (mailed mail.from mail.body (q, [])).0.0 ≡ after.0 = same_Some (mailed mail.from mail.body (q, [])).0.0 after.0 (sym viewed ∙ row_.is) in
-            let mark : mark_of name mail.from mail.body ≡ Some (Tells e.told.0) = sym (ap (mark_in name) t.takes.sent) ∙ (sym (ap (taken_mark name (mails rows)) t.event_is) ∙ e.told.2) in
+            let viewed : view_at all (with_event rows seat event) base.core.id seat.who ≡ Some (mailed mail.from mail.body (q, [])).0.0 = ap (λ e_. view_at all (with_event rows seat e_) name seat.who) t.event_is ∙ t.row_.fact in
+            let there : (mailed mail.from mail.body (q, [])).0.0 ≡ after.0 = same_Some (mailed mail.from mail.body (q, [])).0.0 after.0 (sym viewed ∙ row_.fact) in
+            let mark : mark_of name mail.from mail.body ≡ Some (Teaches e.told.0) = sym (ap (mark_in name) t.takes.sent) ∙ (sym (ap (taken_mark name (mails rows)) t.event_is) ∙ e.told.2) in
             let entry = entry_of name e.told.0 mail.from mail.body mark in
             let off_q : q.running ≡ false = ap (λ (x : ReplicaState). x.running) here ∙ off in
             let fits = told_fit words at over by scenario rows seat event base course idle wb one so timely born calm was number mail node q t e.told.0 entry.0 entry.1 in
@@ -158,7 +158,7 @@ module _ (words : ℕ → ℕ → ℕ × ℕ) (at : Sets) (over : Ends) (by : Te
         subst Fated (sym same) (idle_fates at by now (after_ course) seat.who (taken_mark name (mails rows) event) (λ who. marks_for name who row.sent) marks marks_then (hints_at all rows base) (hints_at all then_ base) (row_in course) was.followed.follows led_.followed.follows others_hint fated (leaves.idle course) hint)
     fated_then later led (RowRests same r after row_ off still i) =
         let led_ : IsWellLed at over by words all then_ base course = subst (IsWellLed at over by words all then_ base) same led in
-        let hint : hints_at all then_ base seat.who ≡ hints_at all rows base seat.who = ap (hint_in base) row_.is ∙ (still.hint_is ∙ sym (ap (hint_in base) row_.was)) in
+        let hint : hints_at all then_ base seat.who ≡ hints_at all rows base seat.who = ap (hint_in base) row_.fact ∙ (still.hint_is ∙ sym (ap (hint_in base) row_.was)) in
         subst Fated (sym same) (idle_fates at by now (after_ course) seat.who (taken_mark name (mails rows) event) (λ who. marks_for name who row.sent) marks marks_then (hints_at all rows base) (hints_at all then_ base) (row_in course) was.followed.follows led_.followed.follows others_hint fated i hint)
     fated_then later led (RowTakes same r after mark row_ took steps i) =
         let led_ : IsWellLed at over by words all then_ base course = subst (IsWellLed at over by words all then_ base) same led in

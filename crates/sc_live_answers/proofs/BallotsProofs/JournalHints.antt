@@ -12,7 +12,7 @@ use Rattle.sc_scenario.specs.declared.scenario.scenarios.Scenario.{Scenario}
 use Rattle.sc_node_table.specs.Definitions.{ReplicaState, first_ballot, born_replica, slots_ahead}
 use Rattle.sc_meaning.specs.sound.Definitions.{Player, player_table, births, as_nodes}
 use Rattle.sc_live_steps.specs.calm.Definitions.{players, Rows}
-use Rattle.sc_live_steps.specs.following.Definitions.{Course, Progress, Sets, members_at, IsOpen, IsFollowing, Tellers}
+use Rattle.sc_live_steps.specs.following.Definitions.{Course, Progress, Sets, members_at, IsOpen, IsFollowing, SlotLeaders}
 use Rattle.sc_live_steps.proofs.FollowingProofs.Lemmas.{least_in}
 use Rattle.sc_live_journals.specs.rows.Definitions.{view_at, marks_at, next_in, promise_in, progress_at, with_event}
 use Rattle.sc_live_journals.specs.groups.Definitions.{Ends, hint_in, hints_at, ScenariosAreWellBorn}
@@ -20,13 +20,13 @@ use Rattle.sc_live_journals.specs.logs.Definitions.{logged_sets}
 use Rattle.sc_live_answers.specs.Definitions.{over_at, slot_leaders_at, AreBornAsBegun, GroupsAreBornAsBegun, IsSentThrough, top_in, IsSeen, GroupsBeginRising, NextRowsRise, IsRisingOn}
 use Rattle.sc_live_journals.specs.mail.Definitions.{JournalsKeepIdle}
 use Rattle.sc_live_answers.proofs.BallotsProofs.SeenBallots.{refuses_old, seen_then}
-use Rattle.sc_live_answers.proofs.BallotsProofs.Lists.{member_open}
+use Rattle.sc_live_answers.proofs.BallotsProofs.MarkLists.{member_open}
 use Rattle.sc_live_answers.proofs.BallotsProofs.HintInvariant.{fated_then}
 use Rattle.sc_live_answers.proofs.BallotsProofs.PromisedBallots.{topped_then}
 
 -- ---- the births
 
-module _ (words : ℕ → ℕ → ℕ × ℕ) (at : Sets) (over : Ends) (by : Tellers) (births : List (Seat Player)) (base : Base) (t : IsSentThrough at over by words births [] base) (born : AreBornAsBegun births base) where
+module _ (words : ℕ → ℕ → ℕ × ℕ) (at : Sets) (over : Ends) (by : SlotLeaders) (births : List (Seat Player)) (base : Base) (t : IsSentThrough at over by words births [] base) (born : AreBornAsBegun births base) where
   abbrev course : Course
   course = t.course
 
@@ -81,10 +81,10 @@ module _ (words : ℕ → ℕ → ℕ × ℕ) (at : Sets) (over : Ends) (by : Te
   begins = record {
     fated = record {
       fates = λ who prem. inr (record { hint_is = hints who ∙ ap (λ (b : Ballot). Some b.node) (sym (promises who)); passed = inl (promises who ∙ ballot_is) });
-      last = λ off gone. (let some = follows.some in let low = next_least in let is = newest_is in let one = first_next in
+      last = λ off gone. (let some = follows.some in let low = next_least in let fact = newest_is in let one = first_next in
           let here : now.next course.ballot.node ≡ now.next base.core.first = ap (λ (b : Ballot). now.next b.node) (sym ballot_is) in
-          omega (arith, some, low, is, one, here));
-      left = λ off stands. absurd (let low = follows.self_election off stands in let is = newest_is in no_less low is);
+          omega (arith, some, low, fact, one, here));
+      left = λ off stands. absurd (let low = follows.self_election off stands in let fact = newest_is in no_less low fact);
     };
     seen = λ who r view. elim (born who) [
       | inl none ↦ absurd (some_none r (sym view ∙ none))
@@ -106,7 +106,7 @@ module _ (words : ℕ → ℕ → ℕ × ℕ) (at : Sets) (over : Ends) (by : Te
       some_none x e = cc
 
       no_less : now.next (least_of (members_at at course.newest)) < course.newest → now.next least ≡ course.newest → ⊥
-      no_less low is = absurd (omega (arith, low, is))
+      no_less low fact = absurd (omega (arith, low, fact))
 
 pub groups_begin : GroupsAreBornAsBegun → GroupsBeginRising
 groups_begin born words scenario journal base group t =

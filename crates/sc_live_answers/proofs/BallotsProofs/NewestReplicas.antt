@@ -12,13 +12,13 @@ use Rattle.sc_live_journals.proofs.RowsProofs.Lemmas.{same_some, rows_are, view_
 use Rattle.sc_live_journals.specs.rows.Definitions.{marks_at, next_in, progress_at, taken_mark, view_at, elected_course, IsReplicasRow, with_event}
 use Rattle.sc_live_journals.specs.scenes.Definitions.{IsThere, NewestAreBound, NoneRuns}
 use Rattle.sc_live_steps.proofs.FollowingProofs.Lemmas.{reached-least}
-use Rattle.sc_live_steps.specs.following.Definitions.{AreFit, Course, IsFit, Mark, Sets, next_by, Tellers, StepsBy}
+use Rattle.sc_live_steps.specs.following.Definitions.{AreFit, Course, IsFit, Mark, Sets, next_by, SlotLeaders, StepsBy}
 use Rattle.sc_node_table.specs.Definitions.{Place, ReplicaState, listed, next}
 use Rattle.sc_live_orderly.specs.Definitions.{AreInTime}
 use Rattle.sc_meaning.specs.sound.Definitions.{Player, player_table}
 
 -- no replica of a well led group is further than its newest state
-pub no_further : (at : Sets) (over : Ends) (by : Tellers) (words : ℕ → ℕ → ℕ × ℕ) (births : List (Seat Player)) (rows : Rows) (base : Base) (course : Course) (node : ℕ) (r : ReplicaState) → IsWellLed at over by words births rows base course
+pub no_further : (at : Sets) (over : Ends) (by : SlotLeaders) (words : ℕ → ℕ → ℕ × ℕ) (births : List (Seat Player)) (rows : Rows) (base : Base) (course : Course) (node : ℕ) (r : ReplicaState) → IsWellLed at over by words births rows base course
     → view_at births rows base.core.id node ≡ Some r → next r ≤ course.newest
 no_further at over by words births rows base course node r was e =
     (let now = progress_at births rows base course in
@@ -28,7 +28,7 @@ no_further at over by words births rows base course node r was e =
     omega (arith, all, more, here))
 
 -- so, where some replica is at that, the newest are bound as it is
-newest_bound : (at : Sets) (over : Ends) (by : Tellers) (words : ℕ → ℕ → ℕ × ℕ) (births : List (Seat Player)) (rows : Rows) (base : Base) (course : Course) (bonds : ℕ → Bond) → IsWellLed at over by words births rows base course
+newest_bound : (at : Sets) (over : Ends) (by : SlotLeaders) (words : ℕ → ℕ → ℕ × ℕ) (births : List (Seat Player)) (rows : Rows) (base : Base) (course : Course) (bonds : ℕ → Bond) → IsWellLed at over by words births rows base course
     → IsReached births rows base course → AreBoundBy bonds births rows base.core.id → NewestAreBound births rows base.core.id (bonds course.newest)
 newest_bound at over by words births rows base course bonds was (node, x, there, last) bound who r e most =
     let same : next r ≡ course.newest = (let up = most node x there in let low = no_further at over by words births rows base course who r was e in omega (arith, up, low, last)) in
@@ -74,7 +74,7 @@ module _ (words : ℕ → ℕ → ℕ × ℕ) (births : List (Seat Player)) (row
         → ((y : ReplicaState) → view_at births rows base.core.id seat.who ≡ Some y → (z : ReplicaState) × (view_at births (with_event rows seat event) base.core.id seat.who ≡ Some z) × (next y ≤ next z))
         → IsReached births (with_event rows seat event) base later
     on_by node x e last same goes = elim (cases_eq node seat.who) [
-      | inl is ↦ (let z = goes x (subst (λ n. view_at births rows base.core.id n ≡ Some x) is e) in
+      | inl fact ↦ (let z = goes x (subst (λ n. view_at births rows base.core.id n ≡ Some x) fact e) in
           (seat.who, z.0, z.1, (let up = z.2 in let low = no_further g.at g.over g.by words births (with_event rows seat event) base later seat.who z.0 g.step.led z.1 in omega (arith, up, low, same, last))))
       | inr other ↦ (node, x, stays_at node x other e, last ∙ sym same)
     ]
@@ -99,24 +99,24 @@ module _ (words : ℕ → ℕ → ℕ × ℕ) (births : List (Seat Player)) (row
         | inl stays ↦ (y, stays ∙ f, omega arith)
         | inr born ↦ (let bad : Some y ≡ None = sym f ∙ born.0 in cc)
       ])
-      | RowRests same r after row off still kind ↦ on_by node x e last (same_newest same) (λ y f. (after.0, row.is, (let up = still.next_is in let is = ap next (some_is y r f row.was) in omega (arith, up, is))))
-      | RowTakes same r after mark row taken steps kind ↦ on_by node x e last (same_newest same) (λ y f. (after.0, row.is, (let up = takes_on r after mark row taken steps in let is = ap next (some_is y r f row.was) in omega (arith, up, is))))
+      | RowRests same r after row off still kind ↦ on_by node x e last (same_newest same) (λ y f. (after.0, row.fact, (let up = still.next_is in let fact = ap next (some_is y r f row.was) in omega (arith, up, fact))))
+      | RowTakes same r after mark row taken steps kind ↦ on_by node x e last (same_newest same) (λ y f. (after.0, row.fact, (let up = takes_on r after mark row taken steps in let fact = ap next (some_is y r f row.was) in omega (arith, up, fact))))
       | RowMakes same from slot state sets row taken logs kind ↦ on_by node x e last (same_newest same) (λ y f. (let bad : Some y ≡ None = sym f ∙ row.was in cc))
-      | RowLeads r after row runs counts led same ↦ (seat.who, after.0, row.is, sym (ap (λ (c : Course). c.newest) same))
-      | RowElects r after ballot row off self_election same ↦ (seat.who, after.0, row.is, sym ((g.step.led.followed.given.gives seat.who after.0 row.is self_election.runs).0.newest))
+      | RowLeads r after row runs counts led same ↦ (seat.who, after.0, row.fact, sym (ap (λ (c : Course). c.newest) same))
+      | RowElects r after ballot row off self_election same ↦ (seat.who, after.0, row.fact, sym ((g.step.led.followed.given.gives seat.who after.0 row.fact self_election.runs).0.newest))
     ]
 
     -- where the one that leads stops by the row, its state is the newest
     pub stopped_newest : (r : ReplicaState) (after : Place) → IsReplicasRow births rows seat event base.core.id (Some r) after → r.running ≡ true → after.0.running ≡ false → later.newest ≡ next after.0
     stopped_newest r after row runs stops = elim g.step.row [
       | RowPasses same idle ↦ elim idle.view [
-        | inl stays ↦ absurd (true≢false (sym runs ∙ (ap (λ (x : ReplicaState). x.running) (same_Some r after.0 (sym ((stays ∙ row.was)) ∙ row.is)) ∙ stops)))
+        | inl stays ↦ absurd (true≢false (sym runs ∙ (ap (λ (x : ReplicaState). x.running) (same_Some r after.0 (sym ((stays ∙ row.was)) ∙ row.fact)) ∙ stops)))
         | inr born ↦ (let bad : Some r ≡ None = sym row.was ∙ born.0 in cc)
       ]
       | RowRests same x then_ line off still kind ↦ absurd (true≢false (sym runs ∙ (ap (λ (y : ReplicaState). y.running) (some_is r x row.was line.was) ∙ off)))
-      | RowTakes same x then_ mark line taken steps kind ↦ absurd (true≢false (sym runs ∙ (ap (λ (y : ReplicaState). y.running) (some_is r x row.was line.was) ∙ (sym steps.runs ∙ (ap (λ (y : ReplicaState). y.running) (same_Some then_.0 after.0 (sym (line.is) ∙ row.is)) ∙ stops)))))
+      | RowTakes same x then_ mark line taken steps kind ↦ absurd (true≢false (sym runs ∙ (ap (λ (y : ReplicaState). y.running) (some_is r x row.was line.was) ∙ (sym steps.runs ∙ (ap (λ (y : ReplicaState). y.running) (same_Some then_.0 after.0 (sym (line.fact) ∙ row.fact)) ∙ stops)))))
       | RowMakes same from slot state sets line taken logs kind ↦ (let bad : Some r ≡ None = sym row.was ∙ line.was in cc)
-      | RowLeads x then_ line ran counts led same ↦ ap (λ (c : Course). c.newest) same ∙ ap next (same_Some then_.0 after.0 (sym (line.is) ∙ row.is))
+      | RowLeads x then_ line ran counts led same ↦ ap (λ (c : Course). c.newest) same ∙ ap next (same_Some then_.0 after.0 (sym (line.fact) ∙ row.fact))
       | RowElects x then_ ballot line off self_election same ↦ absurd (true≢false (sym runs ∙ (ap (λ (y : ReplicaState). y.running) (some_is r x row.was line.was) ∙ off)))
     ]
 

@@ -14,7 +14,7 @@ use Rattle.sc_node_table.specs.Definitions.{NodeState, group_of_mail, ordered_ro
 use Rattle.sc_law_walks.specs.Definitions.{GoesOn}
 use Rattle.sc_meaning.specs.sound.Definitions.{Player, player_table, births, as_nodes}
 use Rattle.sc_live_steps.specs.calm.Definitions.{players, Rows}
-use Rattle.sc_live_steps.specs.following.Definitions.{Dated, dated_for, marks_in, AreLow, from_slot_of, IsDatedRow, Mark, Asks, Tells, Installs, Prepares, mark_of, Course, Progress, Sets, IsKnown, IsFit, Tellers, IsLeadOf, IsAside, IsCount, answered, marks_for}
+use Rattle.sc_live_steps.specs.following.Definitions.{Dated, dated_for, marks_in, AreLow, from_slot_of, IsDatedRow, Mark, Asks, Teaches, Installs, Prepares, mark_of, Course, Progress, Sets, IsKnown, IsFit, SlotLeaders, IsLeadOf, IsAside, IsCount, answered, marks_for}
 use Rattle.sc_live_steps.proofs.FollowingProofs.Lemmas.{prepares_are_known, counts_of, same_mark, order_is_kept}
 use Rattle.sc_live_journals.specs.rows.Definitions.{view_at, mark_in, taken_mark, promise_in, progress_at, led_course, LedBy, IsSeat, with_event, IsReplicasRow}
 use Rattle.sc_live_journals.proofs.RowsProofs.Lemmas.{fit, goes_on, known as known_here, told_is, found_name, view_others}
@@ -24,14 +24,22 @@ use Rattle.sc_live_journals.specs.mail.Definitions.{IsPlainlyKept, JournalsKeepI
 use Rattle.sc_live_answers.specs.Definitions.{AreAbove, HasBelow, IsAskedOn}
 use Rattle.sc_live_answers.proofs.BallotsProofs.PrepareSlots.{MovesLast, top_of, tops_after, own_top, others_top, own_up, low_after, sent_above, counts_asked, leads_asked, elects_asked}
 use Rattle.sc_live_answers.proofs.BallotsProofs.AcceptedReports.{IsPlainMail, RestsAt, mail_rests, order_rests, made_rests, asked_stands, polled_stands, nacked_stands}
-use Rattle.sc_live_answers.proofs.GroupsProofs.JoiningMembers.{HasAct, GoesFrom, votes_go}
+use Rattle.sc_live_answers.proofs.LedGroupsProofs.JoiningMembers.{HasAct, GoesFrom, votes_go}
 use Rattle.sc_live_answers.proofs.ReplicasProofs.PlayerEvents.{TurnsMail, IsTurn, TurnRests, TurnCreates, TurnTakes, TurnMakes, TurnTold, turn_of}
 use Rattle.std.proofs.lemmas.Option.{same_Some}
 
 pub some_none : {X : Type 0} (x : X) (o : Option X) → o ≡ Some x → o ≡ None → ⊥
 some_none x o e f = (let bad : Some x ≡ None = sym e ∙ f in cc)
 
-module _ (words : ℕ → ℕ → ℕ × ℕ) (at : Sets) (over : Ends) (by : Tellers) (scenario : Scenario) (rows : Rows) (seat : Seat Player) (event : Event OrderLine) (base : Base) (course : Course) (idle : JournalsKeepIdle) (wb : AreWellBorn (births as_nodes scenario))
+-- a mail that names no group but this one
+abbrev pub NamesAlone : Base → Mail → Type 0
+NamesAlone base mail = (g : Draw) → group_of_mail mail.body ≡ Some g → g ≡ base.core.id
+
+-- a mail whose mark for the group is fit for the replica that takes it
+abbrev pub FitsMail : Base → Mail → ReplicaState → Type 0
+FitsMail base mail r = (mark : Mark) → mark_of base.core.id mail.from mail.body ≡ Some mark → IsFit (next r) r.acceptor.promised mark
+
+module _ (words : ℕ → ℕ → ℕ × ℕ) (at : Sets) (over : Ends) (by : SlotLeaders) (scenario : Scenario) (rows : Rows) (seat : Seat Player) (event : Event OrderLine) (base : Base) (course : Course) (idle : JournalsKeepIdle) (wb : AreWellBorn (births as_nodes scenario))
     (one : HasOneLog at over by (births as_nodes scenario) (with_event rows seat event) base) (so : IsSentSo (births as_nodes scenario) (with_event rows seat event) base) (timely : AreInTime (players words (births as_nodes scenario)) (with_event rows seat event))
     (born : IsSeat (births as_nodes scenario) seat) (calm : IsCalmEvent (players words (births as_nodes scenario)) rows seat.who event) (was : IsWellLed at over by words (births as_nodes scenario) rows base course) where
   abbrev all : List (Seat Player)
@@ -80,7 +88,7 @@ module _ (words : ℕ → ℕ → ℕ × ℕ) (at : Sets) (over : Ends) (by : Te
 
   module _ (number : ℕ) (mail : Mail) (node : NodeState) (r : ReplicaState) (t : TurnsMail words all rows seat event base number mail node r) where
     pub s : IsLedScene at over by words all rows seat node base course
-    s = record { log = one.log; seated = born; is = t.is; led = was }
+    s = record { log = one.log; seated = born; fact = t.fact; led = was }
 
     pub named_is : name_of r ≡ name
     named_is = found_name name node.replicas r t.has.here
@@ -89,7 +97,7 @@ module _ (words : ℕ → ℕ → ℕ × ℕ) (at : Sets) (over : Ends) (by : Te
     view = t.row_.was
 
     -- its body, with the group's name
-    pub own_name : (g : Draw) → group_of_mail mail.body ≡ Some g → g ≡ base.core.id
+    pub own_name : NamesAlone base mail
     own_name g e = same_Some g name (sym e ∙ t.group)
 
     pub marked : (mark : Mark) → mark_of base.core.id mail.from mail.body ≡ Some mark → taken_mark name (mails rows) event ≡ Some mark
@@ -130,7 +138,7 @@ module _ (words : ℕ → ℕ → ℕ × ℕ) (at : Sets) (over : Ends) (by : Te
             inl (subst (λ b. next (mailed mail.from b (r, [])).0.0 ≡ next r) (sym (body ∙ ap (λ n. Promise n ballot reports) (sym named_is))) (promises_stay at now r lead mail.from ballot reports))
         moves (Accept g ballot slot command) e = absurd (count_of (Asks ballot slot) (ap (mark_of name mail.from) (e ∙ ap (λ n. Accept n ballot slot command) (own_name g (ap group_of_mail e))) ∙ same_mark name (Asks ballot slot)))
         moves (Prepare g ballot from_slot) e = absurd (count_of (Prepares ballot) (ap (mark_of name mail.from) (e ∙ ap (λ n. Prepare n ballot from_slot) (own_name g (ap group_of_mail e))) ∙ same_mark name (Prepares ballot)))
-        moves (Learn g slot command) e = absurd (count_of (Tells slot) (ap (mark_of name mail.from) (e ∙ ap (λ n. Learn n slot command) (own_name g (ap group_of_mail e))) ∙ same_mark name (Tells slot)))
+        moves (Learn g slot command) e = absurd (count_of (Teaches slot) (ap (mark_of name mail.from) (e ∙ ap (λ n. Learn n slot command) (own_name g (ap group_of_mail e))) ∙ same_mark name (Teaches slot)))
         moves (Install g slot state sets) e = absurd (count_of (Installs slot) (ap (mark_of name mail.from) (e ∙ ap (λ n. Install n slot state sets) (own_name g (ap group_of_mail e))) ∙ same_mark name (Installs slot)))
         moves (Nack g promised) e =
             let body : mail.body ≡ Nack name promised = e ∙ ap (λ n. Nack n promised) (own_name g (ap group_of_mail e)) in
@@ -152,13 +160,13 @@ module _ (words : ℕ → ℕ → ℕ × ℕ) (at : Sets) (over : Ends) (by : Te
 
       accepts : (b : MailBody) → mail.body ≡ b → RestsAt Below r → RestsAt Below (mailed mail.from mail.body (r, [])).0.0
       accepts (Accept g ballot slot command) e k =
-          let is : mark_of name mail.from mail.body ≡ Some (Asks ballot slot) = ap (mark_of name mail.from) (e ∙ ap (λ n. Accept n ballot slot command) (own_name g (ap group_of_mail e))) ∙ same_mark name (Asks ballot slot) in
-          let f : IsFit (next r) r.acceptor.promised (Asks ballot slot) = fit at words all rows seat node base course (scene at over by words all rows seat node base course s) number mail t.takes r t.has (Asks ballot slot) is (mailed mail.from mail.body (r, [])).0 t.row_ in
+          let fact : mark_of name mail.from mail.body ≡ Some (Asks ballot slot) = ap (mark_of name mail.from) (e ∙ ap (λ n. Accept n ballot slot command) (own_name g (ap group_of_mail e))) ∙ same_mark name (Asks ballot slot) in
+          let f : IsFit (next r) r.acceptor.promised (Asks ballot slot) = fit at words all rows seat node base course (scene at over by words all rows seat node base course s) number mail t.takes r t.has (Asks ballot slot) fact (mailed mail.from mail.body (r, [])).0 t.row_ in
           subst (λ b. RestsAt Below (mailed mail.from b (r, [])).0.0) (sym e)
-          (asked_stands Below All mail.from g ballot slot command r (goes ballot (subst (IsAtLeast course.ballot) (sym f.2) most)) tt (asked ballot slot (dated_is (Asks ballot slot) is)) (k, tt)).0
+          (asked_stands Below All mail.from g ballot slot command r (goes ballot (subst (IsAtLeast course.ballot) (sym f.2) most)) tt (asked ballot slot (dated_is (Asks ballot slot) fact)) (k, tt)).0
       accepts (Prepare g ballot from_slot) e k =
-          let is : mark_of name mail.from mail.body ≡ Some (Prepares ballot) = ap (mark_of name mail.from) (e ∙ ap (λ n. Prepare n ballot from_slot) (own_name g (ap group_of_mail e))) ∙ same_mark name (Prepares ballot) in
-          let least : IsAtLeast course.ballot ballot = known_here at words all rows seat node base course (scene at over by words all rows seat node base course s) number mail t.takes (Prepares ballot) is in
+          let fact : mark_of name mail.from mail.body ≡ Some (Prepares ballot) = ap (mark_of name mail.from) (e ∙ ap (λ n. Prepare n ballot from_slot) (own_name g (ap group_of_mail e))) ∙ same_mark name (Prepares ballot) in
+          let least : IsAtLeast course.ballot ballot = known_here at words all rows seat node base course (scene at over by words all rows seat node base course s) number mail t.takes (Prepares ballot) fact in
           subst (λ b. RestsAt Below (mailed mail.from b (r, [])).0.0) (sym e) (polled_stands Below All mail.from g ballot from_slot r (goes ballot least) tt (k, tt)).0
       accepts (Nack g promised) e k =
           let body : mail.body ≡ Nack name promised = e ∙ ap (λ n. Nack n promised) (own_name g (ap group_of_mail e)) in
@@ -177,7 +185,7 @@ module _ (words : ℕ → ℕ → ℕ × ℕ) (at : Sets) (over : Ends) (by : Te
 
     moves_to : (q p : ReplicaState) → view_at all rows base.core.id seat.who ≡ Some q → view_at all (with_event rows seat event) base.core.id seat.who ≡ Some p → MovesTo q p → MovesTo r after.0
     moves_to q p view viewed m =
-        subst (λ x. MovesTo x after.0) (same_Some q r (sym view ∙ row_.was)) (subst (λ x. MovesTo q x) (same_Some p after.0 (sym viewed ∙ row_.is)) m)
+        subst (λ x. MovesTo x after.0) (same_Some q r (sym view ∙ row_.was)) (subst (λ x. MovesTo q x) (same_Some p after.0 (sym viewed ∙ row_.fact)) m)
 
     runs_too : (q : ReplicaState) → view_at all rows base.core.id seat.who ≡ Some q → q.running ≡ true
     runs_too q view = subst (λ (x : ReplicaState). x.running ≡ true) (same_Some r q (sym row_.was ∙ view)) runs
@@ -186,11 +194,11 @@ module _ (words : ℕ → ℕ → ℕ × ℕ) (at : Sets) (over : Ends) (by : Te
     leader_moves = by_turn turn
       where
         by_turn : IsTurn at by words all rows seat event base → MovesTo r after.0
-        by_turn (TurnRests same none) = inl (ap next (same_Some after.0 r (sym row_.is ∙ (same ∙ row_.was))))
+        by_turn (TurnRests same none) = inl (ap next (same_Some after.0 r (sym row_.fact ∙ (same ∙ row_.was))))
         by_turn (TurnCreates none made) = absurd (some_none r (view_at all rows base.core.id seat.who) row_.was none)
         by_turn (TurnMakes from slot state sets t) = absurd (some_none r (view_at all rows base.core.id seat.who) row_.was t.was)
         by_turn (TurnTakes number mail node q t) =
-            moves_to q (mailed mail.from mail.body (q, [])).0.0 t.row_.was (ap (λ e. view_at all (with_event rows seat e) name seat.who) t.event_is ∙ t.row_.is) (moves number mail node q t (runs_too q t.row_.was) counts mail.body refl)
+            moves_to q (mailed mail.from mail.body (q, [])).0.0 t.row_.was (ap (λ e. view_at all (with_event rows seat e) name seat.who) t.event_is ∙ t.row_.fact) (moves number mail node q t (runs_too q t.row_.was) counts mail.body refl)
         by_turn (TurnTold line node q t) =
             let lead_q : IsLeadOf at now q = (was.followed.given.gives seat.who q t.was (runs_too q t.was)).0 in
             moves_to q (ordered_row node.draws line (q, [])).0 t.was t.then_ (inl (subst (λ (p : Place). next p.0 ≡ next q) (told_is node line q) (orders_stay at now q lead_q false node.draws line)))
@@ -220,13 +228,13 @@ module _ (words : ℕ → ℕ → ℕ × ℕ) (at : Sets) (over : Ends) (by : Te
     silent who none top most = counts_asked (sent_dated who) (subst (Each IsCount) (sym (sent_same who ∙ none)) tt) course.bound top most
 
     answers : (mark : Mark) (promise : Ballot) (who : ℕ) → marks_for name who row.sent ≡ answered seat.who promise mark who → (top : ℕ) → top ≤ course.bound → AreAbove top (sent_dated who)
-    answers mark promise who is top most = counts_asked (sent_dated who) (subst (Each IsCount) (sym (sent_same who ∙ is)) (counts_of seat.who promise mark who)) course.bound top most
+    answers mark promise who fact top most = counts_asked (sent_dated who) (subst (Each IsCount) (sym (sent_same who ∙ fact)) (counts_of seat.who promise mark who)) course.bound top most
 
     asks_by : (c : Course) → IsGroupRow at over by all rows seat event base course c → (who top : ℕ) → top ≤ course.bound → AreAbove top (sent_dated who)
     asks_by c (RowPasses same leaves) who top most = silent who ((leaves.idle course).sends who) top most
     asks_by c (RowRests same r after row_ off still i) who top most = silent who (i.sends who) top most
-    asks_by c (RowTakes same r after mark row_ is steps i) who top most = answers i.mark (now.promise seat.who) who (i.sends who) top most
-    asks_by c (RowMakes same from slot state sets row_ is logs i) who top most = answers i.mark (now.promise seat.who) who (i.sends who) top most
+    asks_by c (RowTakes same r after mark row_ fact steps i) who top most = answers i.mark (now.promise seat.who) who (i.sends who) top most
+    asks_by c (RowMakes same from slot state sets row_ fact logs i) who top most = answers i.mark (now.promise seat.who) who (i.sends who) top most
     asks_by c (RowLeads r after row_ runs counts l same) who top most =
         let leads = l.led.leads in
         leads_asked at course (led_course l.led.bound course after.0) who leads.executed (leads.offers who) (sent_dated who) (leader_last r after row_ runs l.led) (leads.asks who) (sent_same who ∙ leads.sends who)
@@ -239,8 +247,8 @@ module _ (words : ℕ → ℕ → ℕ × ℕ) (at : Sets) (over : Ends) (by : Te
     bound_up : (c : Course) → IsGroupRow at over by all rows seat event base course c → course.bound ≤ c.bound
     bound_up c (RowPasses same leaves) = (let e = ap (λ (x : Course). x.bound) same in omega (arith, e))
     bound_up c (RowRests same r after row_ off still i) = (let e = ap (λ (x : Course). x.bound) same in omega (arith, e))
-    bound_up c (RowTakes same r after mark row_ is steps i) = (let e = ap (λ (x : Course). x.bound) same in omega (arith, e))
-    bound_up c (RowMakes same from slot state sets row_ is logs i) = (let e = ap (λ (x : Course). x.bound) same in omega (arith, e))
+    bound_up c (RowTakes same r after mark row_ fact steps i) = (let e = ap (λ (x : Course). x.bound) same in omega (arith, e))
+    bound_up c (RowMakes same from slot state sets row_ fact logs i) = (let e = ap (λ (x : Course). x.bound) same in omega (arith, e))
     bound_up c (RowLeads r after row_ runs counts l same) = (let e = ap (λ (x : Course). x.bound) same in let up = l.led.leads.bound in omega (arith, e, up))
     bound_up c (RowElects r after ballot row_ off e same) = (let f = ap (λ (x : Course). x.bound) same in omega (arith, f))
 
@@ -265,12 +273,12 @@ module _ (words : ℕ → ℕ → ℕ × ℕ) (at : Sets) (over : Ends) (by : Te
         by_turn (TurnMakes from slot state sets t) = to (made_by seat.who from base.core.id slot state sets).0 t.then_ (made_rests Below_ seat.who from base.core.id slot state sets t.logs.whole.open_)
         by_turn (TurnTold line node r t) = to (ordered_row node.draws line (r, [])).0 t.then_ (order_rests Below_ seat.who node.draws line r (kept_of r t.was) (raised r t.was))
         by_turn (TurnTakes number mail node r t) =
-            to (mailed mail.from mail.body (r, [])).0.0 (ap (λ e. view_at all (with_event rows seat e) name seat.who) t.event_is ∙ t.row_.is)
-            (accepts number mail node r t (tops_then seat.who) (λ ballot slot is. (let e = own_top seat.who taken k.tops ∙ ap (top_of seat.who taken k.tops) is in omega (arith, e))) mail.body refl (raised r t.row_.was))
+            to (mailed mail.from mail.body (r, [])).0.0 (ap (λ e. view_at all (with_event rows seat e) name seat.who) t.event_is ∙ t.row_.fact)
+            (accepts number mail node r t (tops_then seat.who) (λ ballot slot fact. (let e = own_top seat.who taken k.tops ∙ ap (top_of seat.who taken k.tops) fact in omega (arith, e))) mail.body refl (raised r t.row_.was))
 
     rests_at : (who : ℕ) (q : ReplicaState) → view_at all (with_event rows seat event) base.core.id who ≡ Some q → HasBelow (tops_then who) q × (q.leader.reports ≡ [])
     rests_at who q viewed = elim (cases_eq who seat.who) [
-      | inl is ↦ subst (λ n. HasBelow (tops_then n) q × (q.leader.reports ≡ [])) (sym is) (own_rests q (subst (λ n. view_at all (with_event rows seat event) base.core.id n ≡ Some q) is viewed))
+      | inl fact ↦ subst (λ n. HasBelow (tops_then n) q × (q.leader.reports ≡ [])) (sym fact) (own_rests q (subst (λ n. view_at all (with_event rows seat event) base.core.id n ≡ Some q) fact viewed))
       | inr ne ↦ (let view : view_at all rows base.core.id who ≡ Some q = sym (view_others all rows row name who ne) ∙ viewed in
           (subst (λ n. HasBelow n q) (sym (others_top seat.who taken k.tops who ne)) (k.accepted who q view), k.plain who q view))
     ]

@@ -3,7 +3,7 @@ use Rattle.std.proofs.Common.{◌≡◌, ℕ, suc, zero, ◌+◌, ◌<◌, ◌�
 use Rattle.std.proofs.lemmas.Bool.{cases_eq, cond-true, cond-false, eq-eqb, ne_eqb}
 use Rattle.sc_base.specs.Definitions.{Each, is_member}
 use Rattle.sc_node_table.specs.Definitions.{listed}
-use Rattle.sc_live_steps.specs.following.Definitions.{Dated, marks_in, IsLow, AreLow, IsDatedRow, Mark, Asks, Tells, Installs, Prepares, next_by, Course, Progress, Sets, members_at, IsKnown, IsCount, IsOffer, told_from}
+use Rattle.sc_live_steps.specs.following.Definitions.{Dated, marks_in, IsLow, AreLow, IsDatedRow, Mark, Asks, Teaches, Installs, Prepares, next_by, Course, Progress, Sets, members_at, IsKnown, IsCount, IsOffer, taught_from}
 use Rattle.sc_live_answers.specs.Definitions.{IsAbove, top_by, AreAbove}
 
 -- ---- lists
@@ -66,7 +66,7 @@ module _ (at : Sets) (course : Course) (who : ℕ) where
   module _ (slot : ℕ) where
     -- what is sent of one entry, by whether the node leads, learns it, and joins by it
     abbrev told_by : Bool → Bool → Bool → Bool → List Mark
-    told_by lead told comes first = cond lead [] (cond told (Tells slot ∷ []) (cond comes (Installs slot ∷ cond first [] (Prepares course.ballot ∷ [])) []))
+    told_by lead told comes first = cond lead [] (cond told (Teaches slot ∷ []) (cond comes (Installs slot ∷ cond first [] (Prepares course.ballot ∷ [])) []))
 
     -- one of these, before others
     module _ (rest : List Mark) where
@@ -74,16 +74,16 @@ module _ (at : Sets) (course : Course) (who : ℕ) where
       Rest = (dated : List Dated) (next top : ℕ) → marks_in dated ≡ rest → AreLow next dated → top ≤ course.bound → AreAbove top dated
 
       one_mark : (mark : Mark) → ((top : ℕ) → top_by top mark ≡ top) → ((top from : ℕ) → IsAbove top mark from) → Rest → (dated : List Dated) (next top : ℕ) → marks_in dated ≡ mark ∷ rest → AreLow next dated → top ≤ course.bound → AreAbove top dated
-      one_mark mark same free more [] next top is low most = cc
-      one_mark mark same free more (d ∷ dated) next top is low most =
-          let both = head_is d.0 mark (marks_in dated) rest is in
+      one_mark mark same free more [] next top fact low most = cc
+      one_mark mark same free more (d ∷ dated) next top fact low most =
+          let both = head_is d.0 mark (marks_in dated) rest fact in
           subst (λ m. IsAbove top m d.1 × AreAbove (top_by top m) dated) (sym both.0) (free top d.1, subst (λ t. AreAbove t dated) (sym (same top)) (more dated (next_by next d.0) top both.1 low.1 most))
 
       two_marks : course.bound ≤ slot + 1 → Rest → (dated : List Dated) (next top : ℕ) → marks_in dated ≡ Installs slot ∷ Prepares course.ballot ∷ rest → AreLow next dated → top ≤ course.bound → AreAbove top dated
-      two_marks last more [] next top is low most = cc
-      two_marks last more (d ∷ []) next top is low most = (let one = (head_is d.0 (Installs slot) [] (Prepares course.ballot ∷ rest) is).1 in cc)
-      two_marks last more (d ∷ e ∷ dated) next top is low most =
-          let one = head_is d.0 (Installs slot) (marks_in (e ∷ dated)) (Prepares course.ballot ∷ rest) is in
+      two_marks last more [] next top fact low most = cc
+      two_marks last more (d ∷ []) next top fact low most = (let one = (head_is d.0 (Installs slot) [] (Prepares course.ballot ∷ rest) fact).1 in cc)
+      two_marks last more (d ∷ e ∷ dated) next top fact low most =
+          let one = head_is d.0 (Installs slot) (marks_in (e ∷ dated)) (Prepares course.ballot ∷ rest) fact in
           let two = head_is e.0 (Prepares course.ballot) (marks_in dated) rest one.1 in
           let asked : IsLow (suc slot) (Prepares course.ballot) e.1 = subst (λ m. IsLow (suc slot) m e.1) two.0 (subst (λ m. IsLow (next_by next m) e.0 e.1) one.0 low.1.0) in
           subst (λ m. IsAbove top m d.1 × AreAbove (top_by top m) (e ∷ dated)) (sym one.0)
@@ -91,20 +91,20 @@ module _ (at : Sets) (course : Course) (who : ℕ) where
 
       told_above : (lead told comes first : Bool) → (told ≡ false → comes ≡ true → course.bound ≤ slot + 1) → Rest → (dated : List Dated) (next top : ℕ) → marks_in dated ≡ told_by lead told comes first ++ rest → AreLow next dated → top ≤ course.bound → AreAbove top dated
       told_above true told comes first last more = more
-      told_above false true comes first last more = one_mark (Tells slot) (λ top. refl) (λ top from. tt) more
+      told_above false true comes first last more = one_mark (Teaches slot) (λ top. refl) (λ top from. tt) more
       told_above false false true true last more = one_mark (Installs slot) (λ top. refl) (λ top from. tt) more
       told_above false false true false last more = two_marks (last refl refl) more
       told_above false false false first last more = more
 
   -- all of these marks, and what is offered behind them
   all_above : (after : Course) (more slot : ℕ) (offers : List Mark) → MovesLast at course slot (slot + more) → Each (IsOffer at after course.bound who) offers
-      → (dated : List Dated) (next top : ℕ) → marks_in dated ≡ told_from at course slot more who ++ offers → AreLow next dated → top ≤ course.bound → AreAbove top dated
-  all_above after zero slot offers last asks dated next top is low most = offers_above at after course.bound who top dated (subst (Each (IsOffer at after course.bound who)) (sym is) asks)
-  all_above after (suc more) slot offers last asks dated next top is low most =
-      told_above slot (told_from at course (slot + 1) more who ++ offers) (eqb who course.ballot.node) (is_member (members_at at slot) who) (is_member (members_at at (slot + 1)) who) course.is_first
+      → (dated : List Dated) (next top : ℕ) → marks_in dated ≡ taught_from at course slot more who ++ offers → AreLow next dated → top ≤ course.bound → AreAbove top dated
+  all_above after zero slot offers last asks dated next top fact low most = offers_above at after course.bound who top dated (subst (Each (IsOffer at after course.bound who)) (sym fact) asks)
+  all_above after (suc more) slot offers last asks dated next top fact low most =
+      told_above slot (taught_from at course (slot + 1) more who ++ offers) (eqb who course.ballot.node) (is_member (members_at at slot) who) (is_member (members_at at (slot + 1)) who) course.is_first
       (λ out come. comes_last at course slot who (last slot (omega arith) (omega arith)) out come)
       (all_above after more (slot + 1) offers (λ s least less. last s (omega (arith, least)) (omega (arith, less))) asks) dated next top
-      (is ∙ append_assoc (told_by slot (eqb who course.ballot.node) (is_member (members_at at slot) who) (is_member (members_at at (slot + 1)) who) course.is_first) (told_from at course (slot + 1) more who) offers) low most
+      (fact ∙ append_assoc (told_by slot (eqb who course.ballot.node) (is_member (members_at at slot) who) (is_member (members_at at (slot + 1)) who) course.is_first) (taught_from at course (slot + 1) more who) offers) low most
 
 -- ---- rows
 
@@ -159,14 +159,14 @@ module _ (now after : Progress) (node : ℕ) (taken : Option Dated) (sent dated 
 
   pub low_after : (who : ℕ) → tops_then who ≤ now.course.bound
   low_after who = elim (cases_eq who node) [
-    | inl is ↦ (let e = ap tops_then is ∙ own_top node taken tops in let l = own_low in omega (arith, e, l))
+    | inl fact ↦ (let e = ap tops_then fact ∙ own_top node taken tops in let l = own_low in omega (arith, e, l))
     | inr ne ↦ (let e = others_top node taken tops who ne in let l = low who in omega (arith, e, l))
   ]
 
   -- so all is, where what is sent is asked from above what is below the bound
   pub sent_above : ((who top : ℕ) → top ≤ now.course.bound → AreAbove top (sent who)) → (who : ℕ) → AreAbove (tops_then who) (dated_after who)
   sent_above asks who = elim (cases_eq who node) [
-    | inl is ↦ subst (λ n. AreAbove (tops_then n) (dated_after n)) (sym is)
+    | inl fact ↦ subst (λ n. AreAbove (tops_then n) (dated_after n)) (sym fact)
         (subst (λ t. AreAbove t (dated_after node)) (sym (own_top node taken tops)) (subst (AreAbove (topped taken)) (sym row.own)
         (above-append (topped taken) row.left (sent node) (left_above taken (subst (AreAbove (tops node)) row.takes (was node)))
         (asks node (tops_by (topped taken) row.left) (tops_known now.course (topped taken) row.left own_low (left_known taken known_node))))))
@@ -179,8 +179,8 @@ pub counts_asked : (sent : List Dated) → Each IsCount (marks_in sent) → (bou
 counts_asked sent counts bound top most = counts_above top sent counts
 
 pub leads_asked : (at : Sets) (course after : Course) (who executed : ℕ) (offers : List Mark) (sent : List Dated) → MovesLast at course course.newest (course.newest + executed) → Each (IsOffer at after course.bound who) offers
-    → marks_in sent ≡ told_from at course course.newest executed who ++ offers → ((next : ℕ) → AreLow next sent) → (top : ℕ) → top ≤ course.bound → AreAbove top sent
-leads_asked at course after who executed offers sent last asks is low top most = all_above at course who after executed course.newest offers last asks sent 0 top is (low 0) most
+    → marks_in sent ≡ taught_from at course course.newest executed who ++ offers → ((next : ℕ) → AreLow next sent) → (top : ℕ) → top ≤ course.bound → AreAbove top sent
+leads_asked at course after who executed offers sent last asks fact low top most = all_above at course who after executed course.newest offers last asks sent 0 top fact (low 0) most
 
 pub elects_asked : {A : Type 0} {mark : Mark} (bound : ℕ) (sent : List Dated) → Each (λ (d : Dated). bound ≤ d.1) sent → (marks_in sent ≡ []) ⊎ (A × (marks_in sent ≡ mark ∷ [])) → (top : ℕ) → top ≤ bound → AreAbove top sent
 elects_asked bound [] e k top most = tt

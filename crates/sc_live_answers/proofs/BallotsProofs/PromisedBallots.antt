@@ -10,7 +10,7 @@ use Rattle.sc_scenario.specs.declared.scenario.scenarios.Scenario.{Scenario}
 use Rattle.sc_node_table.specs.Definitions.{ReplicaState, listed, first_ballot}
 use Rattle.sc_meaning.specs.sound.Definitions.{Player, player_table, births, as_nodes}
 use Rattle.sc_live_steps.specs.calm.Definitions.{players, Rows}
-use Rattle.sc_live_steps.specs.following.Definitions.{Mark, Prepares, reached, pledged, AreFit, Course, Progress, Sets, IsOpen, Tellers, IsRow, marks_for}
+use Rattle.sc_live_steps.specs.following.Definitions.{Mark, Prepares, reached, pledged, AreFit, Course, Progress, Sets, IsOpen, SlotLeaders, IsRow, marks_for}
 use Rattle.sc_live_steps.proofs.FollowingProofs.Lemmas.{pledged-append}
 use Rattle.sc_live_journals.specs.rows.Definitions.{view_at, marks_at, taken_mark, promise_in, progress_at, IsSeat, with_event}
 use Rattle.sc_live_journals.proofs.RowsProofs.Lemmas.{rows_are, view_others}
@@ -19,7 +19,7 @@ use Rattle.sc_live_journals.proofs.GroupsProofs.Lemmas.{replicas_kept, scenarios
 use Rattle.sc_live_journals.specs.mail.Definitions.{JournalsKeepIdle}
 use Rattle.sc_live_answers.proofs.BallotsProofs.SeenBallotBounds.{Shows, ShowsNone, ShowsAsked, ShowsRefused, ShowsOwn, shown}
 use Rattle.sc_live_answers.proofs.BallotsProofs.SeenBallots.{RefusesOld, promise_then}
-use Rattle.sc_live_answers.proofs.BallotsProofs.Lists.{member_open, pledged_rises, fit_behind}
+use Rattle.sc_live_answers.proofs.BallotsProofs.MarkLists.{member_open, pledged_rises, fit_behind}
 
 -- ---- no promise falls
 
@@ -42,7 +42,7 @@ module _ (now after : Progress) (node : ℕ) (taken : Option Mark) (sent marks m
       subst (λ p. IsAtLeast p (pledged (now.promise who) (marks who))) (sym all)
       (pledged_rises (reached (now.next who) (marks who)) (pledged (now.promise who) (marks who)) (sent who) (fit_behind (now.next who) (now.promise who) (marks who) (sent who) fit))
 
-module _ (words : ℕ → ℕ → ℕ × ℕ) (at : Sets) (over : Ends) (by : Tellers) (scenario : Scenario) (rows : Rows) (seat : Seat Player) (event : Event OrderLine) (base : Base) (course : Course) (idle : JournalsKeepIdle) (wb : AreWellBorn (births as_nodes scenario))
+module _ (words : ℕ → ℕ → ℕ × ℕ) (at : Sets) (over : Ends) (by : SlotLeaders) (scenario : Scenario) (rows : Rows) (seat : Seat Player) (event : Event OrderLine) (base : Base) (course : Course) (idle : JournalsKeepIdle) (wb : AreWellBorn (births as_nodes scenario))
     (one : HasOneLog at over by (births as_nodes scenario) (with_event rows seat event) base) (so : IsSentSo (births as_nodes scenario) (with_event rows seat event) base) (timely : AreInTime (players words (births as_nodes scenario)) (with_event rows seat event))
     (born : IsSeat (births as_nodes scenario) seat) (calm : IsCalmEvent (players words (births as_nodes scenario)) rows seat.who event) (was : IsWellLed at over by words (births as_nodes scenario) rows base course) (step : IsLedStep at over by words (births as_nodes scenario) rows seat event base course)
     (plain : (r : ReplicaState) → view_at (births as_nodes scenario) rows base.core.id seat.who ≡ Some r → r.leader.reports ≡ [])
@@ -81,7 +81,7 @@ module _ (words : ℕ → ℕ → ℕ × ℕ) (at : Sets) (over : Ends) (by : Te
 
   all_rise : (who : ℕ) → IsAtLeast (pledged (after.promise who) (marks_then who)) (pledged (now.promise who) (marks who))
   all_rise who = elim (cases_eq who seat.who) [
-    | inl is ↦ subst (λ n. IsAtLeast (pledged (after.promise n) (marks_then n)) (pledged (now.promise n) (marks n))) (sym is)
+    | inl fact ↦ subst (λ n. IsAtLeast (pledged (after.promise n) (marks_then n)) (pledged (now.promise n) (marks n))) (sym fact)
         (own_rises now after seat.who (taken_mark name (mails rows) event) (λ w. marks_for name w row.sent) marks marks_then row_in step.led.followed.follows.fits own_promise)
     | inr ne ↦ others_rise now after seat.who (taken_mark name (mails rows) event) (λ w. marks_for name w row.sent) marks marks_then row_in step.led.followed.follows.fits who ne
   ]
@@ -106,14 +106,14 @@ module _ (words : ℕ → ℕ → ℕ × ℕ) (at : Sets) (over : Ends) (by : Te
       risen b least = at_least_trans (pledged (after.promise seat.who) (marks_then seat.who)) (pledged (now.promise seat.who) (marks seat.who)) b (all_rise seat.who) least
 
       asked : (ballot : Ballot) → taken_mark base.core.id (mails rows) event ≡ Some (Prepares ballot) → IsAtLeast (pledged (now.promise seat.who) (marks seat.who)) ballot
-      asked ballot is =
-          let first : marks seat.who ≡ Prepares ballot ∷ row_in.left = row_in.takes ∙ ap (λ o. listed o ++ row_in.left) is in
+      asked ballot fact =
+          let first : marks seat.who ≡ Prepares ballot ∷ row_in.left = row_in.takes ∙ ap (λ o. listed o ++ row_in.left) fact in
           let fit = subst (AreFit (now.next seat.who) (now.promise seat.who)) first (was.followed.follows.fits seat.who) in
           subst (λ l. IsAtLeast (pledged (now.promise seat.who) l) ballot) (sym first) (pledged_rises (now.next seat.who) ballot row_in.left fit.1)
 
       by_shows : (r : ReplicaState) → view_at all rows base.core.id seat.who ≡ Some r → Shows rows event base r q → IsAtLeast (pledged (after.promise seat.who) (marks_then seat.who)) q.top
       by_shows r e (ShowsNone low) = risen q.top (at_least_trans (pledged (now.promise seat.who) (marks seat.who)) r.top q.top (old_at seat.who r e) low)
-      by_shows r e (ShowsAsked ballot is same) = risen q.top (subst (IsAtLeast (pledged (now.promise seat.who) (marks seat.who))) (sym same) (asked ballot is))
+      by_shows r e (ShowsAsked ballot fact same) = risen q.top (subst (IsAtLeast (pledged (now.promise seat.who) (marks seat.who))) (sym same) (asked ballot fact))
       by_shows r e (ShowsRefused number mail promised is_event sent_at body up same) = absurd (true≢false (sym up ∙ refuses number mail promised r is_event sent_at body e))
       by_shows r e (ShowsOwn runs) = own_top q viewed runs
 
@@ -133,6 +133,6 @@ module _ (words : ℕ → ℕ → ℕ × ℕ) (at : Sets) (over : Ends) (by : Te
     where
       by_node : IsAtLeast (pledged (after.promise node) (marks_then node)) q.top
       by_node = elim (cases_eq node seat.who) [
-        | inl is ↦ subst (λ n. IsAtLeast (pledged (after.promise n) (marks_then n)) q.top) (sym is) (own_seen q (subst (λ n. view_at all then_ name n ≡ Some q) is viewed))
+        | inl fact ↦ subst (λ n. IsAtLeast (pledged (after.promise n) (marks_then n)) q.top) (sym fact) (own_seen q (subst (λ n. view_at all then_ name n ≡ Some q) fact viewed))
         | inr ne ↦ at_least_trans (pledged (after.promise node) (marks_then node)) (pledged (now.promise node) (marks node)) q.top (all_rise node) (old_at node q (sym (view_others all rows row name node ne) ∙ viewed))
       ]

@@ -10,13 +10,13 @@ use Rattle.sc_scenario.specs.declared.scenario.scenarios.Scenario.{Scenario}
 use Rattle.sc_node_table.specs.Definitions.{ReplicaState, next}
 use Rattle.sc_meaning.specs.sound.Definitions.{Player, births, as_nodes}
 use Rattle.sc_live_steps.specs.calm.Definitions.{players, HasReplica, RisesAt, Rows}
-use Rattle.sc_live_steps.specs.following.Definitions.{Mark, reached, pledged, Course, Progress, Sets, IsOpen, IsFollowing, Tellers, hinted}
+use Rattle.sc_live_steps.specs.following.Definitions.{Mark, reached, pledged, Course, Progress, Sets, IsOpen, IsFollowing, SlotLeaders, hinted}
 use Rattle.sc_live_journals.specs.rows.Definitions.{view_at, marks_at, next_in, promise_in, progress_at}
 use Rattle.sc_live_journals.specs.groups.Definitions.{Ends, hint_in, hints_at, IsTopKept}
 use Rattle.sc_live_journals.proofs.GroupsProofs.Lemmas.{replicas_kept, scenarios_kept_born}
 use Rattle.sc_live_answers.specs.Definitions.{IsSentThrough, IsPassed, IsFated, QuietHintsRise, IsRisingOn}
 use Rattle.sc_live_answers.proofs.QuietProofs.EvenReplicas.{has_one as even_has, leader as even_leader, over_then as even_over}
-use Rattle.sc_live_answers.proofs.BallotsProofs.Lists.{round_most, open_or}
+use Rattle.sc_live_answers.proofs.BallotsProofs.MarkLists.{round_most, open_or}
 use Rattle.std.proofs.lemmas.Option.{same_Some}
 
 -- a group that says that it is gone
@@ -24,7 +24,7 @@ gone_of : (o : Option Route) → is_some o ≡ true → (into : Route) × (o ≡
 gone_of None e = absurd (true≢false (sym e))
 gone_of (Some into) e = (into, refl)
 
-module _ (words : ℕ → ℕ → ℕ × ℕ) (at : Sets) (over : Ends) (by : Tellers) (scenario : Scenario) (prefix : Rows) (base : Base) (t : IsSentThrough at over by words (births as_nodes scenario) prefix base) (rising : IsRisingOn at by words (births as_nodes scenario) prefix base t.course)
+module _ (words : ℕ → ℕ → ℕ × ℕ) (at : Sets) (over : Ends) (by : SlotLeaders) (scenario : Scenario) (prefix : Rows) (base : Base) (t : IsSentThrough at over by words (births as_nodes scenario) prefix base) (rising : IsRisingOn at by words (births as_nodes scenario) prefix base t.course)
     (none : (who : ℕ) → marks_at (players words (births as_nodes scenario)) prefix base.core.id who ≡ []) (born : (node : ℕ) → is_member base.core.members node ≡ true → HasReplica (view_at (births as_nodes scenario) prefix) base.core.id node) where
   abbrev all : List (Seat Player)
   all = births as_nodes scenario
@@ -75,9 +75,9 @@ module _ (words : ℕ → ℕ → ℕ × ℕ) (at : Sets) (over : Ends) (by : Te
 
     -- it is not the one that leads
     apart : course.runs ≡ true → node ≡ course.ballot.node → ⊥
-    apart runs is =
+    apart runs fact =
         let lead = leader runs in
-        let same : r ≡ lead.0 = same_Some r lead.0 (sym here ∙ (ap (view_at all prefix name) is ∙ lead.1)) in
+        let same : r ≡ lead.0 = same_Some r lead.0 (sym here ∙ (ap (view_at all prefix name) fact ∙ lead.1)) in
         true≢false (sym lead.2 ∙ (ap (λ (x : ReplicaState). x.running) (sym same) ∙ off))
 
     -- one that takes the leader of the ballot for it that it has promised
@@ -106,8 +106,8 @@ module _ (words : ℕ → ℕ → ℕ × ℕ) (at : Sets) (over : Ends) (by : Te
         near : (there : ReplicaState) → view_at all prefix base.core.id r.top.node ≡ Some there → IsPassed now marks r.top → (there.running ≡ true) ⊎ (((into : Route) × (there.group.core.gone ≡ Some into)) ⊎ (r.top.round < there.top.round))
         near there e (inl same) = elim (cases_Bool course.runs) [
           | inl runs ↦ (let lead = leader runs in
-              let is : lead.0 ≡ there = same_Some lead.0 there (sym lead.1 ∙ (ap (λ (b : Ballot). view_at all prefix name b.node) (sym same) ∙ e)) in
-              inl (ap (λ (x : ReplicaState). x.running) (sym is) ∙ lead.2))
+              let fact : lead.0 ≡ there = same_Some lead.0 there (sym lead.1 ∙ (ap (λ (b : Ballot). view_at all prefix name b.node) (sym same) ∙ e)) in
+              inl (ap (λ (x : ReplicaState). x.running) (sym fact) ∙ lead.2))
           | inr off_ ↦ (let gone = over_then off_ in
               let last : next there ≡ course.newest = sym (ap (next_in base r.top.node) e) ∙ (ap (λ (b : Ballot). now.next b.node) same ∙ rising.fated.last off_ gone) in
               inr (inl (ends r.top.node there e gone last)))

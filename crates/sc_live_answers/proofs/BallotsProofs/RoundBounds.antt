@@ -10,7 +10,7 @@ use Rattle.sc_scenario.specs.declared.scenario.scenarios.Scenario.{Scenario}
 use Rattle.sc_node_table.specs.Definitions.{ReplicaState, Place}
 use Rattle.sc_meaning.specs.sound.Definitions.{Player, births, as_nodes}
 use Rattle.sc_live_steps.specs.calm.Definitions.{players, Rows}
-use Rattle.sc_live_steps.specs.following.Definitions.{Course, Sets, Tellers}
+use Rattle.sc_live_steps.specs.following.Definitions.{Course, Sets, SlotLeaders}
 use Rattle.sc_live_steps.specs.orders.Definitions.{works, Work, Deal, Stage, Still, Asks, IsAt}
 use Rattle.sc_live_journals.specs.rows.Definitions.{view_at, taken_mark, led_course, elected_course, IsSeat, with_event, IsReplicasRow}
 use Rattle.sc_live_journals.specs.groups.Definitions.{IsGroupRow, RowPasses, RowRests, RowTakes, RowMakes, RowLeads, RowElects, Ends, LeadsWell, ElectsWell, AreWellBorn}
@@ -19,9 +19,9 @@ use Rattle.sc_live_journals.specs.scenes.Definitions.{GivesAnOrder, GoesBy, is_r
 use Rattle.sc_live_journals.proofs.ScenesProofs.Lemmas.{lead_found, lead_runs, seat_among}
 use Rattle.sc_live_answers.specs.Definitions.{IsSentThrough, IsSentStep, MustLead, HasOneRound, StaysGone}
 use Rattle.sc_live_answers.proofs.BallotsProofs.PrepareSlotRows.{leader_moves}
-use Rattle.sc_live_answers.proofs.GroupsProofs.JoiningMembers.{HasAct}
+use Rattle.sc_live_answers.proofs.LedGroupsProofs.JoiningMembers.{HasAct}
 use Rattle.sc_live_answers.proofs.OrdersProofs.ActsUnderOrders.{has_work}
-use Rattle.sc_live_answers.proofs.BallotsProofs.Lists.{round_most}
+use Rattle.sc_live_answers.proofs.BallotsProofs.MarkLists.{round_most}
 use Rattle.sc_live_answers.proofs.BallotsProofs.HintInvariant.{next_round}
 use Rattle.sc_live_answers.proofs.WorkProofs.Stages.{Before, work_leads, must_lead, step_back}
 
@@ -31,7 +31,7 @@ told_none (Told line) name rows t = refl
 told_none _ name rows t = absurd t
 
 -- what stands at the one that leads is of the order
-module _ (words : ℕ → ℕ → ℕ × ℕ) (at : Sets) (over : Ends) (by : Tellers) (scenario : Scenario) (rows : Rows) (base : Base) (t : IsSentThrough at over by words (births as_nodes scenario) rows base) (stage : Stage) (a : IsAt stage (scene_at (births as_nodes scenario) rows)) (seat : Seat Player)
+module _ (words : ℕ → ℕ → ℕ × ℕ) (at : Sets) (over : Ends) (by : SlotLeaders) (scenario : Scenario) (rows : Rows) (base : Base) (t : IsSentThrough at over by words (births as_nodes scenario) rows base) (stage : Stage) (a : IsAt stage (scene_at (births as_nodes scenario) rows)) (seat : Seat Player)
     (born : IsSeat (births as_nodes scenario) seat) (r : ReplicaState) (view : view_at (births as_nodes scenario) rows base.core.id seat.who ≡ Some r) (runs : r.running ≡ true) where
   abbrev all_ : List (Seat Player)
   all_ = births as_nodes scenario
@@ -50,7 +50,7 @@ module _ (words : ℕ → ℕ → ℕ × ℕ) (at : Sets) (over : Ends) (by : Te
   pub works_lead : (work : Work) → Among work (works r) → MustLead stage base.core.id
   works_lead work among = work_leads (scene_at all_ rows) stage base.core.id work a (subst (Among work) (sym work_is) among)
 
-module _ (words : ℕ → ℕ → ℕ × ℕ) (at : Sets) (over : Ends) (by : Tellers) (scenario : Scenario) (rows : Rows) (seat : Seat Player) (event : Event OrderLine) (base : Base) (idle : JournalsKeepIdle) (wb : AreWellBorn (births as_nodes scenario))
+module _ (words : ℕ → ℕ → ℕ × ℕ) (at : Sets) (over : Ends) (by : SlotLeaders) (scenario : Scenario) (rows : Rows) (seat : Seat Player) (event : Event OrderLine) (base : Base) (idle : JournalsKeepIdle) (wb : AreWellBorn (births as_nodes scenario))
     (timely : AreInTime (players words (births as_nodes scenario)) (with_event rows seat event)) (born : IsSeat (births as_nodes scenario) seat) (calm : IsCalmEvent (players words (births as_nodes scenario)) rows seat.who event)
     (t : IsSentThrough at over by words (births as_nodes scenario) rows base) (s : IsSentStep at over by words (births as_nodes scenario) rows seat event base t.course) where
   abbrev all : List (Seat Player)

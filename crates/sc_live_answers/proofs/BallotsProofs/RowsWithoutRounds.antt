@@ -5,11 +5,12 @@ use Rattle.sc_base.specs.Definitions.{Each, is_member}
 use Rattle.sc_node_table.specs.Values.{Ballot, Seat, Event, Command, Noop, Call, Base, OrderLine, Flight}
 use Rattle.sc_actor.specs.Definitions.{row_of, mails}
 use Rattle.sc_node_table.specs.Definitions.{is_act, ReplicaState, flying, listed, next, at_slot}
+use Rattle.sc_live_orderly.proofs.Lemmas.{Each-behind}
 use Rattle.sc_live_orderly.specs.Definitions.{AreInTime}
 use Rattle.sc_words.specs.paxos.Definitions.{flight_at}
 use Rattle.sc_words.proofs.PaxosProofs.Lemmas.{Each-among, Each-append, Each-weaker, find_found}
 use Rattle.sc_meaning.specs.sound.Definitions.{Player, player_table}
-use Rattle.sc_live_steps.specs.following.Definitions.{Asks, Course, Mark, Prepares, Progress, Sets, Tells, Votes, members_at, Tellers, ActsAlone, IsLeadOf, IsLed, IsOrderly, IsOffer, IsRow, answered, told_from, reported_of, welcome}
+use Rattle.sc_live_steps.specs.following.Definitions.{Asks, Course, Mark, Prepares, Progress, Sets, Teaches, Votes, members_at, SlotLeaders, ActsAlone, IsLeadOf, IsLed, IsOrderly, IsOffer, IsRow, answered, taught_from, reported_of, welcome}
 use Rattle.sc_live_steps.specs.calm.Definitions.{players, Rows}
 use Rattle.sc_live_steps.specs.orders.Definitions.{work_by, Work}
 use Rattle.sc_live_journals.specs.rows.Definitions.{progress_at, view_at, led_course, with_event, taken_mark}
@@ -24,14 +25,10 @@ each_left : {X : Type 0} (P : X → Type 0) (xs ys : List X) → Each P (xs ++ y
 each_left P [] ys e = tt
 each_left P (x ∷ xs) ys e = (e.0, each_left P xs ys e.1)
 
-each_right : {X : Type 0} (P : X → Type 0) (xs ys : List X) → Each P (xs ++ ys) → Each P ys
-each_right P [] ys e = e
-each_right P (x ∷ xs) ys e = each_right P xs ys e.1
-
 told_quiet : (at : Sets) (course : Course) (slot who : ℕ) → (is_member (members_at at (slot + 1)) who ≡ true → is_member (members_at at slot) who ≡ true) → Each IsNoRound (reported_of at course slot who)
 told_quiet at course slot who k =
     cond_both (who == course.ballot.node) [] _ (Each IsNoRound) (λ _. tt)
-    (λ _. cond_both (is_member (members_at at slot) who) (Tells slot ∷ []) _ (Each IsNoRound) (λ _. (tt, tt))
+    (λ _. cond_both (is_member (members_at at slot) who) (Teaches slot ∷ []) _ (Each IsNoRound) (λ _. (tt, tt))
     (λ f. cond_both (is_member (members_at at (slot + 1)) who) (welcome course slot) [] (Each IsNoRound) (λ t. absurd (true≢false (sym (k t) ∙ f))) (λ _. tt)))
 
 answers_quiet : (node : ℕ) (promise : Ballot) (mark : Mark) (who : ℕ) → IsNoRound mark → Each IsNoRound (answered node promise mark who)
@@ -46,9 +43,9 @@ offer_quiet at course from who _ k = absurd k
 row_quiet : (now after : Progress) (node : ℕ) (taken : Option Mark) (sent marks marks_after : ℕ → List Mark) → IsRow now after node taken sent marks marks_after
     → ((who : ℕ) → Each IsNoRound (marks who)) → ((who : ℕ) → Each IsNoRound (sent who)) → (who : ℕ) → Each IsNoRound (marks_after who)
 row_quiet now after node taken sent marks marks_after row had sends who = elim (cases_eq who node) [
-  | inl is ↦ subst (λ n. Each IsNoRound (marks_after n)) (sym is)
+  | inl fact ↦ subst (λ n. Each IsNoRound (marks_after n)) (sym fact)
       (subst (Each IsNoRound) (sym row.own)
-      (Each-append IsNoRound row.left (sent node) (each_right IsNoRound (listed taken) row.left (subst (Each IsNoRound) row.takes (had node))) (sends node)))
+      (Each-append IsNoRound row.left (sent node) (Each-behind IsNoRound (listed taken) row.left (subst (Each IsNoRound) row.takes (had node))) (sends node)))
   | inr ne ↦ subst (Each IsNoRound) (sym (row.others who ne)) (Each-append IsNoRound (marks who) (sent who) (had who) (sends who))
 ]
 
@@ -68,10 +65,10 @@ flying_work : (r : ReplicaState) (slot : ℕ) (command : Command) → Each (λ (
 flying_work r slot command all e = by (flight_at slot r.leader.flights) refl e
   where
     by : (o : Option (Flight Command)) → flight_at slot r.leader.flights ≡ o → option_map (λ (flight : Flight Command). flight.value) o ≡ Some command → IsWork command
-    by None is v = cc
-    by (Some flight) is v =
+    by None fact v = cc
+    by (Some flight) fact v =
         let same : flight.value ≡ command = cc in
-        subst IsWork same (Each-among (λ (x : Flight Command). IsWork x.value) r.leader.flights flight all (find_found (λ (x : Flight Command). x.slot == slot) r.leader.flights flight is).0)
+        subst IsWork same (Each-among (λ (x : Flight Command). IsWork x.value) r.leader.flights flight all (find_found (λ (x : Flight Command). x.slot == slot) r.leader.flights flight fact).0)
 
 one_bound : (at : Sets) (course : Course) (r : ReplicaState) → IsLed at course r → ActsAlone course r → IsOrdersAlone r → course.bound ≤ next r + 1
 one_bound at course r led alone work = elim (cases_lt (next r) course.bound) [
@@ -80,19 +77,19 @@ one_bound at course r led alone work = elim (cases_lt (next r) course.bound) [
 ]
   where
     bound_of : (command : Command) → (flying r (next r) ≡ Some command) ⊎ (at_slot r.ready (next r) ≡ Some command) → IsWork command → course.bound ≤ next r + 1
-    bound_of command there w = (let is = alone (next r) command (omega arith) there (work_act command w.0 w.1) in omega (arith, is))
+    bound_of command there w = (let fact = alone (next r) command (omega arith) there (work_act command w.0 w.1) in omega (arith, fact))
 
     by : (f : Option Command) → flying r (next r) ≡ f → (a : Option Command) → at_slot r.ready (next r) ≡ a → is_some (Rattle.sc_node_table.specs.Replica.either f a) ≡ true → course.bound ≤ next r + 1
-    by (Some command) is a ready some = bound_of command (inl is) (flying_work r (next r) command work.flights is)
-    by None is (Some command) ready some = bound_of command (inr ready) (ready_work r.ready (next r) command work.ready ready)
-    by None is None ready some = absurd (true≢false (sym some))
+    by (Some command) fact a ready some = bound_of command (inl fact) (flying_work r (next r) command work.flights fact)
+    by None fact (Some command) ready some = bound_of command (inr ready) (ready_work r.ready (next r) command work.ready ready)
+    by None fact None ready some = absurd (true≢false (sym some))
 
 few_executed : (slot executed after bound : ℕ) → after ≡ slot + executed → after ≤ bound → bound ≤ slot + 1 → executed ≤ 1
 few_executed slot executed after bound e f g = omega (arith, e, f, g)
 
 -- ---- a row
 
-module _ (at : Sets) (over : Ends) (by : Tellers) (words : ℕ → ℕ → ℕ × ℕ) (births : List (Seat Player)) (rows : Rows) (seat : Seat Player) (event : Event OrderLine) (base : Base) (course : Course) (was : IsWellLed at over by words births rows base course)
+module _ (at : Sets) (over : Ends) (by : SlotLeaders) (words : ℕ → ℕ → ℕ × ℕ) (births : List (Seat Player)) (rows : Rows) (seat : Seat Player) (event : Event OrderLine) (base : Base) (course : Course) (was : IsWellLed at over by words births rows base course)
     (timely : AreInTime (players words births) (with_event rows seat event)) (acts : (at : Sets) (course : Course) (r : ReplicaState) → IsLed at course r → IsOrderly r → ActsAlone course r) (host : ℕ) (r : ReplicaState)
     (has : view_at births rows base.core.id host ≡ Some r) (runs : r.running ≡ true) (alone : IsOrdersAlone r) (same : (then_ : ReplicaState) → view_at births (with_event rows seat event) base.core.id host ≡ Some then_ → members_at at (next then_) ≡ members_at at (next r))
     (none : HasNoRounds words births rows base.core.id) where
@@ -102,16 +99,16 @@ module _ (at : Sets) (over : Ends) (by : Tellers) (words : ℕ → ℕ → ℕ �
   abbrev Quiet : Type 0
   Quiet = HasNoRounds words births (with_event rows seat event) base.core.id
 
-  by_sent : (later : Course) → ((who : ℕ) → Each IsNoRound (Rattle.sc_live_steps.specs.following.Tables.marks_for base.core.id who (row_of player_table seat rows event).sent)) → Quiet
+  by_sent : (later : Course) → ((who : ℕ) → Each IsNoRound (Rattle.sc_live_steps.specs.following.PaxosTables.marks_for base.core.id who (row_of player_table seat rows event).sent)) → Quiet
   by_sent later sends =
       row_quiet (progress_at births rows base course) (progress_at births (with_event rows seat event) base later) seat.who _ _ _ _ (rows_are words births rows (row_of player_table seat rows event) base course later timely) none sends
 
-  module _ (x : ReplicaState) (after : ReplicaState) (x_has : view_at births rows base.core.id seat.who ≡ Some x) (x_runs : x.running ≡ true) (is : view_at births (with_event rows seat event) base.core.id seat.who ≡ Some after) where
+  module _ (x : ReplicaState) (after : ReplicaState) (x_has : view_at births rows base.core.id seat.who ≡ Some x) (x_runs : x.running ≡ true) (fact : view_at births (with_event rows seat event) base.core.id seat.who ≡ Some after) where
     here : host ≡ seat.who
     here = leads.1 ∙ sym (was.followed.given.gives seat.who x x_has x_runs).1
 
     members_same : members_at at (next after) ≡ members_at at (next r)
-    members_same = same after (ap (view_at births (with_event rows seat event) base.core.id) here ∙ is)
+    members_same = same after (ap (view_at births (with_event rows seat event) base.core.id) here ∙ fact)
 
     newest_is : course.newest ≡ next r
     newest_is = leads.0.newest
@@ -119,7 +116,7 @@ module _ (at : Sets) (over : Ends) (by : Tellers) (words : ℕ → ℕ → ℕ �
     few : (executed : ℕ) → next after ≡ course.newest + executed → next after ≤ course.bound → executed ≤ 1
     few executed e f = (let g = one_bound at course r leads.0.led (acts at course r leads.0.led (was.orderly host r has runs)) alone in let n = newest_is in few_executed course.newest executed (next after) course.bound e f (omega (arith, g, n)))
 
-    told_none : (executed : ℕ) → executed ≤ 1 → next after ≡ course.newest + executed → (who : ℕ) → Each IsNoRound (told_from at course course.newest executed who)
+    told_none : (executed : ℕ) → executed ≤ 1 → next after ≡ course.newest + executed → (who : ℕ) → Each IsNoRound (taught_from at course course.newest executed who)
     told_none zero low e who = tt
     told_none (suc zero) low e who =
         Each-append IsNoRound (reported_of at course course.newest who) [] (told_quiet at course course.newest who (λ m.
@@ -139,8 +136,8 @@ module _ (at : Sets) (over : Ends) (by : Tellers) (words : ℕ → ℕ → ℕ �
   by_row later (RowLeads x after row x_runs counts l e) =
       let k = l.led.leads in
       by_sent (led_course l.led.bound course after.0) (λ who. subst (Each IsNoRound) (sym (k.sends who))
-      (Each-append IsNoRound (told_from at course course.newest k.executed who) (k.offers who)
-      (told_none x after.0 row.was x_runs row.is k.executed (few x after.0 row.was x_runs row.is k.executed k.newest k.within) k.newest who)
+      (Each-append IsNoRound (taught_from at course course.newest k.executed who) (k.offers who)
+      (told_none x after.0 row.was x_runs row.fact k.executed (few x after.0 row.was x_runs row.fact k.executed k.newest k.within) k.newest who)
       (Each-weaker (IsOffer at (led_course l.led.bound course after.0) course.bound who) IsNoRound (offer_quiet at (led_course l.led.bound course after.0) course.bound who) (k.offers who) (k.asks who))))
   by_row later (RowElects x after ballot row off self_election e) = absurd (true≢false (sym leads.0.runs ∙ self_election.self_election.idle))
 

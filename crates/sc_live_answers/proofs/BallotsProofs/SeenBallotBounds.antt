@@ -13,7 +13,7 @@ use Rattle.sc_law_groups.proofs.GroupProofs.Lemmas.{number_among}
 use Rattle.sc_law_walks.specs.Definitions.{GoesOn}
 use Rattle.sc_meaning.specs.sound.Definitions.{Player, player_table, births, as_nodes}
 use Rattle.sc_live_steps.specs.calm.Definitions.{players, Rows}
-use Rattle.sc_live_steps.specs.following.Definitions.{Mark, Asks, Tells, Prepares, mark_of, Course, Sets, IsKnown, IsFit, Tellers}
+use Rattle.sc_live_steps.specs.following.Definitions.{Asks, Teaches, Prepares, mark_of, Course, Sets, IsKnown, IsFit, SlotLeaders}
 use Rattle.sc_live_steps.proofs.FollowingProofs.Lemmas.{tables_elect, same_mark}
 use Rattle.sc_live_journals.specs.rows.Definitions.{view_at, taken_mark, promise_in, IsSeat, with_event}
 use Rattle.sc_live_journals.proofs.RowsProofs.Lemmas.{entered_name, rows_are, fit, known, view_others}
@@ -22,7 +22,7 @@ use Rattle.sc_live_journals.proofs.GroupsProofs.Lemmas.{replicas_kept, scenarios
 use Rattle.sc_live_journals.specs.mail.Definitions.{JournalsKeepIdle}
 use Rattle.sc_live_answers.specs.Definitions.{IsAskedOn, IsSentOn, SaysWell}
 use Rattle.sc_live_answers.proofs.BallotsProofs.AcceptedReports.{IsPlainMail, StandsAt, asked_low, polled_stands, nacked_low, nacked_stands}
-use Rattle.sc_live_answers.proofs.BallotsProofs.PrepareSlotRows.{kept_of, turn, s, named_is, own_name, marked, most, goes, leader_moves, some_none}
+use Rattle.sc_live_answers.proofs.BallotsProofs.PrepareSlotRows.{NamesAlone, FitsMail, kept_of, turn, s, named_is, own_name, marked, most, goes, leader_moves, some_none}
 use Rattle.sc_live_answers.proofs.BallotsProofs.Ballots.{All_, mail_sees, order_sees}
 use Rattle.sc_live_answers.proofs.BallotsProofs.GreatestBallots.{IsIdleMail, mail_idly, order_idly, told_idly, installed_keeps, made_keeps, stays_or_may, entered_top}
 use Rattle.sc_live_answers.proofs.ReplicasProofs.PlayerEvents.{TurnsMail, IsTurn, TurnRests, TurnCreates, TurnTakes, TurnMakes, TurnTold}
@@ -45,7 +45,7 @@ same_least a b e = subst (IsAtLeast a) (sym e) (at_least_itself a)
 pub topped : (scenario : Scenario) (rows : Rows) (base : Base) (who : ℕ) (r : ReplicaState) → view_at (births as_nodes scenario) rows base.core.id who ≡ Some r → IsTopKept who r
 topped scenario rows base who r e = (replicas_kept (births as_nodes scenario) rows base.core.id who r (scenarios_kept_born scenario) e).0
 
-module _ (words : ℕ → ℕ → ℕ × ℕ) (at : Sets) (over : Ends) (by : Tellers) (scenario : Scenario) (rows : Rows) (seat : Seat Player) (event : Event OrderLine) (base : Base) (course : Course) (idle : JournalsKeepIdle) (wb : AreWellBorn (births as_nodes scenario))
+module _ (words : ℕ → ℕ → ℕ × ℕ) (at : Sets) (over : Ends) (by : SlotLeaders) (scenario : Scenario) (rows : Rows) (seat : Seat Player) (event : Event OrderLine) (base : Base) (course : Course) (idle : JournalsKeepIdle) (wb : AreWellBorn (births as_nodes scenario))
     (one : HasOneLog at over by (births as_nodes scenario) (with_event rows seat event) base) (so : IsSentSo (births as_nodes scenario) (with_event rows seat event) base) (timely : AreInTime (players words (births as_nodes scenario)) (with_event rows seat event))
     (born : IsSeat (births as_nodes scenario) seat) (calm : IsCalmEvent (players words (births as_nodes scenario)) rows seat.who event) (was : IsWellLed at over by words (births as_nodes scenario) rows base course) (later : Course)
     (kind : IsGroupRow at over by (births as_nodes scenario) rows seat event base course later) (plain : (r : ReplicaState) → view_at (births as_nodes scenario) rows base.core.id seat.who ≡ Some r → r.leader.reports ≡ []) where
@@ -72,18 +72,18 @@ module _ (words : ℕ → ℕ → ℕ × ℕ) (at : Sets) (over : Ends) (by : Te
       | inr creation ↦ absurd (some_none r (view_at all rows base.core.id seat.who) view_r creation.0)
     ]
     stopped_ballot c (RowRests same x after row_ still i k) = absurd (ran x row_.was still)
-    stopped_ballot c (RowTakes same x after mark row_ is steps k) =
-        absurd (true≢false (sym (steps.runs ∙ subst (λ (y : ReplicaState). y.running ≡ true) (same_Some r x (sym view_r ∙ row_.was)) runs) ∙ (ap (λ (y : ReplicaState). y.running) (same_Some after.0 q (sym row_.is ∙ viewed)) ∙ off)))
-    stopped_ballot c (RowMakes same from slot state sets row_ is logs k) = absurd (some_none r (view_at all rows base.core.id seat.who) view_r row_.was)
+    stopped_ballot c (RowTakes same x after mark row_ fact steps k) =
+        absurd (true≢false (sym (steps.runs ∙ subst (λ (y : ReplicaState). y.running ≡ true) (same_Some r x (sym view_r ∙ row_.was)) runs) ∙ (ap (λ (y : ReplicaState). y.running) (same_Some after.0 q (sym row_.fact ∙ viewed)) ∙ off)))
+    stopped_ballot c (RowMakes same from slot state sets row_ fact logs k) = absurd (some_none r (view_at all rows base.core.id seat.who) view_r row_.was)
     stopped_ballot c (RowElects x after ballot row_ still e same) = absurd (ran x row_.was still)
     stopped_ballot c (RowLeads x after row_ on counts l same) =
-        let is : after.0 ≡ q = same_Some after.0 q (sym row_.is ∙ viewed) in
-        let stops = (l.led.leads.stops (ap (λ (y : ReplicaState). y.running) is ∙ off)).0 in
+        let fact : after.0 ≡ q = same_Some after.0 q (sym row_.fact ∙ viewed) in
+        let stops = (l.led.leads.stops (ap (λ (y : ReplicaState). y.running) fact ∙ off)).0 in
         let from = (was.followed.given.gives seat.who x row_.was on).0.newest in
         let to = l.led.leads.newest in
         elim (leader_moves words at over by scenario rows seat event base course idle wb one so timely born calm was x after row_ on l.led.leads.takes) [
           | inl none ↦ absurd (omega (arith, stops, from, to, none))
-          | inr goes_ ↦ subst (λ (y : ReplicaState). y.leader.ballot ≡ course.ballot) is goes_.1
+          | inr goes_ ↦ subst (λ (y : ReplicaState). y.leader.ballot ≡ course.ballot) fact goes_.1
         ]
 
   -- ---- a mail for its replica
@@ -96,17 +96,14 @@ module _ (words : ℕ → ℕ → ℕ × ℕ) (at : Sets) (over : Ends) (by : Te
     Shown = Shows rows event base r (mailed mail.from mail.body (r, [])).0.0
 
     viewed : view_at all (with_event rows seat event) base.core.id seat.who ≡ Some (mailed mail.from mail.body (r, [])).0.0
-    viewed = ap (λ e. view_at all (with_event rows seat e) name seat.who) t.event_is ∙ t.row_.is
+    viewed = ap (λ e. view_at all (with_event rows seat e) name seat.who) t.event_is ∙ t.row_.fact
 
-    named_as : (g : Draw) → group_of_mail mail.body ≡ Some g → g ≡ base.core.id
+    named_as : NamesAlone base mail
     named_as g e = own_name words at over by scenario rows seat event base course idle wb one so timely born calm was number mail node r t g e
 
-    goes_on_ : (ballot : Ballot) → IsAtLeast course.ballot ballot → GoesOn ballot r
-    goes_on_ ballot least = goes words at over by scenario rows seat event base course idle wb one so timely born calm was number mail node r t ballot least
-
-    fits : (mark : Mark) → mark_of base.core.id mail.from mail.body ≡ Some mark → IsFit (next r) r.acceptor.promised mark
-    fits mark is =
-        fit at words all rows seat node base course (scene at over by words all rows seat node base course (s words at over by scenario rows seat event base course idle wb one so timely born calm was number mail node r t)) number mail t.takes r t.has mark is
+    fits : FitsMail base mail r
+    fits mark fact =
+        fit at words all rows seat node base course (scene at over by words all rows seat node base course (s words at over by scenario rows seat event base course idle wb one so timely born calm was number mail node r t)) number mail t.takes r t.has mark fact
         (mailed mail.from mail.body (r, [])).0 t.row_
 
     stands : (T : Ballot → Type 0) → T r.top → StandsAt All_ T r
@@ -133,7 +130,7 @@ module _ (words : ℕ → ℕ → ℕ × ℕ) (at : Sets) (over : Ends) (by : Te
     told : (g : Draw) (slot : ℕ) (command : Command) → mail.body ≡ Learn g slot command → r.running ≡ false → Shown
     told g slot command e off =
         let body : mail.body ≡ Learn name slot command = e ∙ ap (λ n. Learn n slot command) (named_as g (ap group_of_mail e)) in
-        let f : IsFit (next r) r.acceptor.promised (Tells slot) = fits (Tells slot) (ap (mark_of name mail.from) body ∙ same_mark name (Tells slot)) in
+        let f : IsFit (next r) r.acceptor.promised (Teaches slot) = fits (Teaches slot) (ap (mark_of name mail.from) body ∙ same_mark name (Teaches slot)) in
         let log = one.told rows seat number mail slot command r t.delivers body t.row_.was f.1 in
         let none = ((kept_of words at over by scenario rows seat event base course idle wb one so timely born calm was r t.row_.was).2.0 off).0 in
         let rounds = one.rounds rows (row_of player_table seat rows event ∷ []) seat.who r refl t.row_.was in
@@ -148,19 +145,19 @@ module _ (words : ℕ → ℕ → ℕ × ℕ) (at : Sets) (over : Ends) (by : Te
         let f : IsFit (next r) r.acceptor.promised (Asks ballot slot) = fits (Asks ballot slot) (ap (mark_of name mail.from) (e ∙ ap (λ n. Accept n ballot slot command) (named_as g (ap group_of_mail e))) ∙ same_mark name (Asks ballot slot)) in
         let low : below r.top ballot ≡ false = subst (IsAtLeast r.top) (sym f.2) (topped scenario rows base seat.who r t.row_.was).1 in
         let least = subst (IsAtLeast course.ballot) (sym f.2) (most words at over by scenario rows seat event base course idle wb one so timely born calm was number mail node r t) in
-        ShowsNone (same_least r.top after.top (ap (λ b. (mailed mail.from b (r, [])).0.0.top) e ∙ (asked_low All_ (λ x. x ≡ r.top) mail.from g ballot slot command r (goes_on_ ballot least) low tt (stands (λ x. x ≡ r.top) refl)).1))
+        ShowsNone (same_least r.top after.top (ap (λ b. (mailed mail.from b (r, [])).0.0.top) e ∙ (asked_low All_ (λ x. x ≡ r.top) mail.from g ballot slot command r (goes words at over by scenario rows seat event base course idle wb one so timely born calm was number mail node r t ballot least) low tt (stands (λ x. x ≡ r.top) refl)).1))
     shows (Prepare g ballot from_slot) e =
-        let is : mark_of name mail.from mail.body ≡ Some (Prepares ballot) = ap (mark_of name mail.from) (e ∙ ap (λ n. Prepare n ballot from_slot) (named_as g (ap group_of_mail e))) ∙ same_mark name (Prepares ballot) in
-        let known = known_prepare ballot is in
-        let either = (polled_stands All_ (λ x. (x ≡ r.top) ⊎ (x ≡ ballot)) mail.from g ballot from_slot r (goes_on_ ballot known) (inr refl) (stands (λ x. (x ≡ r.top) ⊎ (x ≡ ballot)) (inl refl))).1 in
+        let fact : mark_of name mail.from mail.body ≡ Some (Prepares ballot) = ap (mark_of name mail.from) (e ∙ ap (λ n. Prepare n ballot from_slot) (named_as g (ap group_of_mail e))) ∙ same_mark name (Prepares ballot) in
+        let known = known_prepare ballot fact in
+        let either = (polled_stands All_ (λ x. (x ≡ r.top) ⊎ (x ≡ ballot)) mail.from g ballot from_slot r (goes words at over by scenario rows seat event base course idle wb one so timely born calm was number mail node r t ballot known) (inr refl) (stands (λ x. (x ≡ r.top) ⊎ (x ≡ ballot)) (inl refl))).1 in
         elim either [
           | inl same ↦ ShowsNone (same_least r.top after.top (ap (λ b. (mailed mail.from b (r, [])).0.0.top) e ∙ same))
-          | inr new ↦ ShowsAsked ballot (marked words at over by scenario rows seat event base course idle wb one so timely born calm was number mail node r t (Prepares ballot) is) (ap (λ b. (mailed mail.from b (r, [])).0.0.top) e ∙ new)
+          | inr new ↦ ShowsAsked ballot (marked words at over by scenario rows seat event base course idle wb one so timely born calm was number mail node r t (Prepares ballot) fact) (ap (λ b. (mailed mail.from b (r, [])).0.0.top) e ∙ new)
         ]
       where
         known_prepare : (ballot : Ballot) → mark_of base.core.id mail.from mail.body ≡ Some (Prepares ballot) → IsAtLeast course.ballot ballot
-        known_prepare ballot is =
-            known at words all rows seat node base course (scene at over by words all rows seat node base course (s words at over by scenario rows seat event base course idle wb one so timely born calm was number mail node r t)) number mail t.takes (Prepares ballot) is
+        known_prepare ballot fact =
+            known at words all rows seat node base course (scene at over by words all rows seat node base course (s words at over by scenario rows seat event base course idle wb one so timely born calm was number mail node r t)) number mail t.takes (Prepares ballot) fact
     shows (Nack g promised) e =
         let body : mail.body ≡ Nack name promised = e ∙ ap (λ n. Nack n promised) (named_as g (ap group_of_mail e)) in
         let on : GoesOn promised r = so.nacks rows seat number mail promised r t.delivers body t.row_.was in
@@ -206,16 +203,16 @@ module _ (words : ℕ → ℕ → ℕ × ℕ) (at : Sets) (over : Ends) (by : Te
 
   pub shown : (q : ReplicaState) → view_at (births as_nodes scenario) (with_event rows seat event) base.core.id seat.who ≡ Some q
       → ((r : ReplicaState) × (view_at (births as_nodes scenario) rows base.core.id seat.who ≡ Some r) × Shows rows event base r q) ⊎ ((view_at (births as_nodes scenario) rows base.core.id seat.who ≡ None) × Begins q)
-  shown q is = by_turn (turn words at over by scenario rows seat event base course idle wb one so timely born calm was)
+  shown q fact = by_turn (turn words at over by scenario rows seat event base course idle wb one so timely born calm was)
     where
       Result : ReplicaState → Type 0
       Result x = ((r : ReplicaState) × (view_at all rows base.core.id seat.who ≡ Some r) × Shows rows event base r x) ⊎ ((view_at all rows base.core.id seat.who ≡ None) × Begins x)
 
       to : (p : ReplicaState) → view_at all (with_event rows seat event) base.core.id seat.who ≡ Some p → Result p → Result q
-      to p view_p k = subst (λ x. Result x) (same_Some p q (sym view_p ∙ is)) k
+      to p view_p k = subst (λ x. Result x) (same_Some p q (sym view_p ∙ fact)) k
 
       by_turn : IsTurn at by words all rows seat event base → Result q
-      by_turn (TurnRests same none) = inl (q, sym same ∙ is, ShowsNone (at_least_itself q.top))
+      by_turn (TurnRests same none) = inl (q, sym same ∙ fact, ShowsNone (at_least_itself q.top))
       by_turn (TurnCreates none made) = to (born_replica slots_ahead seat.who base) made (inr (none, inr refl))
       by_turn (TurnTakes number mail node r t) = to (mailed mail.from mail.body (r, [])).0.0 (viewed number mail node r t) (inl (r, t.row_.was, shows number mail node r t mail.body refl))
       by_turn (TurnMakes from slot state sets t) = to (made_by seat.who from base.core.id slot state sets).0 t.then_ (elim (made_keeps seat.who from base.core.id slot state sets) [ inl runs ↦ inr (t.was, inl runs) | inr same ↦ inr (t.was, inr (same ∙ t.logs.firsts)) ])
@@ -223,7 +220,7 @@ module _ (words : ℕ → ℕ → ℕ × ℕ) (at : Sets) (over : Ends) (by : Te
 
 -- ---- so none saw a later ballot than the leader's
 
-module _ (words : ℕ → ℕ → ℕ × ℕ) (at : Sets) (over : Ends) (by : Tellers) (scenario : Scenario) (rows : Rows) (seat : Seat Player) (event : Event OrderLine) (base : Base) (course : Course) (idle : JournalsKeepIdle) (wb : AreWellBorn (births as_nodes scenario))
+module _ (words : ℕ → ℕ → ℕ × ℕ) (at : Sets) (over : Ends) (by : SlotLeaders) (scenario : Scenario) (rows : Rows) (seat : Seat Player) (event : Event OrderLine) (base : Base) (course : Course) (idle : JournalsKeepIdle) (wb : AreWellBorn (births as_nodes scenario))
     (one : HasOneLog at over by (births as_nodes scenario) (with_event rows seat event) base) (so : IsSentSo (births as_nodes scenario) (with_event rows seat event) base) (timely : AreInTime (players words (births as_nodes scenario)) (with_event rows seat event))
     (born : IsSeat (births as_nodes scenario) seat) (calm : IsCalmEvent (players words (births as_nodes scenario)) rows seat.who event) (was : IsWellLed at over by words (births as_nodes scenario) rows base course)
     (sent : IsSentOn at words (births as_nodes scenario) rows base course) (k : IsAskedOn words (births as_nodes scenario) rows base course) (step : IsLedStep at over by words (births as_nodes scenario) rows seat event base course)
@@ -238,9 +235,9 @@ module _ (words : ℕ → ℕ → ℕ × ℕ) (at : Sets) (over : Ends) (by : Te
       same_least step.later.ballot q.top (top ∙ (step.led.followed.given.gives seat.who q viewed runs).0.led.may.ballot)
 
   asked_low_ : (ballot : Ballot) → taken_mark base.core.id (mails rows) event ≡ Some (Prepares ballot) → IsAtLeast course.ballot ballot
-  asked_low_ ballot is =
+  asked_low_ ballot fact =
       let row = rows_are words all_ rows (row_of player_table seat rows event) base course course timely in
-      (subst (Each (IsKnown course)) (row.takes ∙ ap (λ o. listed o ++ row.left) is) (was.followed.follows.known seat.who)).0
+      (subst (Each (IsKnown course)) (row.takes ∙ ap (λ o. listed o ++ row.left) fact) (was.followed.follows.known seat.who)).0
 
   refused_low : (number : ℕ) (mail : Mail) (promised : Ballot) → numbered (mails rows) number ≡ Some mail → mail.body ≡ Nack base.core.id promised → IsAtLeast course.ballot promised
   refused_low number mail promised sent_at body =
@@ -251,7 +248,7 @@ module _ (words : ℕ → ℕ → ℕ × ℕ) (at : Sets) (over : Ends) (by : Te
     where
       by_shows : (r : ReplicaState) → view_at all_ rows base.core.id seat.who ≡ Some r → Shows rows event base r q → IsAtLeast step.later.ballot q.top
       by_shows r e (ShowsNone low) = rises q.top (at_least_trans course.ballot r.top q.top (k.seen seat.who r e) low)
-      by_shows r e (ShowsAsked ballot is same) = subst (IsAtLeast step.later.ballot) (sym same) (rises ballot (asked_low_ ballot is))
+      by_shows r e (ShowsAsked ballot fact same) = subst (IsAtLeast step.later.ballot) (sym same) (rises ballot (asked_low_ ballot fact))
       by_shows r e (ShowsRefused number mail promised is_event sent_at body up same) = subst (IsAtLeast step.later.ballot) (sym same) (rises promised (refused_low number mail promised sent_at body))
       by_shows r e (ShowsOwn runs) = own_top q viewed runs
 
@@ -265,6 +262,6 @@ module _ (words : ℕ → ℕ → ℕ × ℕ) (at : Sets) (over : Ends) (by : Te
 
   pub seen_then : (who : ℕ) (q : ReplicaState) → view_at (births as_nodes scenario) (with_event rows seat event) base.core.id who ≡ Some q → IsAtLeast step.later.ballot q.top
   seen_then who q viewed = elim (cases_eq who seat.who) [
-    | inl is ↦ own_seen q (subst (λ n. view_at all_ (with_event rows seat event) base.core.id n ≡ Some q) is viewed)
+    | inl fact ↦ own_seen q (subst (λ n. view_at all_ (with_event rows seat event) base.core.id n ≡ Some q) fact viewed)
     | inr ne ↦ rises q.top (k.seen who q (sym (view_others all_ rows (row_of player_table seat rows event) base.core.id who ne) ∙ viewed))
   ]

@@ -18,7 +18,7 @@ use Rattle.sc_node_table.specs.Definitions.{NodeState, replica_of, group_of_mail
 use Rattle.sc_meaning.specs.sound.Definitions.{Player, player_table, births, as_nodes}
 use Rattle.sc_law_walks.proofs.Lemmas.{either_way}
 use Rattle.sc_live_steps.specs.calm.Definitions.{players, Rows}
-use Rattle.sc_live_steps.specs.following.Definitions.{Mark, Asks, Votes, Tells, Prepares, Promises, promise_by, pledged, mark_of, AreFit, Course, Progress, Sets, members_at, Tellers, IsRow, answered, welcome, reported_of, told_from, IsOffer, marks_for}
+use Rattle.sc_live_steps.specs.following.Definitions.{Mark, Asks, Votes, Teaches, Prepares, Promises, promise_by, pledged, mark_of, AreFit, Course, Progress, Sets, members_at, SlotLeaders, IsRow, answered, welcome, reported_of, taught_from, IsOffer, marks_for}
 use Rattle.sc_live_steps.proofs.FollowingProofs.Lemmas.{count-pledged, same_mark, last_promise as last_pledged}
 use Rattle.sc_live_journals.specs.rows.Definitions.{view_at, marks_at, taken_mark, promise_in, progress_at, IsOwnMail, IsOwnAsking, led_course, IsSeat, with_event}
 use Rattle.sc_live_journals.proofs.RowsProofs.Lemmas.{rows_are, ballots_own, births_alone, view_others, view_was, found_name}
@@ -27,7 +27,7 @@ use Rattle.sc_live_journals.proofs.GroupsProofs.Lemmas.{replicas_kept, scenarios
 use Rattle.sc_live_journals.proofs.MailProofs.Lemmas.{replicas_last}
 use Rattle.sc_live_answers.specs.Definitions.{top_in, IsSeen, AsksSeen, RefusesSeen}
 use Rattle.sc_live_answers.specs.SeenBallots.{AreSeen}
-use Rattle.sc_live_answers.proofs.BallotsProofs.Lists.{pledged_rises}
+use Rattle.sc_live_answers.proofs.BallotsProofs.MarkLists.{pledged_rises}
 use Rattle.sc_live_answers.proofs.BallotsProofs.Refusals.{IsRefusal, AreSaid}
 use Rattle.sc_live_answers.proofs.BallotsProofs.PlayerRefusals.{MayRefuse, input_said}
 use Rattle.sc_live_journals.proofs.RowsProofs.OwnGroupMail.{Refuses}
@@ -65,20 +65,20 @@ module _ (births : List (Seat Player)) (rows : Rows) (base : Base) where
     told_seen : (slot who : ℕ) → AllSeen (reported_of at course slot who)
     told_seen slot who =
         either_way AllSeen (eqb who course.ballot.node) [] _ tt
-        (either_way AllSeen (is_member (members_at at slot) who) (Tells slot ∷ []) _ (tt, tt) (either_way AllSeen (is_member (members_at at (slot + 1)) who) (welcome course slot) [] (welcome_seen slot) tt))
+        (either_way AllSeen (is_member (members_at at slot) who) (Teaches slot ∷ []) _ (tt, tt) (either_way AllSeen (is_member (members_at at (slot + 1)) who) (welcome course slot) [] (welcome_seen slot) tt))
 
-    pub all_told_seen : (slot count who : ℕ) → AllSeen (told_from at course slot count who)
+    pub all_told_seen : (slot count who : ℕ) → AllSeen (taught_from at course slot count who)
     all_told_seen slot zero who = tt
-    all_told_seen slot (suc more) who = Each-append (AsksSeen births rows base) (reported_of at course slot who) (told_from at course (slot + 1) more who) (told_seen slot who) (all_told_seen (slot + 1) more who)
+    all_told_seen slot (suc more) who = Each-append (AsksSeen births rows base) (reported_of at course slot who) (taught_from at course (slot + 1) more who) (told_seen slot who) (all_told_seen (slot + 1) more who)
 
   offer_seen : (at : Sets) (course : Course) (from who : ℕ) (mark : Mark) → IsOffer at course from who mark → AsksSeen births rows base mark
   offer_seen at course from who (Asks ballot slot) o = tt
   offer_seen at course from who _ o = absurd o
 
   pub offers_seen : (at : Sets) (course : Course) (from who : ℕ) (marks : List Mark) → Each (IsOffer at course from who) marks → AllSeen marks
-  offers_seen at course from who marks o = Each-weaker (IsOffer at course from who) (AsksSeen births rows base) (λ mark is. offer_seen at course from who mark is) marks o
+  offers_seen at course from who marks o = Each-weaker (IsOffer at course from who) (AsksSeen births rows base) (λ mark fact. offer_seen at course from who mark fact) marks o
 
-module _ (words : ℕ → ℕ → ℕ × ℕ) (at : Sets) (over : Ends) (by : Tellers) (scenario : Scenario) (rows : Rows) (seat : Seat Player) (event : Event OrderLine) (base : Base) (course : Course) (timely : AreInTime (players words (births as_nodes scenario)) (with_event rows seat event))
+module _ (words : ℕ → ℕ → ℕ × ℕ) (at : Sets) (over : Ends) (by : SlotLeaders) (scenario : Scenario) (rows : Rows) (seat : Seat Player) (event : Event OrderLine) (base : Base) (course : Course) (timely : AreInTime (players words (births as_nodes scenario)) (with_event rows seat event))
     (born : IsSeat (births as_nodes scenario) seat) (calm : IsCalmEvent (players words (births as_nodes scenario)) rows seat.who event) (was : IsWellLed at over by words (births as_nodes scenario) rows base course) (step : IsLedStep at over by words (births as_nodes scenario) rows seat event base course) where
   abbrev all : List (Seat Player)
   all = births as_nodes scenario
@@ -141,9 +141,9 @@ module _ (words : ℕ → ℕ → ℕ × ℕ) (at : Sets) (over : Ends) (by : Te
       later_top : (q : ReplicaState) → view_at all (with_event rows seat event) base.core.id who ≡ Some q → view_at all rows base.core.id who ≡ None → IsAtLeast q.top (first_ballot base.core)
       later_top q viewed none = elim (cases_eq who seat.who) [
         | inr ne ↦ (let bad : None ≡ Some q = sym none ∙ (sym (view_others all rows row name who ne) ∙ viewed) in cc)
-        | inl is ↦ (let here : view_at all (with_event rows seat event) base.core.id seat.who ≡ Some q = ap (view_at all then_ name) (sym is) ∙ viewed in
+        | inl fact ↦ (let here : view_at all (with_event rows seat event) base.core.id seat.who ≡ Some q = ap (view_at all then_ name) (sym fact) ∙ viewed in
             let kept = (replicas_kept all then_ name seat.who q (scenarios_kept_born scenario) here).0 in
-            let first : now.promise seat.who ≡ first_ballot base.core = ap (λ n. now.promise n) (sym is) ∙ ap (promise_in base) none in
+            let first : now.promise seat.who ≡ first_ballot base.core = ap (λ n. now.promise n) (sym fact) ∙ ap (promise_in base) none in
             let most : IsAtLeast q.acceptor.promised (first_ballot base.core) = subst (IsAtLeast q.acceptor.promised) first (subst (λ p. IsAtLeast p (now.promise seat.who)) (ap (promise_in base) here) promise_rises) in
             at_least_trans q.top q.acceptor.promised (first_ballot base.core) kept.1 most)
       ]
@@ -185,7 +185,7 @@ module _ (words : ℕ → ℕ → ℕ × ℕ) (at : Sets) (over : Ends) (by : Te
 
     promised_then : (who : ℕ) → IsSeen all then_ base (after.promise who)
     promised_then who = elim (cases_eq who seat.who) [
-      | inl is ↦ subst (λ n. IsSeen all then_ base (after.promise n)) (sym is) own_promised
+      | inl fact ↦ subst (λ n. IsSeen all then_ base (after.promise n)) (sym fact) own_promised
       | inr ne ↦ subst (IsSeen all then_ base) (sym (row_in.promise who ne)) (grown (now.promise who) (home.promised who))
     ]
 
@@ -207,7 +207,7 @@ module _ (words : ℕ → ℕ → ℕ × ℕ) (at : Sets) (over : Ends) (by : Te
     sent_seen c (RowLeads r q row_ runs counts l same) who =
         let i = l.led.leads in
         let own = grown course.ballot (lead_seen r row_.was runs) in
-        subst (Each (AsksSeen all then_ base)) (sym (i.sends who)) (Each-append (AsksSeen all then_ base) (told_from at course course.newest i.executed who) (i.offers who) (all_told_seen all then_ base at course own course.newest i.executed who)
+        subst (Each (AsksSeen all then_ base)) (sym (i.sends who)) (Each-append (AsksSeen all then_ base) (taught_from at course course.newest i.executed who) (i.offers who) (all_told_seen all then_ base at course own course.newest i.executed who)
         (offers_seen all then_ base at (led_course l.led.bound course q.0) course.bound who (i.offers who) (i.asks who)))
     sent_seen c (RowElects r q ballot row_ off e same) who = elim (e.self_election.sends who) [
       | inl none ↦ subst (Each (AsksSeen all then_ base)) (sym none) tt
@@ -216,13 +216,13 @@ module _ (words : ℕ → ℕ → ℕ × ℕ) (at : Sets) (over : Ends) (by : Te
       where
         own : IsSeen all then_ base ballot
         own =
-            let top : q.0.top ≡ ballot = ((replicas_kept all then_ name seat.who q.0 (scenarios_kept_born scenario) row_.is).0.2 e.runs).0 ∙ e.leads.led.may.ballot in
-            let here : top_in base (view_at all then_ base.core.id ballot.node) ≡ ballot = ap (λ n. top_in base (view_at all then_ name n)) e.self_election.mine ∙ (ap (top_in base) row_.is ∙ top) in
+            let top : q.0.top ≡ ballot = ((replicas_kept all then_ name seat.who q.0 (scenarios_kept_born scenario) row_.fact).0.2 e.runs).0 ∙ e.leads.led.may.ballot in
+            let here : top_in base (view_at all then_ base.core.id ballot.node) ≡ ballot = ap (λ n. top_in base (view_at all then_ name n)) e.self_election.mine ∙ (ap (top_in base) row_.fact ∙ top) in
             subst (λ t. IsAtLeast t ballot) (sym here) (at_least_itself ballot)
 
     asked_then : (who : ℕ) → Each (AsksSeen all then_ base) (marks_then who)
     asked_then who = elim (cases_eq who seat.who) [
-      | inl is ↦ subst (λ n. Each (AsksSeen all then_ base) (marks_then n)) (sym is) own
+      | inl fact ↦ subst (λ n. Each (AsksSeen all then_ base) (marks_then n)) (sym fact) own
       | inr ne ↦ subst (Each (AsksSeen all then_ base)) (sym (row_in.others who ne)) (Each-append (AsksSeen all then_ base) (marks who) (sent_marks who) (marks_grown (marks who) (home.asked who)) (sent_seen step.later step.row who))
     ]
       where
@@ -273,19 +273,19 @@ module _ (words : ℕ → ℕ → ℕ × ℕ) (at : Sets) (over : Ends) (by : Te
     IsDelivered mail = (number : ℕ) × (event ≡ Deliver number) × (numbered (mails rows) number ≡ Some mail)
 
     delivered : (e : Event OrderLine) (mail : Mail) → event ≡ e → input_of (mails rows) e ≡ Some (Got mail) → IsDelivered mail
-    delivered (Deliver number) mail is got = got_by (numbered (mails rows) number) refl got
+    delivered (Deliver number) mail fact got = got_by (numbered (mails rows) number) refl got
       where
         got_by : (o : Option Mail) → numbered (mails rows) number ≡ o → ◌≡◌ {A = Option (Input Mail OrderLine)} (option_map Got o) (Some (Got mail)) → IsDelivered mail
         got_by None at_ g = cc
-        got_by (Some other) at_ g = (let same : other ≡ mail = cc in (number, is, at_ ∙ ap Some same))
-    delivered TickEvent mail is got = cc
-    delivered _ mail is got = cc
+        got_by (Some other) at_ g = (let same : other ≡ mail = cc in (number, fact, at_ ∙ ap Some same))
+    delivered TickEvent mail fact got = cc
+    delivered _ mail fact got = cc
 
     may_refuse : (node : NodeState) (mail : Mail) → value player_table seat rows ≡ Node node → input_of (mails rows) event ≡ Some (Got mail) → MayRefuse May node mail.from mail.body
-    may_refuse node mail is got = λ group r g here n named.
+    may_refuse node mail fact got = λ group r g here n named.
         let d = delivered event mail refl got in
         let same : group ≡ name = sym (found_name group node.replicas r here) ∙ named in
-        let view : view_at (births as_nodes scenario) rows base.core.id seat.who ≡ Some r = view_was all rows seat Go name born (Node node) is ∙ (ap (λ g_. replica_of g_ node.replicas) (sym same) ∙ here) in
+        let view : view_at (births as_nodes scenario) rows base.core.id seat.who ≡ Some r = view_was all rows seat Go name born (Node node) fact ∙ (ap (λ g_. replica_of g_ node.replicas) (sym same) ∙ here) in
         let promise : now.promise seat.who ≡ r.acceptor.promised = ap (promise_in base) view in
         (refused_by d.0 mail r d.1 d.2 view (g ∙ ap Some same) mail.body refl n, subst (IsSeen all rows base) promise (home.promised seat.who))
 
@@ -304,7 +304,7 @@ module _ (words : ℕ → ℕ → ℕ × ℕ) (at : Sets) (over : Ends) (by : Te
       where
         by_input : (o : Option (Input Mail OrderLine)) → input_of (mails rows) event ≡ o → AreSaid May (acted player_table (value player_table seat rows) o).1
         by_input None e = tt
-        by_input (Some input) e = input_said May (value player_table seat rows) input (no_tick event calm input e) (λ node mail is got. may_refuse node mail is (e ∙ ap Some got))
+        by_input (Some input) e = input_said May (value player_table seat rows) input (no_tick event calm input e) (λ node mail fact got. may_refuse node mail fact (e ∙ ap Some got))
 
     refusal_then : (mail : Mail) → IsRefusal May mail.to mail.body → RefusesSeen all then_ base mail
     refusal_then mail said = λ promised body. (let m : May base.core.id mail.to promised = subst (IsRefusal May mail.to) body said in let k = m refl in (k.0, grown promised k.1))

@@ -1,7 +1,7 @@
 -- Each child that a node makes by a mail is a group of the journal, as it began.
 use Rattle.std.proofs.Common.{◌≡◌, ℕ, ◌≤◌, eqb, true, List, [], ◌∷◌, ◌++◌, length, map, drop, Option, Some, None, inl, inr, refl, sym, ◌∙◌, ap, subst, arith}
 use Rattle.sc_base.specs.Definitions.{Among, Each, same_draw, is_member}
-use Rattle.sc_node_table.specs.Values.{Draw, Command, Base, Route, Mail, MailBody, Accepted as AcceptedMail, Learn, Node, Client, Seat}
+use Rattle.sc_node_table.specs.Values.{Draw, Command, Base, Route, Mail, MailBody, Accepted as AcceptedMail, Learn, Node, Seat}
 use Rattle.sc_base.proofs.Lemmas.{same_name, draw_is}
 use Rattle.sc_actor.specs.Definitions.{mails, numbered, value}
 use Rattle.sc_group_table.specs.machine.Definitions.{group_of, state_after}
@@ -19,7 +19,7 @@ use Rattle.sc_law_groups.proofs.GroupProofs.Lemmas.{first_of, h_of, held, IsOneO
 use Rattle.sc_law_groups.specs.whole.Definitions.{BeginsWell, OrdersAreAllowed, stories_at, MayQueue, IsHeardAt, PartiesAreApart, MergesFit}
 use Rattle.sc_law_groups.proofs.WholeProofs.Lemmas.{parties_are_apart, merges_fit, goes_on_from, speaks, members_stay_rosters, Holds}
 use Rattle.sc_live_journals.specs.rows.Definitions.{IsSeat, made_children, AreAsBegun}
-use Rattle.sc_live_journals.proofs.LogsProofs.Lemmas.{whole, prefix}
+use Rattle.sc_live_journals.proofs.LogsProofs.Lemmas.{no_client, one_node, whole, prefix}
 pub use Rattle.sc_live_journals.proofs.LogsProofs.LoggedChildren.{child_in}
 
 -- a replica's part of a row begins
@@ -44,14 +44,14 @@ mailed_kids : (ahead : Ahead) (base : Base) (made : Command → Type 0) (heard :
     → (mail : Mail) (body : MailBody) (r : ReplicaState) → IsReplica ahead base made before me r → (g : Draw) → group_of_mail body ≡ Some g → g ≡ base.core.id
     → IsTrue ahead base made heard before mail body → Each (IsChildOf ahead base made me before) (mailed mail.from body (r, [])).1
 unfolding mailed start
-mailed_kids ahead base made heard me before speaks some lawful requested mail (AcceptedMail g b slot) r k named into is t =
-    let same : g ≡ base.core.id = (let one : g ≡ named = cc in one ∙ is) in
+mailed_kids ahead base made heard me before speaks some lawful requested mail (AcceptedMail g b slot) r k named into fact t =
+    let same : g ≡ base.core.id = (let one : g ≡ named = cc in one ∙ fact) in
     let told = t (same_name g base.core.id same) in
     accepted_are ahead base made heard me before speaks some mail.from b slot told.0 r [] (start ahead base made heard me before lawful requested r k) told.1
-mailed_kids ahead base made heard me before speaks some lawful requested mail (Learn g slot c) r k named into is t =
-    let same : g ≡ base.core.id = (let one : g ≡ named = cc in one ∙ is) in
+mailed_kids ahead base made heard me before speaks some lawful requested mail (Learn g slot c) r k named into fact t =
+    let same : g ≡ base.core.id = (let one : g ≡ named = cc in one ∙ fact) in
     learnt_are ahead base made heard me before speaks some mail.from slot c r [] (start ahead base made heard me before lawful requested r k) (t (same_name g base.core.id same))
-mailed_kids ahead base made heard me before speaks some lawful requested mail _ r k named into is t = tt
+mailed_kids ahead base made heard me before speaks some lawful requested mail _ r k named into fact t = tt
 
 module _ (sources : Sources) (ahead : Ahead) (words : ℕ → ℕ → ℕ × ℕ) (scenario : Scenario) (route : Route) (b : BeginsWell sources ahead scenario route) (journal : Rows) (orders : OrdersAreAllowed sources ahead scenario journal) (lawful : Lawful ahead words scenario journal)
     (base : Base) (stands : Among base (groups_at ahead scenario.groups journal)) (rows more : Rows) (e : journal ≡ rows ++ more) where
@@ -91,17 +91,17 @@ module _ (sources : Sources) (ahead : Ahead) (words : ℕ → ℕ → ℕ × ℕ
 
   -- the child of a group is the one of its name
   as_begun : (n : ℕ) (parent : Base) → Among parent bases → (child : Base) → IsChildOf ahead parent (made parent) n (h_of rows parent) child → child.core.id ≡ base.core.id → (child ≡ base) × (is_member base.core.members n ≡ true)
-  as_begun n parent a child is same =
-      let log = is.prefix ++ is.command ∷ [] in
+  as_begun n parent a child fact same =
+      let log = fact.prefix ++ fact.command ∷ [] in
       let decided = decided_log ahead parent rows in
-      let on = goes_on_from ahead parent rows (then_.kept.parts parent a).lawful log is.is_log in
-      let birth = sym (births_are_children (state_after (group_of parent) is.prefix) is.command) ∙ is.child_is in
-      let there : Among child bases = found.prefixes parent a log (drop (length log) decided) on child (child_in (group_of parent) is.prefix is.command child birth) in
+      let on = goes_on_from ahead parent rows (then_.kept.parts parent a).lawful log fact.is_log in
+      let birth = sym (births_are_children (state_after (group_of parent) fact.prefix) fact.command) ∙ fact.child_is in
+      let there : Among child bases = found.prefixes parent a log (drop (length log) decided) on child (child_in (group_of parent) fact.prefix fact.command child birth) in
       let later = subst (λ xs. Among child (groups_at ahead scenario.groups xs)) (sym e) (stay.groups child there) in
       let one = found_all.apart child base later stands same in
-      (one, subst (λ (x : Base). is_member x.core.members n ≡ true) one is.member)
+      (one, subst (λ (x : Base). is_member x.core.members n ≡ true) one fact.member)
 
-  module _ (seat : Seat Player) (node : NodeState) (seated : IsSeat (births ahead scenario) seat) (is : value player_table seat rows ≡ Node node) where
+  module _ (seat : Seat Player) (node : NodeState) (seated : IsSeat (births ahead scenario) seat) (fact : value player_table seat rows ≡ Node node) where
     -- the node's number
     number : (n : ℕ) × (1 ≤ n) × (n ≤ scenario.nodes) × (value player_table (node_seat ahead scenario.groups scenario.policy n) rows ≡ Node node) × (n ≡ seat.who)
     number =
@@ -111,18 +111,12 @@ module _ (sources : Sources) (ahead : Ahead) (words : ℕ → ℕ → ℕ × ℕ
               let at = from_map (node_seat ahead scenario.groups scenario.policy) (numbers_from 1 scenario.nodes) seat a in
               let bounds = among_numbers 1 scenario.nodes at.0 at.1 in
               let most = bounds.1 in
-              (at.0, bounds.0, omega (arith, most), subst (λ (s : Seat Player). value player_table s rows ≡ Node node) (sym at.2) is, ap (λ (s : Seat Player). s.who) at.2))
+              (at.0, bounds.0, omega (arith, most), subst (λ (s : Seat Player). value player_table s rows ≡ Node node) (sym at.2) fact, ap (λ (s : Seat Player). s.who) at.2))
           | inr a ↦ (
               let at = from_map (client_seat route) scenario.clients seat a in
               let client = then_.kept.clients at.0 at.1 in
-              absurd (no_client client.client (sym client.value_is ∙ ap (λ (s : Seat Player). value player_table s rows) at.2 ∙ is)))
+              absurd (no_client client.client node (sym client.value_is ∙ ap (λ (s : Seat Player). value player_table s rows) at.2 ∙ fact)))
         ]
-      where
-        no_client : (client : _) → ◌≡◌ {A = Player} (Client client) (Node node) → ⊥
-        no_client client e = cc
-
-    one_node : (other : NodeState) → ◌≡◌ {A = Player} (Node other) (Node node) → other ≡ node
-    one_node other e = cc
 
     pub children_as_begun : (place : ℕ) (mail : Mail) (group : Draw) → numbered (mails rows) place ≡ Some mail → group_of_mail mail.body ≡ Some group
         → AreAsBegun base seat.who (made_children (replica_of group node.replicas) mail.from mail.body)
@@ -134,13 +128,13 @@ module _ (sources : Sources) (ahead : Ahead) (words : ℕ → ℕ → ℕ × ℕ
             let in_list = find_found (λ (s : ReplicaState). same_draw (name_of s) group) node.replicas r here in
             let named = draw_is (name_of r) group in_list.1 in
             let at = then_.kept.nodes number.0 number.1 number.2 in
-            let same : at.node ≡ node = one_node at.node (sym at.value_is ∙ number.3) in
+            let same : at.node ≡ node = one_node at.node node (sym at.value_is ∙ number.3) in
             let inside : Among r at.node.replicas = subst (λ (x : NodeState). Among r x.replicas) (sym same) in_list.0 in
-            let mine = Each-among (λ s. IsOneOf bases (name_of s)) at.node.replicas r at.is.known inside in
+            let mine = Each-among (λ s. IsOneOf bases (name_of s)) at.node.replicas r at.fact.known inside in
             let parent = mine.0 in
             let a = mine.1 in
             let part = then_.kept.parts parent a in
-            let was = held ahead parent (made parent) number.0 (h_of rows parent) at.node.replicas (at.is.holds parent a) r inside mine.2 in
+            let was = held ahead parent (made parent) number.0 (h_of rows parent) at.node.replicas (at.fact.holds parent a) r inside mine.2 in
             Each-weaker (IsChildOf ahead parent (made parent) number.0 (h_of rows parent)) (λ child. child.core.id ≡ base.core.id → (child ≡ base) × (is_member base.core.members seat.who ≡ true))
             (λ child k name. (let one = as_begun number.0 parent a child k name in (one.0, subst (λ who. is_member base.core.members who ≡ true) number.4 one.1)))
             (mailed mail.from mail.body (r, [])).1

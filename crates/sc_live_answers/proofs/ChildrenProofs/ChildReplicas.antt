@@ -15,7 +15,7 @@ use Rattle.sc_node_table.specs.Definitions.{ReplicaState, listed}
 use Rattle.sc_meaning.specs.sound.Definitions.{decided_log, Player, player_table, births, as_nodes}
 use Rattle.sc_live_steps.specs.calm.Definitions.{players, HasReplica}
 use Rattle.sc_law_entries.specs.logs.Definitions.{Rows}
-use Rattle.sc_live_steps.specs.following.Definitions.{Mark, Tells, Course, Sets, members_at, Tellers, IsRow, reported_of, told_from, marks_for}
+use Rattle.sc_live_steps.specs.following.Definitions.{Mark, Teaches, Course, Sets, members_at, SlotLeaders, IsRow, reported_of, taught_from, marks_for}
 use Rattle.sc_live_journals.specs.rows.Definitions.{view_at, progress_at, marks_at, taken_mark, begun_course, IsSeat, with_event}
 use Rattle.sc_live_journals.proofs.RowsProofs.Lemmas.{rows_are}
 use Rattle.sc_live_journals.proofs.MailProofs.Lemmas.{replicas_last}
@@ -28,17 +28,17 @@ use Rattle.sc_live_answers.proofs.ChildrenProofs.NamedChildren.{child_members, n
 
 -- ---- what a leader tells
 
-told_in : (at : Sets) (course : Course) (start more who slot : ℕ) → start ≤ slot → slot < start + more → (who ≡ course.ballot.node → ⊥) → is_member (members_at at slot) who ≡ true → Among (Tells slot) (told_from at course start more who)
+told_in : (at : Sets) (course : Course) (start more who slot : ℕ) → start ≤ slot → slot < start + more → (who ≡ course.ballot.node → ⊥) → is_member (members_at at slot) who ≡ true → Among (Teaches slot) (taught_from at course start more who)
 told_in at course start zero who slot low high ne member = absurd (omega (arith, low, high))
 told_in at course start (suc more) who slot low high ne member = elim (cases_eq slot start) [
-  | inl is ↦ Among-left (Tells slot) (reported_of at course start who) (told_from at course (start + 1) more who) (subst (Among (Tells slot)) (sym (first is)) (inl (ap (λ n. Tells n) (sym is))))
-  | inr no_ ↦ Among-right (Tells slot) (reported_of at course start who) (told_from at course (start + 1) more who) (told_in at course (start + 1) more who slot (past no_) (omega (arith, high)) ne member)
+  | inl fact ↦ Among-left (Teaches slot) (reported_of at course start who) (taught_from at course (start + 1) more who) (subst (Among (Teaches slot)) (sym (first fact)) (inl (ap (λ n. Teaches n) (sym fact))))
+  | inr no_ ↦ Among-right (Teaches slot) (reported_of at course start who) (taught_from at course (start + 1) more who) (told_in at course (start + 1) more who slot (past no_) (omega (arith, high)) ne member)
 ]
   where
-    first : slot ≡ start → reported_of at course start who ≡ Tells start ∷ []
-    first is =
+    first : slot ≡ start → reported_of at course start who ≡ Teaches start ∷ []
+    first fact =
         cond-false (eqb who course.ballot.node) [] _ (ne_eqb who course.ballot.node ne)
-        ∙ cond-true (is_member (members_at at start) who) (Tells start ∷ []) _ (subst (λ n. is_member (members_at at n) who ≡ true) is member)
+        ∙ cond-true (is_member (members_at at start) who) (Teaches start ∷ []) _ (subst (λ n. is_member (members_at at n) who ≡ true) fact member)
 
     past : (slot ≡ start → ⊥) → start + 1 ≤ slot
     past no_ = elim (cases_lt start slot) [ inl lt ↦ omega (arith, lt) | inr ge ↦ absurd (no_ (omega (arith, low, ge))) ]
@@ -48,7 +48,7 @@ listed_is None mark a = absurd a
 listed_is (Some m) mark (inl e) = ap Some e
 listed_is (Some m) mark (inr n) = absurd n
 
-module _ (bear : EntriesCreateChildren) (wb : ScenariosAreWellBorn) (words : ℕ → ℕ → ℕ × ℕ) (by : Tellers) (scenario : Scenario) (journal prefix rest : Rows) (base : Base) (group : IsGroupOf as_nodes words scenario journal base) (split : journal ≡ prefix ++ rest)
+module _ (bear : EntriesCreateChildren) (wb : ScenariosAreWellBorn) (words : ℕ → ℕ → ℕ × ℕ) (by : SlotLeaders) (scenario : Scenario) (journal prefix rest : Rows) (base : Base) (group : IsGroupOf as_nodes words scenario journal base) (split : journal ≡ prefix ++ rest)
     (one : HasOneLog (logged_sets as_nodes base journal) (over_at as_nodes base journal) by (births as_nodes scenario) prefix base) (so : IsSentSo (births as_nodes scenario) prefix base) where
   abbrev at : Sets
   at = logged_sets as_nodes base journal
@@ -73,7 +73,7 @@ module _ (bear : EntriesCreateChildren) (wb : ScenariosAreWellBorn) (words : ℕ
       (kind : IsGroupRow (logged_sets as_nodes base journal) (over_at as_nodes base journal) by (births as_nodes scenario) rows seat event base course later) (old : AreBorn words scenario journal rows base course)
       (slot : ℕ) (child : Base) (who : ℕ) (b : IsBirth (decided_log as_nodes base journal) base slot child) (member : is_member child.core.members who ≡ true) where
     abbrev Goal : Type 0
-    Goal = HasReplica (view_at (births as_nodes scenario) (with_event rows seat event)) child.core.id who ⊎ Among (Tells slot) (marks_at (players words (births as_nodes scenario)) (with_event rows seat event) base.core.id who)
+    Goal = HasReplica (view_at (births as_nodes scenario) (with_event rows seat event)) child.core.id who ⊎ Among (Teaches slot) (marks_at (players words (births as_nodes scenario)) (with_event rows seat event) base.core.id who)
 
     abbrev sent : ℕ → List Mark
     sent to = marks_for base.core.id to (row_of player_table seat rows event).sent
@@ -87,25 +87,25 @@ module _ (bear : EntriesCreateChildren) (wb : ScenariosAreWellBorn) (words : ℕ
     lasts has = (let l = replicas_last words scenario rows (row_of player_table seat rows event ∷ []) child.core.id who has.0 timely has.1 in inl (l.0, l.1))
 
     own_member : who ≡ seat.who → is_member child.core.members seat.who ≡ true
-    own_member is = subst (λ n. is_member child.core.members n ≡ true) is member
+    own_member fact = subst (λ n. is_member child.core.members n ≡ true) fact member
 
     has_it : who ≡ seat.who → (x : ReplicaState) × (view_at (births as_nodes scenario) (with_event rows seat event) child.core.id seat.who ≡ Some x) → Goal
-    has_it is has = inl (has.0, subst (λ n. view_at seats (with_event rows seat event) child.core.id n ≡ Some has.0) (sym is) has.1)
+    has_it fact has = inl (has.0, subst (λ n. view_at seats (with_event rows seat event) child.core.id n ≡ Some has.0) (sym fact) has.1)
 
     -- a Learn for it is taken, or still under way
-    told_still : Among (Tells slot) (marks_at (players words (births as_nodes scenario)) rows base.core.id who) → Goal
+    told_still : Among (Teaches slot) (marks_at (players words (births as_nodes scenario)) rows base.core.id who) → Goal
     told_still a = elim (cases_eq who seat.who) [
-      | inl is ↦ own is (Among-either (Tells slot) (listed (taken_mark name (mails rows) event)) moved.left (subst (Among (Tells slot)) (ap (marks_at (players words seats) rows name) is ∙ moved.takes) a))
-      | inr ne ↦ inr (subst (Among (Tells slot)) (sym (moved.others who ne)) (Among-left (Tells slot) (marks_at (players words seats) rows name who) (sent who) a))
+      | inl fact ↦ own fact (Among-either (Teaches slot) (listed (taken_mark name (mails rows) event)) moved.left (subst (Among (Teaches slot)) (ap (marks_at (players words seats) rows name) fact ∙ moved.takes) a))
+      | inr ne ↦ inr (subst (Among (Teaches slot)) (sym (moved.others who ne)) (Among-left (Teaches slot) (marks_at (players words seats) rows name who) (sent who) a))
     ]
       where
-        own : who ≡ seat.who → Among (Tells slot) (listed (taken_mark name (mails rows) event)) ⊎ Among (Tells slot) moved.left → Goal
-        own is (inl t) =
-            has_it is
-            (learnt_creates bear words scenario journal prefix rest split base group at (over_at as_nodes base journal) by (wb scenario) one so rows seat course born was slot child b (own_member is) event row calm timely
-            (listed_is (taken_mark name (mails rows) event) (Tells slot) t))
-        own is (inr l) =
-            inr (subst (Among (Tells slot)) (sym (ap (marks_at (players words seats) (with_event rows seat event) name) is ∙ moved.own)) (Among-left (Tells slot) moved.left (sent seat.who) l))
+        own : who ≡ seat.who → Among (Teaches slot) (listed (taken_mark name (mails rows) event)) ⊎ Among (Teaches slot) moved.left → Goal
+        own fact (inl t) =
+            has_it fact
+            (learnt_creates bear words scenario journal prefix rest split base group at (over_at as_nodes base journal) by (wb scenario) one so rows seat course born was slot child b (own_member fact) event row calm timely
+            (listed_is (taken_mark name (mails rows) event) (Teaches slot) t))
+        own fact (inr l) =
+            inr (subst (Among (Teaches slot)) (sym (ap (marks_at (players words seats) (with_event rows seat event) name) fact ∙ moved.own)) (Among-left (Teaches slot) moved.left (sent seat.who) l))
 
     before : slot < course.newest → Goal
     before low = elim (old slot child who b low member) [ inl has ↦ lasts has | inr a ↦ told_still a ]
@@ -126,12 +126,12 @@ module _ (bear : EntriesCreateChildren) (wb : ScenariosAreWellBorn) (words : ℕ
         let reach : slot < course.newest + leads.executed = (let n = leads.newest in omega (arith, n, top, low)) in
         let place = (was.followed.given.gives seat.who r row_.was runs).0.newest in
         elim (cases_eq who seat.who) [
-          | inl is ↦ has_it is
-              (lead_creates bear words scenario journal prefix rest split base group at (over_at as_nodes base journal) by (wb scenario) one so rows seat course born was slot child b (own_member is) event row calm timely
-              r after.0 row_.was row_.is runs leads.takes (omega (arith, place, high)) (omega (arith, top, low)))
-          | inr ne ↦ inr (subst (Among (Tells slot)) (sym (moved.others who ne)) (Among-right (Tells slot) (marks_at (players words seats) rows name who) (sent who)
-              (subst (Among (Tells slot)) (sym (leads.sends who))
-              (Among-left (Tells slot) (told_from at course course.newest leads.executed who) (leads.offers who)
+          | inl fact ↦ has_it fact
+              (lead_creates bear words scenario journal prefix rest split base group at (over_at as_nodes base journal) by (wb scenario) one so rows seat course born was slot child b (own_member fact) event row calm timely
+              r after.0 row_.was row_.fact runs leads.takes (omega (arith, place, high)) (omega (arith, top, low)))
+          | inr ne ↦ inr (subst (Among (Teaches slot)) (sym (moved.others who ne)) (Among-right (Teaches slot) (marks_at (players words seats) rows name who) (sent who)
+              (subst (Among (Teaches slot)) (sym (leads.sends who))
+              (Among-left (Teaches slot) (taught_from at course course.newest leads.executed who) (leads.offers who)
               (told_in at course course.newest leads.executed who slot high reach (λ e. ne (e ∙ sym leads.mine)) (was_member slot child who b member))))))
         ]
 
@@ -160,11 +160,11 @@ module _ (bear : EntriesCreateChildren) (wb : ScenariosAreWellBorn) (words : ℕ
     Begin rows = (more : Rows) → prefix ≡ rows ++ more → IsBornOn by words scenario journal rows base
 
     after_row : (rows : Rows) (row : Row Mail OrderLine) → AreInTime (players words (births as_nodes scenario)) (rows ++ row ∷ []) → Begin rows → Begin (rows ++ row ∷ [])
-    after_row rows row timely was more is =
+    after_row rows row timely was more fact =
         let calm = (last_in_time (players words seats) rows row timely).0 in
-        let old = was (row ∷ more) (is ∙ append_assoc rows (row ∷ []) more) in
+        let old = was (row ∷ more) (fact ∙ append_assoc rows (row ∷ []) more) in
         let timely_too = subst (λ (r : Row Mail OrderLine). AreInTime (players words seats) (rows ++ r ∷ [])) calm.row_is timely in
-        let place : IsRowOf prefix rows calm.seat calm.event = record { more = more; is = is ∙ ap (λ (r : Row Mail OrderLine). (rows ++ r ∷ []) ++ more) calm.row_is } in
+        let place : IsRowOf prefix rows calm.seat calm.event = record { more = more; fact = fact ∙ ap (λ (r : Row Mail OrderLine). (rows ++ r ∷ []) ++ more) calm.row_is } in
         let step = events_go_on at (over_at as_nodes base journal) by words seats prefix base (wb scenario) one so rows calm.seat calm.event old.course place calm.born calm.calm timely_too old.led in
         subst (λ (r : Row Mail OrderLine). IsBornOn by words scenario journal (rows ++ r ∷ []) base) (sym calm.row_is)
         (record {

@@ -14,9 +14,9 @@ use Rattle.sc_scenario.specs.declared.scenario.scenarios.Scenario.{Scenario}
 use Rattle.sc_node_table.specs.Definitions.{NodeState, replica_of, with_replica, with_new, with_born, with_children, group_of_mail, may_come, taken_by, routed, on_mail, group_of_order, ordered_row, ReplicaState, Executed, listed, name_of, next, born_replica, mailed, stepped, slots_ahead}
 use Rattle.sc_meaning.specs.sound.Definitions.{decided_log, Player, player_table, births, as_nodes}
 use Rattle.sc_live_steps.specs.calm.Definitions.{players}
-use Rattle.sc_live_steps.proofs.CalmProofs.Lemmas.{children_found}
+use Rattle.sc_live_steps.proofs.CalmStepsProofs.Lemmas.{children_found}
 use Rattle.sc_law_entries.specs.logs.Definitions.{Rows}
-use Rattle.sc_live_steps.specs.following.Definitions.{Mark, Asks, Votes, Tells, Installs, Prepares, Promises, mark_of, Course, Sets, Tellers, IsLeadOf, IsAside, IsCount}
+use Rattle.sc_live_steps.specs.following.Definitions.{Mark, Asks, Votes, Teaches, Installs, Prepares, Promises, mark_of, Course, Sets, SlotLeaders, IsLeadOf, IsAside, IsCount}
 use Rattle.sc_live_steps.proofs.FollowingProofs.Lemmas.{same_mark}
 use Rattle.sc_live_journals.specs.rows.Definitions.{view_at, progress_at, mark_in, taken_mark, TakesMail, HoldsReplica as Holds, IsScene, IsSeat, with_event, IsReplicasRow}
 use Rattle.sc_live_journals.proofs.RowsProofs.Lemmas.{fit, delivered, others_idle, rows_replicas, found_name, new_is, view_is, view_was, Plays, Found, found_well, replay_well}
@@ -46,29 +46,29 @@ children_born (c ∷ cs) node child (inr a) = children_born cs (with_born c node
 
 -- ---- marks
 
-no_tell : (b : Bool) (mark : Mark) (slot : ℕ) → (mark ≡ Tells slot → ⊥) → cond b (Some mark) None ≡ Some (Tells slot) → ⊥
-no_tell b mark slot no_ = cond_both b (Some mark) None (λ o. o ≡ Some (Tells slot) → ⊥) (λ _ e. no_ (same_Some mark (Tells slot) e)) (λ _ e. none-some (Tells slot) e)
+no_tell : (b : Bool) (mark : Mark) (slot : ℕ) → (mark ≡ Teaches slot → ⊥) → cond b (Some mark) None ≡ Some (Teaches slot) → ⊥
+no_tell b mark slot no_ = cond_both b (Some mark) None (λ o. o ≡ Some (Teaches slot) → ⊥) (λ _ e. no_ (same_Some mark (Teaches slot) e)) (λ _ e. none-some (Teaches slot) e)
 
 -- the mail that brings an entry is a Learn
-told_body : (name : Draw) (from slot : ℕ) (body : MailBody) → mark_of name from body ≡ Some (Tells slot) → (command : Command) × (body ≡ Learn name slot command)
+told_body : (name : Draw) (from slot : ℕ) (body : MailBody) → mark_of name from body ≡ Some (Teaches slot) → (command : Command) × (body ≡ Learn name slot command)
 told_body name from slot (Learn g other command) e =
-    cond_both (same_draw g name) (Some (Tells other)) None (λ o. o ≡ Some (Tells slot) → (c : Command) × (Learn g other command ≡ Learn name slot c))
-    (λ t f. (let same : other ≡ slot = told_slot other slot (same_Some (Tells other) (Tells slot) f) in (command, ap (λ n. Learn n other command) (draw_is g name t) ∙ ap (λ n. Learn name n command) same)))
-    (λ _ f. absurd (none-some (Tells slot) f)) e
+    cond_both (same_draw g name) (Some (Teaches other)) None (λ o. o ≡ Some (Teaches slot) → (c : Command) × (Learn g other command ≡ Learn name slot c))
+    (λ t f. (let same : other ≡ slot = told_slot other slot (same_Some (Teaches other) (Teaches slot) f) in (command, ap (λ n. Learn n other command) (draw_is g name t) ∙ ap (λ n. Learn name n command) same)))
+    (λ _ f. absurd (none-some (Teaches slot) f)) e
   where
-    told_slot : (one other : ℕ) → Tells one ≡ Tells other → one ≡ other
+    told_slot : (one other : ℕ) → Teaches one ≡ Teaches other → one ≡ other
     told_slot one other f = cc
 told_body name from slot (Accept g ballot other command) e = absurd (no_tell (same_draw g name) (Asks ballot other) slot (λ f. cc) e)
 told_body name from slot (Accepted g ballot other) e = absurd (no_tell (same_draw g name) (Votes from ballot other) slot (λ f. cc) e)
 told_body name from slot (Install g other base sets) e = absurd (no_tell (same_draw g name) (Installs other) slot (λ f. cc) e)
 told_body name from slot (Prepare g ballot other) e = absurd (no_tell (same_draw g name) (Prepares ballot) slot (λ f. cc) e)
 told_body name from slot (Promise g ballot reports) e = absurd (no_tell (same_draw g name) (Promises from ballot) slot (λ f. cc) e)
-told_body name from slot _ e = absurd (none-some (Tells slot) e)
+told_body name from slot _ e = absurd (none-some (Teaches slot) e)
 
 past_next : (low slot high : ℕ) → low ≤ slot → slot < high → high ≡ low → ⊥
 past_next low slot high least most same = omega (arith, least, most, same)
 
-module _ (bear : EntriesCreateChildren) (words : ℕ → ℕ → ℕ × ℕ) (scenario : Scenario) (journal prefix rest : Rows) (split : journal ≡ prefix ++ rest) (base : Base) (group : IsGroupOf as_nodes words scenario journal base) (at : Sets) (over : Ends) (by : Tellers)
+module _ (bear : EntriesCreateChildren) (words : ℕ → ℕ → ℕ × ℕ) (scenario : Scenario) (journal prefix rest : Rows) (split : journal ≡ prefix ++ rest) (base : Base) (group : IsGroupOf as_nodes words scenario journal base) (at : Sets) (over : Ends) (by : SlotLeaders)
     (wb : AreWellBorn (births as_nodes scenario)) (one : HasOneLog at over by (births as_nodes scenario) prefix base) (so : IsSentSo (births as_nodes scenario) prefix base)
     (rows : Rows) (seat : Seat Player) (course : Course) (born : IsSeat (births as_nodes scenario) seat) (was : IsWellLed at over by words (births as_nodes scenario) rows base course) where
   abbrev all_births : List (Seat Player)
@@ -81,15 +81,15 @@ module _ (bear : EntriesCreateChildren) (words : ℕ → ℕ → ℕ × ℕ) (sc
   abbrev pub Has : Event OrderLine → Draw → Type 0
   Has event of = (x : ReplicaState) × (view_at (births as_nodes scenario) (with_event rows seat event) of seat.who ≡ Some x)
 
-  module _ (node : NodeState) (is : value player_table seat rows ≡ Node node) where
+  module _ (node : NodeState) (fact : value player_table seat rows ≡ Node node) where
     plays : Plays seat.who (Node node)
-    plays = subst (Plays seat.who) is (replay_well seat.who seat.who rows seat.actor [] (plays_of seat.who seat.actor (wb.well seat born)))
+    plays = subst (Plays seat.who) fact (replay_well seat.who seat.who rows seat.actor [] (plays_of seat.who seat.actor (wb.well seat born)))
 
     view_of : (r : ReplicaState) → replica_of name node.replicas ≡ Some r → view_at all_births rows name seat.who ≡ Some r
-    view_of r here = view_was all_births rows seat Go name born (Node node) is ∙ here
+    view_of r here = view_was all_births rows seat Go name born (Node node) fact ∙ here
 
     scene : IsScene at words (births as_nodes scenario) rows seat node base course
-    scene = record { rosters = one.log.rosters; seated = born; is = is; followed = was.followed }
+    scene = record { rosters = one.log.rosters; seated = born; fact = fact; followed = was.followed }
 
     module _ (r : ReplicaState) (here : replica_of base.core.id node.replicas ≡ Some r) where
       holds : Holds seat node base r
@@ -98,9 +98,9 @@ module _ (bear : EntriesCreateChildren) (words : ℕ → ℕ → ℕ × ℕ) (sc
       has : {event : Event OrderLine} → IsRowOf prefix rows seat event → HasReplica as_nodes scenario journal base rows seat node r
       has {event} row = record {
         more = row_of player_table seat rows event ∷ row.more ++ rest;
-        prefix = split ∙ (ap (λ rs. rs ++ rest) (row.is ∙ append_assoc rows (row_of player_table seat rows event ∷ []) row.more) ∙ append_assoc rows (row_of player_table seat rows event ∷ row.more) rest);
+        prefix = split ∙ (ap (λ rs. rs ++ rest) (row.fact ∙ append_assoc rows (row_of player_table seat rows event ∷ []) row.more) ∙ append_assoc rows (row_of player_table seat rows event ∷ row.more) rest);
         seated = born;
-        is = is;
+        fact = fact;
         here = here;
       }
 
@@ -116,12 +116,12 @@ module _ (bear : EntriesCreateChildren) (words : ℕ → ℕ → ℕ × ℕ) (sc
             let after : Executed = mailed mail.from mail.body (r, []) in
             let b = children_born after.1 (record node { replicas = with_replica name after.0.0 node.replicas }) child a in (
               b.0,
-              view_is all_births rows seat (Deliver number) child.core.id born (Node node) is (Some (Got mail)) (delivered rows number mail d.sent)
+              view_is all_births rows seat (Deliver number) child.core.id born (Node node) fact (Some (Got mail)) (delivered rows number mail d.sent)
                   ∙ (ap (λ (step : NodeState × List Mail). replica_of child.core.id step.0.replicas) taken ∙ b.1),
             )
 
         row_ : IsReplicasRow (births as_nodes scenario) rows seat (Deliver number) base.core.id (Some r) (mailed mail.from mail.body (r, [])).0
-        row_ = rows_replicas.taken all_births rows seat number mail name node r born is d.sent comes named here
+        row_ = rows_replicas.taken all_births rows seat number mail name node r born fact d.sent comes named here
 
         takes : AreInTime (players words (births as_nodes scenario)) (with_event rows seat (Deliver number)) → TakesMail words (births as_nodes scenario) rows seat number mail
         takes timely = record { timely = timely; sent = d.sent; comes = comes }
@@ -130,15 +130,15 @@ module _ (bear : EntriesCreateChildren) (words : ℕ → ℕ → ℕ × ℕ) (sc
         told_child : AreInTime (players words (births as_nodes scenario)) (with_event rows seat (Deliver number)) → (slot : ℕ) (command : Command) → mail.body ≡ Learn base.core.id slot command
             → (child : Base) → IsBirth (decided_log as_nodes base journal) base slot child → is_member child.core.members seat.who ≡ true → Has (Deliver number) child.core.id
         told_child timely slot command body child b member =
-            let marked : mark_of name mail.from mail.body ≡ Some (Tells slot) = ap (mark_of name mail.from) body ∙ same_mark name (Tells slot) in
-            let place = (fit at words all_births rows seat node base course scene number mail (takes timely) r holds (Tells slot) marked (mailed mail.from mail.body (r, [])).0 row_).1 in
+            let marked : mark_of name mail.from mail.body ≡ Some (Teaches slot) = ap (mark_of name mail.from) body ∙ same_mark name (Teaches slot) in
+            let place = (fit at words all_births rows seat node base course scene number mail (takes timely) r holds (Teaches slot) marked (mailed mail.from mail.body (r, [])).0 row_).1 in
             let low = (one.told rows seat number mail slot command r d body (view_of r here) place).0 in
             child_there child (bear.learnt as_nodes words scenario journal base group rows seat node r (has d.row) number mail slot command d.sent body place low child b (ap (is_member child.core.members) holds.well.0 ∙ member))
 
     -- where a mail brings it an entry
-    module _ (number : ℕ) (mail : Mail) (d : Delivers prefix rows seat number mail) (timely : AreInTime (players words (births as_nodes scenario)) (with_event rows seat (Deliver number))) (slot : ℕ) (marked : mark_of base.core.id mail.from mail.body ≡ Some (Tells slot)) where
+    module _ (number : ℕ) (mail : Mail) (d : Delivers prefix rows seat number mail) (timely : AreInTime (players words (births as_nodes scenario)) (with_event rows seat (Deliver number))) (slot : ℕ) (marked : mark_of base.core.id mail.from mail.body ≡ Some (Teaches slot)) where
       no_mark : mark_of base.core.id mail.from mail.body ≡ None → ⊥
-      no_mark none = none-some (Tells slot) (sym none ∙ marked)
+      no_mark none = none-some (Teaches slot) (sym none ∙ marked)
 
       tells_child : (child : Base) → IsBirth (decided_log as_nodes base journal) base slot child → is_member child.core.members seat.who ≡ true → Has (Deliver number) child.core.id
       tells_child child b member = by_replica (replica_of name node.replicas) refl
@@ -147,7 +147,7 @@ module _ (bear : EntriesCreateChildren) (words : ℕ → ℕ → ℕ × ℕ) (sc
           learn = told_body name mail.from slot mail.body marked
 
           by_replica : (o : Option ReplicaState) → replica_of name node.replicas ≡ o → Has (Deliver number) child.core.id
-          by_replica None here = elim (so.finds rows seat number mail node d born is here) [
+          by_replica None here = elim (so.finds rows seat number mail node d born fact here) [
             | inl none ↦ absurd (no_mark none)
             | inr i ↦ absurd (no_install (sym learn.1 ∙ i.3))
           ]
@@ -190,7 +190,7 @@ module _ (bear : EntriesCreateChildren) (words : ℕ → ℕ → ℕ × ℕ) (sc
 
       module _ (comes : may_come mail.from mail.body ≡ true) (named : group_of_mail mail.body ≡ Some base.core.id) where
         as_before : next (mailed mail.from mail.body (r, [])).0.0 ≡ next r → Goal
-        as_before same = still (Deliver number) d.row r after here then_ runs slot child least most b member (mailed mail.from mail.body (r, [])).0.0 (row_ r here number mail d comes named).is same
+        as_before same = still (Deliver number) d.row r after here then_ runs slot child least most b member (mailed mail.from mail.body (r, [])).0.0 (row_ r here number mail d comes named).fact same
 
         aside : IsAside r mail.body → Goal
         aside a = as_before (asides_stay at (progress_at all_births rows base course) r leads_so mail.from mail.body a)
@@ -207,12 +207,12 @@ module _ (bear : EntriesCreateChildren) (words : ℕ → ℕ → ℕ × ℕ) (sc
         by_body (Prepare g ballot from_slot) e =
             uncounted (Prepares ballot) (λ x. x) (ap (mark_of name mail.from) (e ∙ ap (λ n. Prepare n ballot from_slot) (some_is g (sym (ap group_of_mail e) ∙ named))) ∙ same_mark name (Prepares ballot))
         by_body (Learn g other command) e =
-            uncounted (Tells other) (λ x. x) (ap (mark_of name mail.from) (e ∙ ap (λ n. Learn n other command) (some_is g (sym (ap group_of_mail e) ∙ named))) ∙ same_mark name (Tells other))
+            uncounted (Teaches other) (λ x. x) (ap (mark_of name mail.from) (e ∙ ap (λ n. Learn n other command) (some_is g (sym (ap group_of_mail e) ∙ named))) ∙ same_mark name (Teaches other))
         by_body (Install g other state sets) e =
             uncounted (Installs other) (λ x. x) (ap (mark_of name mail.from) (e ∙ ap (λ n. Install n other state sets) (some_is g (sym (ap group_of_mail e) ∙ named))) ∙ same_mark name (Installs other))
         by_body (Accepted g ballot other) e =
             let body : mail.body ≡ Accepted name ballot other = e ∙ ap (λ n. Accepted n ballot other) (some_is g (sym (ap group_of_mail e) ∙ named)) in
-            let own = same_Some after (mailed mail.from mail.body (r, [])).0.0 (sym then_ ∙ (row_ r here number mail d comes named).is) in
+            let own = same_Some after (mailed mail.from mail.body (r, [])).0.0 (sym then_ ∙ (row_ r here number mail d comes named).fact) in
             child_there r here number mail d comes named child
             (bear.voted as_nodes words scenario journal base group rows seat node r (has r here d.row) runs number mail ballot other d.sent body slot child least (subst (λ (q : ReplicaState). slot < next q) own most) b
             (ap (is_member child.core.members) (holds r here).well.0 ∙ member))
@@ -228,17 +228,17 @@ module _ (bear : EntriesCreateChildren) (words : ℕ → ℕ → ℕ × ℕ) (sc
       own_group named = elim (cases_Bool (may_come mail.from mail.body)) [
         | inl comes ↦ by_body comes named mail.body refl
         | inr barred ↦ elim (so.comes rows seat number mail d) [
-          | inl none ↦ stays (others_idle.barred all_births rows seat number mail base node born is d.sent none barred).view
+          | inl none ↦ stays (others_idle.barred all_births rows seat number mail base node born fact d.sent none barred).view
           | inr comes ↦ absurd (true≢false (sym comes ∙ barred))
         ]
       ]
 
       by_group : (o : Option Draw) → group_of_mail mail.body ≡ o → Goal
-      by_group None e = stays (others_idle.stray all_births rows seat number mail base node born is d.sent e).view
+      by_group None e = stays (others_idle.stray all_births rows seat number mail base node born fact d.sent e).view
       by_group (Some g) e = elim (cases_Bool (same_draw g name)) [
         | inl t ↦ own_group (e ∙ ap Some (draw_is g name t))
         | inr f ↦ (let ne : g ≡ name → ⊥ = λ i. true≢false (sym (same_name g name i) ∙ f) in
-            elim (others_idle.other all_births rows seat number mail base g node born is plays.0 d.sent e ne (one.born rows seat number mail node g d born is e ne)).view [
+            elim (others_idle.other all_births rows seat number mail base g node born fact plays.0 d.sent e ne (one.born rows seat number mail node g d born fact e ne)).view [
               | inl same ↦ stays same
               | inr makes ↦ absurd (none-some r (sym makes.0 ∙ view_of r here))
             ])
@@ -254,10 +254,10 @@ module _ (bear : EntriesCreateChildren) (words : ℕ → ℕ → ℕ × ℕ) (sc
       ordered = elim (cases_Bool (same_draw (group_of_order line.order) name)) [
         | inl t ↦ (let group_is = draw_is (group_of_order line.order) name t in
             let there : replica_of (group_of_order line.order) node.replicas ≡ Some r = ap (λ n. replica_of n node.replicas) group_is ∙ here in
-            let row_is = subst (λ n. IsReplicasRow all_births rows seat (Told line) n (Some r) (ordered_row node.draws line (r, []))) group_is (rows_replicas.ordered all_births rows seat line node r born is there) in
-            still (Told line) row r after here then_ runs slot child least most b member (ordered_row node.draws line (r, [])).0 row_is.is order_stays)
+            let row_is = subst (λ n. IsReplicasRow all_births rows seat (Told line) n (Some r) (ordered_row node.draws line (r, []))) group_is (rows_replicas.ordered all_births rows seat line node r born fact there) in
+            still (Told line) row r after here then_ runs slot child least most b member (ordered_row node.draws line (r, [])).0 row_is.fact order_stays)
         | inr f ↦ same_view (Told line) row r after here then_ runs slot child least most b member
-            (others_idle.ordered all_births rows seat line base node born is (λ i. true≢false (sym (same_name (group_of_order line.order) name i) ∙ f))).view
+            (others_idle.ordered all_births rows seat line base node born fact (λ i. true≢false (sym (same_name (group_of_order line.order) name i) ∙ f))).view
       ]
 
   -- ---- each event
@@ -268,20 +268,20 @@ module _ (bear : EntriesCreateChildren) (words : ℕ → ℕ → ℕ × ℕ) (sc
   module _ (slot : ℕ) (child : Base) (b : IsBirth (decided_log as_nodes base journal) base slot child) (member : is_member child.core.members seat.who ≡ true) where
     -- a node to which the Learn of the entry is delivered has the child
     pub learnt_creates : (event : Event OrderLine) → IsRowOf prefix rows seat event → IsCalmEvent (players words (births as_nodes scenario)) rows seat.who event → AreInTime (players words (births as_nodes scenario)) (with_event rows seat event)
-        → taken_mark base.core.id (mails rows) event ≡ Some (Tells slot) → Has event child.core.id
+        → taken_mark base.core.id (mails rows) event ≡ Some (Teaches slot) → Has event child.core.id
     learnt_creates event row calm timely marked = each_player (value player_table seat rows) event refl row calm timely marked
       where
         each_player : (player : Player) (e : Event OrderLine) → value player_table seat rows ≡ player → IsRowOf prefix rows seat e → IsCalmEvent (players words all_births) rows seat.who e → AreInTime (players words all_births) (with_event rows seat e)
-            → taken_mark name (mails rows) e ≡ Some (Tells slot) → Has e child.core.id
-        each_player (Client client) (Deliver number) is row_e calm_e timely_e m =
+            → taken_mark name (mails rows) e ≡ Some (Teaches slot) → Has e child.core.id
+        each_player (Client client) (Deliver number) fact row_e calm_e timely_e m =
             let f = takes_first (players words all_births) rows seat.who number (tidy (Deliver number) timely_e) (is_born-from (players words all_births) seat.who seat born) calm_e in
-            absurd (none-some (Tells slot) (sym (ap (mark_in name) f.sent ∙ so.clients rows seat number f.mail client (record { row = row_e; sent = f.sent }) born is) ∙ m))
-        each_player (Node node) (Deliver number) is row_e calm_e timely_e m =
+            absurd (none-some (Teaches slot) (sym (ap (mark_in name) f.sent ∙ so.clients rows seat number f.mail client (record { row = row_e; sent = f.sent }) born fact) ∙ m))
+        each_player (Node node) (Deliver number) fact row_e calm_e timely_e m =
             let f = takes_first (players words all_births) rows seat.who number (tidy (Deliver number) timely_e) (is_born-from (players words all_births) seat.who seat born) calm_e in
-            tells_child node is number f.mail (record { row = row_e; sent = f.sent }) timely_e slot (sym (ap (mark_in name) f.sent) ∙ m) child b member
-        each_player player Go is row_e calm_e timely_e m = absurd (none-some (Tells slot) m)
-        each_player player (Told line) is row_e calm_e timely_e m = absurd (none-some (Tells slot) m)
-        each_player player _ is row_e calm_e timely_e m = absurd calm_e
+            tells_child node fact number f.mail (record { row = row_e; sent = f.sent }) timely_e slot (sym (ap (mark_in name) f.sent) ∙ m) child b member
+        each_player player Go fact row_e calm_e timely_e m = absurd (none-some (Teaches slot) m)
+        each_player player (Told line) fact row_e calm_e timely_e m = absurd (none-some (Teaches slot) m)
+        each_player player _ fact row_e calm_e timely_e m = absurd calm_e
 
     -- a leader that executes the entry has the child
     pub lead_creates : (event : Event OrderLine) → IsRowOf prefix rows seat event → IsCalmEvent (players words (births as_nodes scenario)) rows seat.who event → AreInTime (players words (births as_nodes scenario)) (with_event rows seat event)
@@ -290,14 +290,14 @@ module _ (bear : EntriesCreateChildren) (words : ℕ → ℕ → ℕ × ℕ) (sc
     lead_creates event row calm timely r after view_r view_after runs counts least most = each_player (value player_table seat rows) event refl row calm timely view_after counts
       where
         here : (node : NodeState) → value player_table seat rows ≡ Node node → replica_of name node.replicas ≡ Some r
-        here node is = sym (view_was all_births rows seat Go name born (Node node) is) ∙ view_r
+        here node fact = sym (view_was all_births rows seat Go name born (Node node) fact) ∙ view_r
 
         each_player : (player : Player) (e : Event OrderLine) → value player_table seat rows ≡ player → IsRowOf prefix rows seat e → IsCalmEvent (players words all_births) rows seat.who e → AreInTime (players words all_births) (with_event rows seat e)
             → view_at all_births (with_event rows seat e) name seat.who ≡ Some after → Each IsCount (listed (taken_mark name (mails rows) e)) → Has e child.core.id
-        each_player (Client client) e is row_e calm_e timely_e then_ counts_e = absurd (none-some r (sym (view_was all_births rows seat Go name born (Client client) is) ∙ view_r))
-        each_player (Node node) (Deliver number) is row_e calm_e timely_e then_ counts_e =
+        each_player (Client client) e fact row_e calm_e timely_e then_ counts_e = absurd (none-some r (sym (view_was all_births rows seat Go name born (Client client) fact) ∙ view_r))
+        each_player (Node node) (Deliver number) fact row_e calm_e timely_e then_ counts_e =
             let f = takes_first (players words all_births) rows seat.who number (tidy (Deliver number) timely_e) (is_born-from (players words all_births) seat.who seat born) calm_e in
-            by_group node is number f.mail (record { row = row_e; sent = f.sent }) r after (here node is) then_ runs counts_e slot child least most b member (group_of_mail f.mail.body) refl
-        each_player (Node node) Go is row_e calm_e timely_e then_ counts_e = same_view node is Go row_e r after (here node is) then_ runs slot child least most b member (others_idle.go all_births rows seat base node born is).view
-        each_player (Node node) (Told line) is row_e calm_e timely_e then_ counts_e = ordered node is line row_e r after (here node is) then_ runs slot child least most b member
-        each_player (Node node) _ is row_e calm_e timely_e then_ counts_e = absurd calm_e
+            by_group node fact number f.mail (record { row = row_e; sent = f.sent }) r after (here node fact) then_ runs counts_e slot child least most b member (group_of_mail f.mail.body) refl
+        each_player (Node node) Go fact row_e calm_e timely_e then_ counts_e = same_view node fact Go row_e r after (here node fact) then_ runs slot child least most b member (others_idle.go all_births rows seat base node born fact).view
+        each_player (Node node) (Told line) fact row_e calm_e timely_e then_ counts_e = ordered node fact line row_e r after (here node fact) then_ runs slot child least most b member
+        each_player (Node node) _ fact row_e calm_e timely_e then_ counts_e = absurd calm_e

@@ -11,14 +11,14 @@ use Rattle.sc_scenario.specs.declared.scenario.scenarios.Scenario.{Scenario}
 use Rattle.sc_node_table.specs.Definitions.{NodeState, replica_of, group_of_order, ordered_of, ordered_command, untaken, queued_or_refused, ordered_row, with_order_queued, ReplicaState, next}
 use Rattle.sc_meaning.specs.sound.Definitions.{Player, player_table, births, as_nodes}
 use Rattle.sc_live_steps.specs.calm.Definitions.{players, Rows}
-use Rattle.sc_live_steps.proofs.CalmProofs.Lemmas.{put_others}
-use Rattle.sc_live_steps.proofs.OrdersProofs.Lemmas.{cases-draw}
+use Rattle.sc_live_steps.proofs.CalmStepsProofs.Lemmas.{put_others}
+use Rattle.sc_live_steps.proofs.OrderStepsProofs.Lemmas.{cases-draw}
 use Rattle.sc_live_journals.specs.rows.Definitions.{view_at, IsSeat, with_event}
 use Rattle.sc_live_journals.proofs.RowsProofs.Lemmas.{names_stay, found_name, rows_replicas, view_others, view_was, none_some}
 use Rattle.sc_live_journals.proofs.ScenesProofs.Lemmas.{client_leaves, now_is}
 use Rattle.sc_live_answers.specs.Definitions.{Task, IsTaskOf, AreCreatedByOrder}
 use Rattle.sc_live_answers.proofs.ChildrenProofs.KnownChildren.{HasCreated}
-use Rattle.sc_live_answers.proofs.MailProofs.MailEntries.{At}
+use Rattle.sc_live_answers.proofs.LedMailProofs.MailEntries.{At}
 use Rattle.sc_live_answers.proofs.ReplicasProofs.Parts.{pumps}
 use Rattle.std.proofs.lemmas.Option.{same_Some}
 
@@ -39,12 +39,12 @@ module _ (words : ℕ → ℕ → ℕ × ℕ) (all : List (Seat Player)) (quiet 
   abbrev Was : Draw → ℕ → ReplicaState → Type 0
   Was name who x = (y : ReplicaState) × (view_at all quiet name who ≡ Some y) × (x.group ≡ y.group)
 
-  module _ (node : NodeState) (is : value player_table seat quiet ≡ Node node) where
+  module _ (node : NodeState) (fact : value player_table seat quiet ≡ Node node) where
     now : (name : Draw) (o : Option ReplicaState) → replica_of (group_of_order line.order) node.replicas ≡ o → view_at all (with_event quiet seat (Told line)) name seat.who ≡ replica_of name (ordered_of o line node).0.replicas
-    now name o here = now_is all quiet seat (Told line) node seated is (ordered_of o line node) (Some (ToldInput line)) refl (ap (λ (s : NodeState × List Mail). (Node s.0, s.1)) (ap (λ x. ordered_of x line node) here)) name
+    now name o here = now_is all quiet seat (Told line) node seated fact (ordered_of o line node) (Some (ToldInput line)) refl (ap (λ (s : NodeState × List Mail). (Node s.0, s.1)) (ap (λ x. ordered_of x line node) here)) name
 
     before : (name : Draw) → view_at all quiet name seat.who ≡ replica_of name node.replicas
-    before name = view_was all quiet seat Go name seated (Node node) is
+    before name = view_was all quiet seat Go name seated (Node node) fact
 
     node_was : (name : Draw) (x : ReplicaState) → view_at all (with_event quiet seat (Told line)) name seat.who ≡ Some x → (o : Option ReplicaState) → replica_of (group_of_order line.order) node.replicas ≡ o → Was name seat.who x
     node_was name x v None here = (x, before name ∙ (sym (now name None here) ∙ v), refl)
@@ -52,7 +52,7 @@ module _ (words : ℕ → ℕ → ℕ × ℕ) (all : List (Seat Player)) (quiet 
       | inl i ↦ (
         r,
         before name ∙ (ap (λ n. replica_of n node.replicas) i ∙ here),
-        ap (λ (y : ReplicaState). y.group) (same_Some x (ordered_row node.draws line (r, [])).0 (sym v ∙ (ap (λ n. view_at all (with_event quiet seat (Told line)) n seat.who) i ∙ (rows_replicas.ordered all quiet seat line node r seated is here).is)))
+        ap (λ (y : ReplicaState). y.group) (same_Some x (ordered_row node.draws line (r, [])).0 (sym v ∙ (ap (λ n. view_at all (with_event quiet seat (Told line)) n seat.who) i ∙ (rows_replicas.ordered all quiet seat line node r seated fact here).fact)))
             ∙ ordered_same node.draws line r,
       )
       | inr ne ↦ (
@@ -63,8 +63,8 @@ module _ (words : ℕ → ℕ → ℕ × ℕ) (all : List (Seat Player)) (quiet 
     ]
 
   own_was : (name : Draw) (x : ReplicaState) → view_at all (with_event quiet seat (Told line)) name seat.who ≡ Some x → (player : Player) → value player_table seat quiet ≡ player → Was name seat.who x
-  own_was name x v (Client client) is = (x, sym (client_leaves words all quiet seat (Told line) seated timely client is name (ToldInput line) refl refl).view ∙ v, refl)
-  own_was name x v (Node node) is = node_was node is name x v (replica_of (group_of_order line.order) node.replicas) refl
+  own_was name x v (Client client) fact = (x, sym (client_leaves words all quiet seat (Told line) seated timely client fact name (ToldInput line) refl refl).view ∙ v, refl)
+  own_was name x v (Node node) fact = node_was node fact name x v (replica_of (group_of_order line.order) node.replicas) refl
 
   was : (name : Draw) (who : ℕ) (x : ReplicaState) → view_at all (with_event quiet seat (Told line)) name who ≡ Some x → Was name who x
   was name who x v = elim (cases_Bool (eqb who seat.who)) [
@@ -75,9 +75,9 @@ module _ (words : ℕ → ℕ → ℕ × ℕ) (all : List (Seat Player)) (quiet 
 pub created_first : (words : ℕ → ℕ → ℕ × ℕ) (scenario : Scenario) (journal quiet : Rows) (seat : Seat Player) (line : OrderLine) (task : Task) → IsSeat (births as_nodes scenario) seat
     → AreInTime (players words (births as_nodes scenario)) (with_event quiet seat (Told line)) → IsTaskOf (births as_nodes scenario) quiet line task → AreCreatedByOrder scenario journal quiet (with_event quiet seat (Told line)) task
 created_first words scenario journal quiet seat line task seated timely of = record {
-  only = λ base is nowhere there. (let y = was words (births as_nodes scenario) quiet seat line seated timely base.core.id there.0 there.1 there.2 in absurd (none_some (sym (nowhere there.0) ∙ y.1)));
-  known = λ on base is id who x v. (let y = was words (births as_nodes scenario) quiet seat line seated timely task.name who x v in absurd (none_some (sym (of.new on who) ∙ y.1)));
-  kept = λ on base is id who r member v knows.
+  only = λ base fact nowhere there. (let y = was words (births as_nodes scenario) quiet seat line seated timely base.core.id there.0 there.1 there.2 in absurd (none_some (sym (nowhere there.0) ∙ y.1)));
+  known = λ on base fact id who x v. (let y = was words (births as_nodes scenario) quiet seat line seated timely task.name who x v in absurd (none_some (sym (of.new on who) ∙ y.1)));
+  kept = λ on base fact id who r member v knows.
       (let y = was words (births as_nodes scenario) quiet seat line seated timely task.group who r v in
       absurd (true≢false (sym (subst (λ g. HasCreated task.name g.core.born) y.2 knows) ∙ of.unknown on task.group who y.0 y.1)));
 }

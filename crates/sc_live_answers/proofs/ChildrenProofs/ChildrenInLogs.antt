@@ -20,7 +20,7 @@ use Rattle.sc_live_journals.proofs.LogsProofs.Lemmas.{found}
 use Rattle.sc_live_answers.specs.Definitions.{ReplicasRunLogs, IsCalmJournal, IsPrefixOf}
 use Rattle.sc_live_answers.proofs.ChildrenProofs.KnownChildren.{HasCreated, stays_born, kid_members, new_born}
 use Rattle.sc_live_answers.proofs.ChildrenProofs.Lineage.{log_gains, take_more, last_child}
-use Rattle.sc_live_answers.proofs.GroupsProofs.JournalGroups.{calm_group}
+use Rattle.sc_live_answers.proofs.LedGroupsProofs.JournalGroups.{calm_group}
 use Rattle.sc_group_table.proofs.MachineProofs.Lemmas.{state_push}
 
 -- the laws of journals that are used
@@ -61,7 +61,7 @@ module _ (laws : OfJournals) (words : ℕ → ℕ → ℕ × ℕ) (scenario : Sc
     -- a replica of it has executed some of them
     pub state_of : (rows : Rows) → IsPrefixOf journal rows → (who : ℕ) (r : ReplicaState) → view_at (births as_nodes scenario) rows base.core.id who ≡ Some r → (k : ℕ) × (next r ≡ suc k) × (r.group ≡ State k)
     state_of rows prefix who r v =
-        let here = laws.views as_nodes words scenario journal base (calm_group words scenario journal calm base stands) rows prefix.more prefix.is who r v in
+        let here = laws.views as_nodes words scenario journal base (calm_group words scenario journal calm base stands) rows prefix.more prefix.fact who r v in
         let run = laws.runs as_nodes words scenario journal base (calm_group words scenario journal calm base stands) rows here.0 here.1 r here.2 in
         let some : 1 ≤ next r = run.0 in
         (next r - 1, omega (arith, some), run.1)
@@ -99,12 +99,12 @@ module _ (laws : OfJournals) (words : ℕ → ℕ → ℕ × ℕ) (scenario : Sc
         by : (command : Command) → take (suc k) log ≡ take k log ++ command ∷ [] → HasCreated name (State k).core.born ⊎ ((kid : Base) × (child_by (State k) command ≡ Some kid) × (kid.core.id ≡ name))
             → HasCreated name (State k).core.born ⊎ ((kid : Base) × Among kid (groups_at as_nodes scenario.groups journal) × (kid.core.id ≡ name) × (kid.core.members ≡ right_members (State k).core.members))
         by command e (inl h) = inl h
-        by command e (inr (kid, is, id)) =
+        by command e (inr (kid, fact, id)) =
             inr (
               kid,
-              all_found.prefixes base stands (take (suc k) log) (drop (suc k) log) (sym (take-append-drop (suc k) log)) kid (subst (λ l. Among kid (children_of (group_of base) l)) (sym e) (last_child (group_of base) (take k log) command kid is)),
+              all_found.prefixes base stands (take (suc k) log) (drop (suc k) log) (sym (take-append-drop (suc k) log)) kid (subst (λ l. Among kid (children_of (group_of base) l)) (sym e) (last_child (group_of base) (take k log) command kid fact)),
               id,
-              kid_members (State k) command kid is,
+              kid_members (State k) command kid fact,
             )
 
     -- so one that is known in a state and not as the group begins is created by an entry before

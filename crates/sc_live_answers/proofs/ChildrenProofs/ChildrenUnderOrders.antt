@@ -66,7 +66,7 @@ unmarked name from _ ne = refl
 
 -- the first rows of some in time are
 pub prefix_in_time : (words : ℕ → ℕ → ℕ × ℕ) (all : List (Seat Player)) (journal rows more : Rows) → journal ≡ rows ++ more → AreInTime (players words all) journal → AreInTime (players words all) rows
-prefix_in_time words all journal rows more e t before row after is = t before row (after ++ more) (e ∙ (ap (λ l. l ++ more) is ∙ append_assoc before (row ∷ after) more))
+prefix_in_time words all journal rows more e t before row after fact = t before row (after ++ more) (e ∙ (ap (λ l. l ++ more) fact ∙ append_assoc before (row ∷ after) more))
 
 -- ---- groups are quiet while young
 
@@ -79,6 +79,6 @@ children_of false told child name P p (base ∷ made) k = absurd k.0
 
 pub children_were : DeliveriesKeepWork → ChildrenWereNowhere
 children_were keeps words scenario quiet rows seat number line task of row work mail group node r t here =
-    children_of task.splits task.group task.name group (λ child. IsNowhere (births as_nodes scenario) quiet child.core.id) (λ on base is. subst (IsNowhere (births as_nodes scenario) quiet) (sym is) (of.new on)) (mailed mail.from mail.body (r, [])).1
+    children_of task.splits task.group task.name group (λ child. IsNowhere (births as_nodes scenario) quiet child.core.id) (λ on base fact. subst (IsNowhere (births as_nodes scenario) quiet) (sym fact) (of.new on)) (mailed mail.from mail.body (r, [])).1
     (Each-weaker (λ (child : Base). Creates task group child × (list_any (λ other. same_draw other child.core.id) r.group.core.born ≡ false)) (λ (child : Base). CreatesBy task.splits task.group task.name group child) (λ child k. k.0) (mailed mail.from mail.body (r, [])).1
     (keeps.creation words scenario rows seat number task row work mail group node r t here))

@@ -16,7 +16,7 @@ use Rattle.sc_live_answers.specs.Definitions.{ChildrenAreBegun, IsYoung, Task, C
 use Rattle.sc_live_journals.specs.scenes.Definitions.{IsNowhere, IsTaking}
 use Rattle.sc_live_answers.proofs.ChildrenProofs.KnownChildren.{HasCreated}
 use Rattle.sc_live_answers.proofs.ChildrenProofs.Lineage.{log_stays, kids_known}
-use Rattle.sc_live_answers.proofs.MailProofs.MailEntries.{IsStateless, mailed_goes}
+use Rattle.sc_live_answers.proofs.LedMailProofs.MailEntries.{IsStateless, mailed_goes}
 use Rattle.sc_live_answers.proofs.ChildrenProofs.ChildrenInLogs.{OfJournals, born_by, state_of}
 use Rattle.std.proofs.lemmas.Option.{same_Some}
 
@@ -30,11 +30,11 @@ has_stateless from _ r kid a = tt
 pub knows_made : (from : ℕ) (body : MailBody) (r : ReplicaState) (kid : Base) → Among kid (mailed from body (r, [])).1 → HasCreated kid.core.id (mailed from body (r, [])).0.0.group.core.born
 knows_made from body r kid a =
     let goes = mailed_goes r [] from body (has_stateless from body r kid a) in
-    subst (λ (g : Group). HasCreated kid.core.id g.core.born) (sym goes.0.is.0) (kids_known r.me r.group goes.0.log kid (subst (Among kid) goes.0.kids a))
+    subst (λ (g : Group). HasCreated kid.core.id g.core.born) (sym goes.0.fact.0) (kids_known r.me r.group goes.0.log kid (subst (Among kid) goes.0.kids a))
 
 -- a group forgets none of the children that it knows
 pub knows_still : (from : ℕ) (body : MailBody) (r : ReplicaState) (name : Draw) → IsStateless body → HasCreated name r.group.core.born → HasCreated name (mailed from body (r, [])).0.0.group.core.born
-knows_still from body r name s has = (let goes = mailed_goes r [] from body s in subst (λ (g : Group). HasCreated name g.core.born) (sym goes.0.is.0) (log_stays name r.group goes.0.log has))
+knows_still from body r name s has = (let goes = mailed_goes r [] from body s in subst (λ (g : Group). HasCreated name g.core.born) (sym goes.0.fact.0) (log_stays name r.group goes.0.log has))
 
 -- the child that a task creates
 pub record IsCreated (task : Task) (group : Draw) (r : ReplicaState) (kid : Base) : Type 0 where
@@ -64,7 +64,7 @@ module _ (laws : OfJournals) (begun : ChildrenAreBegun) (keeps : DeliveriesKeepW
   view_before = view_was all rows seat Go group t.seated (Node node) t.is_node ∙ here
 
   view_after : view_at all (with_event rows seat (Deliver number)) group seat.who ≡ Some made.0.0
-  view_after = (rows_replicas.taken all rows seat number mail group node r t.seated t.is_node t.sent t.comes t.named here).is
+  view_after = (rows_replicas.taken all rows seat number mail group node r t.seated t.is_node t.sent t.comes t.named here).fact
 
   rows_prefix : IsPrefixOf journal rows
   rows_prefix = w.under.prefix
@@ -89,7 +89,7 @@ module _ (laws : OfJournals) (begun : ChildrenAreBegun) (keeps : DeliveriesKeepW
         by p (inl has) not = absurd (not has)
         by p (inr (k, stands, id)) not =
             let so : AreAsBegun k seat.who (made_children (replica_of group node.replicas) mail.from mail.body) =
-            begun as_nodes words scenario journal k (record { open_slots = refl; valid = w.calm.valid; lawful = w.calm.lawful; stands = stands }) rows rows_prefix.more rows_prefix.is seat node t.seated t.is_node number mail group t.sent t.named in
+            begun as_nodes words scenario journal k (record { open_slots = refl; valid = w.calm.valid; lawful = w.calm.lawful; stands = stands }) rows rows_prefix.more rows_prefix.fact seat node t.seated t.is_node number mail group t.sent t.named in
             let same = Each-among (λ (c : Base). c.core.id ≡ k.core.id → (c ≡ k) × (is_member k.core.members seat.who ≡ true)) made.1 kid (subst (λ o. AreAsBegun k seat.who (made_children o mail.from mail.body)) here so) a (sym id) in
             (subst (λ c. Among c (groups_at as_nodes scenario.groups journal)) (sym same.0) stands, subst (λ (c : Base). is_member c.core.members seat.who ≡ true) (sym same.0) same.1)
 
@@ -101,7 +101,7 @@ module _ (laws : OfJournals) (begun : ChildrenAreBegun) (keeps : DeliveriesKeepW
 
     unbound : (n : ℕ) (x : ReplicaState) → view_at all rows kid.core.id n ≡ Some x → (view_at all rows kid.core.id n ≡ None) ⊎ (view_at all rows kid.core.id n ≡ Some (born_replica slots_ahead n kid)) → bond_of x.group.core ≡ Unbound
     unbound n x v (inl none) = absurd (none_some (sym none ∙ v))
-    unbound n x v (inr is) = ap (λ (y : ReplicaState). bond_of y.group.core) (same_Some x (born_replica slots_ahead n kid) (sym v ∙ is)) ∙ free_bond kid b.free
+    unbound n x v (inr fact) = ap (λ (y : ReplicaState). bond_of y.group.core) (same_Some x (born_replica slots_ahead n kid) (sym v ∙ fact)) ∙ free_bond kid b.free
 
     none_here : (o : Option ReplicaState) → view_at all rows kid.core.id seat.who ≡ o → o ≡ None
     none_here None v = refl

@@ -56,15 +56,15 @@ module _ (scenario : Scenario) where
 
   pub node_born : (seat : Seat Player) (born : NodeState) → IsSeat (births as_nodes scenario) seat → seat.actor ≡ Node born → (n : ℕ) × (1 ≤ n) × (n ≤ scenario.nodes) × (seat ≡ node_seat as_nodes scenario.groups scenario.policy n)
   unfolding IsBorn
-  node_born seat born is e =
+  node_born seat born fact e =
       Each-among IsBorn (births as_nodes scenario) seat
       (Each-append IsBorn (map (node_seat as_nodes scenario.groups scenario.policy) (numbers_from 1 scenario.nodes)) (client_seats scenario.groups scenario.clients) (nodes_born (numbers_from 1 scenario.nodes) (numbers_in 1 scenario.nodes))
-      (clients_born scenario.groups scenario.clients)) (find_found (λ (other : Seat Player). eqb other.who seat.who) (births as_nodes scenario) seat is).0 born e
+      (clients_born scenario.groups scenario.clients)) (find_found (λ (other : Seat Player). eqb other.who seat.who) (births as_nodes scenario) seat fact).0 born e
 
 -- ---- the name
 
 module _ (words : ℕ → ℕ → ℕ × ℕ) (scenario : Scenario) (quiet : Rows) (bounded : IsBounded scenario) (lawful : Lawful as_nodes words scenario quiet) (seat : Seat Player) (line : OrderLine) (born : NodeState) (is_node : seat.actor ≡ Node born)
-    (seated : IsSeat (births as_nodes scenario) seat) (node : NodeState) (is : value player_table seat quiet ≡ Node node) (r : ReplicaState) (here : replica_of (group_of_order line.order) node.replicas ≡ Some r) (taken : untaken node.draws line r ≡ None)
+    (seated : IsSeat (births as_nodes scenario) seat) (node : NodeState) (fact : value player_table seat quiet ≡ Node node) (r : ReplicaState) (here : replica_of (group_of_order line.order) node.replicas ≡ Some r) (taken : untaken node.draws line r ≡ None)
     (named : takes_name line.order ≡ true) where
   drawn : Among (owned_by (next_name node.draws) (group_of_order line.order)) (drawn_at as_nodes scenario quiet (row_of player_table seat quiet (Told line)))
   drawn =
@@ -72,7 +72,7 @@ module _ (words : ℕ → ℕ → ℕ × ℕ) (scenario : Scenario) (quiet : Row
       let who : seat.who ≡ n.0 = ap (λ (s : Seat Player). s.who) n.3 in
       let in_range : is_node_of scenario seat.who ≡ true = subst (λ w. is_node_of scenario w ≡ true) (sym who) (and_from (nat_le 1 n.0) (nat_le n.0 scenario.nodes) (le-leb 1 n.0 n.1) (le-leb n.0 scenario.nodes n.2)) in
       let there : value player_table (node_seat as_nodes scenario.groups scenario.policy seat.who) quiet ≡ Node node =
-      ap (λ w. value player_table (node_seat as_nodes scenario.groups scenario.policy w) quiet) who ∙ (ap (λ (s : Seat Player). value player_table s quiet) (sym n.3) ∙ is) in
+      ap (λ w. value player_table (node_seat as_nodes scenario.groups scenario.policy w) quiet) who ∙ (ap (λ (s : Seat Player). value player_table s quiet) (sym n.3) ∙ fact) in
       let takes : takes_name line.order && is_none (untaken node.draws line r) ≡ true = and_from (takes_name line.order) (is_none (untaken node.draws line r)) named (ap is_none taken) in
       let list : drawn_at as_nodes scenario quiet (row_of player_table seat quiet (Told line)) ≡ owned_by (next_name node.draws) (group_of_order line.order) ∷ [] =
       cond-true (is_node_of scenario seat.who) (names_drawn (value player_table (node_seat as_nodes scenario.groups scenario.policy seat.who) quiet) (Told line)) [] in_range

@@ -9,9 +9,9 @@ use Rattle.sc_meaning.proofs.EntriesProofs.Lemmas.{births_are_children}
 use Rattle.sc_group_table.specs.machine.Definitions.{child_by, Group, state_after, applied}
 use Rattle.sc_node_table.specs.Definitions.{child_at}
 use Rattle.sc_meaning.specs.sound.Definitions.{children_of}
-use Rattle.sc_live_steps.proofs.OrdersProofs.Lemmas.{among-left, among-right}
+use Rattle.sc_live_steps.proofs.OrderStepsProofs.Lemmas.{among-left, among-right}
 use Rattle.sc_live_answers.proofs.ChildrenProofs.KnownChildren.{HasCreated, stays_born, creates_child, new_born}
-use Rattle.sc_live_answers.proofs.MailProofs.MailEntries.{kids_of}
+use Rattle.sc_live_answers.proofs.LedMailProofs.MailEntries.{kids_of}
 use Rattle.sc_paxos_law.proofs.Lemmas.{Among-either}
 
 -- it forgets none
@@ -21,18 +21,18 @@ log_stays name group (command ∷ log) has = log_stays name (applied group comma
 
 -- a child that is made is the one that the entry creates
 child_is : (me : ℕ) (o : Option Base) (kid : Base) → Among kid (child_at me o) → o ≡ Some kid
-child_is me None kid is = absurd is
-child_is me (Some child) kid is =
-    cond_both (is_member child.core.members me) (child ∷ []) [] (λ (xs : List Base). Among kid xs → Some child ≡ Some kid) (λ _ a. elim a [ inl e ↦ ap Some e | inr bad ↦ absurd bad ]) (λ _ a. absurd a) is
+child_is me None kid fact = absurd fact
+child_is me (Some child) kid fact =
+    cond_both (is_member child.core.members me) (child ∷ []) [] (λ (xs : List Base). Among kid xs → Some child ≡ Some kid) (λ _ a. elim a [ inl e ↦ ap Some e | inr bad ↦ absurd bad ]) (λ _ a. absurd a) fact
 
 -- a child that the entry names, with the node for a member, is made
 pub child_made : (me : ℕ) (kid : Base) → is_member kid.core.members me ≡ true → child_at me (Some kid) ≡ kid ∷ []
-child_made me kid is = ap (λ b. cond b (kid ∷ []) []) is
+child_made me kid fact = ap (λ b. cond b (kid ∷ []) []) fact
 
 -- it knows each that is made
 pub kids_known : (me : ℕ) (group : Group) (log : List Command) (kid : Base) → Among kid (kids_of me group log) → HasCreated kid.core.id (state_after group log).core.born
-kids_known me group [] kid is = absurd is
-kids_known me group (command ∷ log) kid is = elim (Among-either kid (child_at me (child_by group command)) (kids_of me (applied group command).0 log) is) [
+kids_known me group [] kid fact = absurd fact
+kids_known me group (command ∷ log) kid fact = elim (Among-either kid (child_at me (child_by group command)) (kids_of me (applied group command).0 log) fact) [
   | inl a ↦ log_stays kid.core.id (applied group command).0 log (creates_child group command kid (child_is me (child_by group command) kid a))
   | inr b ↦ kids_known me (applied group command).0 log kid b
 ]

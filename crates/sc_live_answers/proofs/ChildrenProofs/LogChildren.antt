@@ -1,10 +1,10 @@
 -- Along the log of a group of a journal, each replica makes the children of the entries that it executes.
-use Rattle.std.proofs.Common.{◌≡◌, ℕ, ◌<◌, ◌≤◌, true, List, [], ◌++◌, length, take, Some, refl, sym, subst}
+use Rattle.std.proofs.Common.{◌≡◌, ℕ, ◌<◌, ◌≤◌, true, List, [], Some, refl, sym, subst}
 use Rattle.sc_base.specs.Definitions.{Among, IsRoster, is_member}
 use Rattle.sc_node_table.specs.Values.{Ballot, Command, Base, Route, Mail, MailBody, Accepted as AcceptedMail, Learn, Seat}
 use Rattle.sc_base.proofs.Lemmas.{same_name}
 use Rattle.sc_actor.specs.Definitions.{mails, numbered}
-use Rattle.sc_paxos_law.specs.Definitions.{IsLog, Accepted, IsLawfulHistory}
+use Rattle.sc_paxos_law.specs.Definitions.{Accepted, IsLawfulHistory}
 use Rattle.sc_scenario.specs.scenario.Definitions.{ValidScenariosAreBounded}
 use Rattle.sc_scenario.specs.declared.scenario.scenarios.Scenario.{Scenario}
 use Rattle.sc_node_table.specs.Definitions.{NodeState, ReplicaState, next, last_slot, mailed}
@@ -12,11 +12,11 @@ use Rattle.sc_meaning.specs.sound.Definitions.{decided_log, Ahead, Player, route
 use Rattle.sc_law_entries.specs.logs.Definitions.{Rows}
 use Rattle.sc_law_entries.specs.ring.Definitions.{Sources}
 use Rattle.sc_law_entries.specs.names.Definitions.{OtherNamesAreFree, TakenOrdersAreAllowed, TakenWishesAreAllowed, WishesAreAtPositions, owner_in}
-use Rattle.sc_law_groups.proofs.GroupProofs.Lemmas.{h_of, IsLearnt, Steps, rule, first, IsTrue, number_among}
-use Rattle.sc_law_groups.specs.whole.Definitions.{BeginsWell, section_op, OrdersAreAllowed, MayQueue, IsHeardAt, ValidScenariosBeginWell}
+use Rattle.sc_law_groups.proofs.GroupProofs.Lemmas.{h_of, IsLearnt, Steps, rule, first}
+use Rattle.sc_law_groups.specs.whole.Definitions.{BeginsWell, section_op, OrdersAreAllowed, ValidScenariosBeginWell}
 use Rattle.sc_law_groups.proofs.WholeProofs.Lemmas.{orders_allowed}
 use Rattle.sc_live_journals.specs.logs.Definitions.{IsGroupOf, HasReplica}
-use Rattle.sc_live_journals.proofs.LogsProofs.Lemmas.{IsAlong, part, roster, prefixes, sent_in, along, opens, flying}
+use Rattle.sc_live_journals.proofs.LogsProofs.Lemmas.{ArePrefixes, said_in, IsAlong, part, roster, prefixes, along, opens, flying}
 use Rattle.sc_live_answers.specs.Definitions.{IsBirth, EntriesCreateChildren}
 use Rattle.sc_live_answers.proofs.ChildrenProofs.ReplicaChildren.{learn_creates, vote_creates}
 
@@ -47,18 +47,11 @@ module _ (bounded : ValidScenariosAreBounded) (begin : ValidScenariosBeginWell) 
     abbrev first_members : IsRoster base.core.members
     first_members = roster sources ahead words scenario route well journal orders group.lawful base group.stands
 
-    abbrev all_prefixes : (log : List Command) → IsLog (rule ahead base) h log → (length log ≤ length all) × (take (length log) all ≡ log)
+    abbrev all_prefixes : ArePrefixes ahead base journal
     all_prefixes = prefixes sources ahead words scenario route well journal orders group.lawful base group.stands
 
     abbrev Along : ReplicaState → Type 0
     Along r = IsAlong ahead group.open_slots base first_members h lawful_steps all all_prefixes r
-
-    said : (rows more : Rows) → journal ≡ rows ++ more → (number : ℕ) (mail : Mail) (body : MailBody) → numbered (mails rows) number ≡ Some mail → mail.body ≡ body
-        → IsTrue ahead base (MayQueue sources ahead scenario journal base) (IsHeardAt sources ahead scenario journal) h mail body
-    said rows more e number mail body sent is =
-        subst (IsTrue ahead base (MayQueue sources ahead scenario journal base) (IsHeardAt sources ahead scenario journal) h mail) is
-        ((part sources ahead words scenario route well journal orders group.lawful base group.stands).true_mail mail
-        (sent_in sources ahead words scenario route well journal orders group.lawful base group.stands rows more e mail (number_among (mails rows) number mail sent)))
 
     module _ (rows : Rows) (seat : Seat Player) (node : NodeState) (r : ReplicaState) (has : HasReplica ahead scenario journal base rows seat node r) where
       k : Along r
@@ -67,21 +60,21 @@ module _ (bounded : ValidScenariosAreBounded) (begin : ValidScenariosBeginWell) 
       learnt : (number : ℕ) (mail : Mail) (slot : ℕ) (command : Command) → numbered (mails rows) number ≡ Some mail → mail.body ≡ Learn base.core.id slot command → slot ≡ next r → slot ≤ last_slot
           → (child : Base) → IsBirth all base slot child → is_member child.core.members r.me ≡ true → Among child (mailed mail.from mail.body (r, [])).1
       unfolding mailed
-      learnt number mail slot command sent is at low child b member =
-          let t : IsLearnt (rule ahead base) h slot command = said rows has.more has.prefix number mail (Learn base.core.id slot command) sent is (same_name base.core.id base.core.id refl) in
-          subst (λ (m : MailBody). Among child (mailed mail.from m (r, [])).1) (sym is)
+      learnt number mail slot command sent fact at low child b member =
+          let t : IsLearnt (rule ahead base) h slot command = said_in sources ahead words scenario route well journal orders group.lawful base group.stands rows has.more has.prefix number mail (Learn base.core.id slot command) sent fact (same_name base.core.id base.core.id refl) in
+          subst (λ (m : MailBody). Among child (mailed mail.from m (r, [])).1) (sym fact)
           (learn_creates ahead group.open_slots base first_members h lawful_steps all all_prefixes r.me mail.from slot command r k refl t at low child b member)
 
       voted : r.running ≡ true → (number : ℕ) (mail : Mail) (ballot : Ballot) (slot : ℕ) → numbered (mails rows) number ≡ Some mail → mail.body ≡ AcceptedMail base.core.id ballot slot
           → (at : ℕ) (child : Base) → next r ≤ at → at < next (mailed mail.from mail.body (r, [])).0.0 → IsBirth all base at child → is_member child.core.members r.me ≡ true → Among child (mailed mail.from mail.body (r, [])).1
       unfolding mailed
-      voted runs number mail ballot slot sent is at child least most b member =
-          let did : (command : Command) × Among (Accepted mail.from ballot slot command) h = said rows has.more has.prefix number mail (AcceptedMail base.core.id ballot slot) sent is (same_name base.core.id base.core.id refl) in
-          subst (λ (m : MailBody). Among child (mailed mail.from m (r, [])).1) (sym is)
+      voted runs number mail ballot slot sent fact at child least most b member =
+          let did : (command : Command) × Among (Accepted mail.from ballot slot command) h = said_in sources ahead words scenario route well journal orders group.lawful base group.stands rows has.more has.prefix number mail (AcceptedMail base.core.id ballot slot) sent fact (same_name base.core.id base.core.id refl) in
+          subst (λ (m : MailBody). Among child (mailed mail.from m (r, [])).1) (sym fact)
           (vote_creates ahead group.open_slots base first_members h lawful_steps all all_prefixes r.me r k refl runs
           (opens sources ahead words scenario route well journal orders group.lawful base group.stands rows seat node r has group.open_slots)
           (flying sources ahead words scenario route well journal orders group.lawful base group.stands rows seat node r has) mail.from ballot slot did.0 did.1
-          at child least (subst (λ (m : MailBody). at < next (mailed mail.from m (r, [])).0.0) is most) b member)
+          at child least (subst (λ (m : MailBody). at < next (mailed mail.from m (r, [])).0.0) fact most) b member)
 
   pub entries_create_children : EntriesCreateChildren
   entries_create_children = record { learnt = learnt; voted = voted }

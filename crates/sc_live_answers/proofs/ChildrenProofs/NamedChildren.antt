@@ -41,27 +41,27 @@ record IsAfter (group : Group) (log : List Command) (child : Base) : Type 0 wher
   prefix : List Command
   command : Command
   rest : List Command
-  is : log ≡ prefix ++ command ∷ rest
+  fact : log ≡ prefix ++ command ∷ rest
   child_is : child_by (state_after group prefix) command ≡ Some child
 
 named_after : (group : Group) (log : List Command) (child : Base) → Among child (children_of group log) → IsAfter group log child
 named_after group [] child a = absurd a
 named_after group (c ∷ log) child a = elim (Among-either child (option_to_list (birth_of group c (applied group c).1)) (children_of (applied group c).0 log) a) [
-  | inl here ↦ record { prefix = []; command = c; rest = log; is = refl; child_is = births_are_children group c ∙ option_is (birth_of group c (applied group c).1) child here }
-  | inr later ↦ (let k = named_after (applied group c).0 log child later in record { prefix = c ∷ k.prefix; command = k.command; rest = k.rest; is = ap (λ l. c ∷ l) k.is; child_is = k.child_is })
+  | inl here ↦ record { prefix = []; command = c; rest = log; fact = refl; child_is = births_are_children group c ∙ option_is (birth_of group c (applied group c).1) child here }
+  | inr later ↦ (let k = named_after (applied group c).0 log child later in record { prefix = c ∷ k.prefix; command = k.command; rest = k.rest; fact = ap (λ l. c ∷ l) k.fact; child_is = k.child_is })
 ]
 
 -- a child that a log names has a slot of it, also where the log goes on
 pub birth_slot : (base : Base) (log more all : List Command) (child : Base) → all ≡ log ++ more → Among child (children_of (group_of base) log) → (slot : ℕ) × (slot ≤ length log) × IsBirth all base slot child
-birth_slot base log more all child is a =
+birth_slot base log more all child fact a =
     let k = named_after (group_of base) log child a in
-    let whole : all ≡ k.prefix ++ k.command ∷ (k.rest ++ more) = is ∙ (ap (λ l. l ++ more) k.is ∙ append_assoc k.prefix (k.command ∷ k.rest) more) in
+    let whole : all ≡ k.prefix ++ k.command ∷ (k.rest ++ more) = fact ∙ (ap (λ l. l ++ more) k.fact ∙ append_assoc k.prefix (k.command ∷ k.rest) more) in
     let push = length_push k.prefix k.command in
     let one : length k.prefix + 1 - 1 ≡ length k.prefix = omega arith in
     let two : length k.prefix + 1 ≡ length (k.prefix ++ k.command ∷ []) = omega (arith, push) in
     let regroup : k.prefix ++ k.command ∷ (k.rest ++ more) ≡ (k.prefix ++ k.command ∷ []) ++ (k.rest ++ more) = sym (append_assoc k.prefix (k.command ∷ []) (k.rest ++ more)) in (
       length k.prefix + 1,
-      low k.prefix k.command k.rest log k.is,
+      low k.prefix k.command k.rest log k.fact,
       record {
         prefix = k.prefix;
         command = k.command;

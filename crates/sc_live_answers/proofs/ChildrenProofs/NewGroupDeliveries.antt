@@ -4,7 +4,7 @@ use Rattle.std.specs.List.{list_any}
 use Rattle.std.proofs.lemmas.Bool.{cases_Bool, cond-false, eqb-true, cases_eq}
 use Rattle.sc_base.specs.Definitions.{Among, same_ballot, same_draw, is_member}
 use Rattle.sc_node_table.specs.Values.{Ballot, Draw, Command, Base, OrderLine, Mail, MailBody, Accepted, Learn, Install, Seat, Deliver, Node, NotYet}
-use Rattle.sc_actor.specs.Definitions.{mails, numbered, row_of}
+use Rattle.sc_actor.specs.Definitions.{row_of}
 use Rattle.sc_live_orderly.proofs.Lemmas.{is_born-from}
 use Rattle.sc_group_table.specs.machine.Definitions.{child_by, Group, group_of, state_after, applied, right_members}
 use Rattle.sc_scenario.specs.declared.scenario.scenarios.Scenario.{Scenario}
@@ -14,7 +14,7 @@ use Rattle.sc_words.proofs.PaxosProofs.Lemmas.{Each-among}
 use Rattle.sc_law_walks.proofs.Lemmas.{either_way}
 use Rattle.sc_meaning.specs.sound.Definitions.{groups_at, decided_log, Player, player_table, births, as_nodes}
 use Rattle.sc_live_steps.specs.calm.Definitions.{players, HasReplica, Rows}
-use Rattle.sc_live_steps.proofs.OrdersProofs.Lemmas.{cases-draw}
+use Rattle.sc_live_steps.proofs.OrderStepsProofs.Lemmas.{cases-draw}
 use Rattle.sc_live_journals.specs.rows.Definitions.{view_at, with_event, IsWellKept}
 use Rattle.sc_live_journals.proofs.RowsProofs.Lemmas.{view_others, Plays, Found, found_well, replay_well, none_some}
 use Rattle.sc_live_journals.specs.groups.Definitions.{ScenariosAreWellBorn}
@@ -26,7 +26,7 @@ use Rattle.sc_live_answers.proofs.WorkProofs.WorkInPrefixes.{takes_one, taken_ma
 use Rattle.sc_live_answers.proofs.ChildrenProofs.YoungGroupRows.{node_number}
 use Rattle.sc_live_answers.proofs.ChildrenProofs.CreatedGroups.{IsCreated, created, knows_made, knows_still}
 use Rattle.sc_live_answers.proofs.ChildrenProofs.Lineage.{child_made}
-use Rattle.sc_live_answers.proofs.MailProofs.MailEntries.{IsStateless, IsShort, GoesOn, IsRest, kids_of, mailed_goes, rest_leaves}
+use Rattle.sc_live_answers.proofs.LedMailProofs.MailEntries.{IsStateless, IsShort, GoesOn, IsRest, kids_of, mailed_goes, rest_leaves}
 use Rattle.sc_live_answers.proofs.ReplicasProofs.PlayerRowReplicas.{RowKind, Takes, Makes, row_kind}
 use Rattle.sc_live_answers.proofs.ChildrenProofs.ChildrenInLogs.{OfJournals, all_found, created_by, state_of}
 use Rattle.std.proofs.lemmas.Option.{same_Some}
@@ -115,26 +115,23 @@ module _ (laws : OfJournals) (well : ScenariosAreWellBorn) (keeps : DeliveriesKe
   abbrev after : Rows
   after = with_event rows seat (Deliver number)
 
-  taken : (mail : Mail) × (numbered (mails rows) number ≡ Some mail)
-  taken = taken_mail words (births as_nodes scenario) rows seat number w.guided.seated w.guided.timely
-
   abbrev mail : Mail
-  mail = taken.0
+  mail = (taken_mail words (births as_nodes scenario) rows seat number w.guided.seated w.guided.timely).0
 
   says : SaysWork task mail.body
-  says = takes_one words (births as_nodes scenario) rows seat number w.guided.seated w.guided.timely (λ m. SaysWork task m.body) (w.work.mail seat.who (is_born-from (players words (births as_nodes scenario)) seat.who seat w.guided.seated)) mail taken.1
+  says = takes_one words (births as_nodes scenario) rows seat number w.guided.seated w.guided.timely (λ m. SaysWork task m.body) (w.work.mail seat.who (is_born-from (players words (births as_nodes scenario)) seat.who seat w.guided.seated)) mail (taken_mail words (births as_nodes scenario) rows seat number w.guided.seated w.guided.timely).1
 
   -- the mail is of no group that was nowhere
   no_mail : (base : Base) → Among base (groups_at as_nodes scenario.groups journal) → IsNowhere (births as_nodes scenario) quiet base.core.id → group_of_mail mail.body ≡ Some base.core.id → ⊥
-  no_mail base is nowhere =
+  no_mail base fact nowhere =
       takes_one words (births as_nodes scenario) rows seat number w.guided.seated w.guided.timely (λ m. group_of_mail m.body ≡ Some base.core.id → ⊥)
-      ((w.under.young base is nowhere).unsent seat.who (is_born-from (players words (births as_nodes scenario)) seat.who seat w.guided.seated)) mail taken.1
+      ((w.under.young base fact nowhere).unsent seat.who (is_born-from (players words (births as_nodes scenario)) seat.who seat w.guided.seated)) mail (taken_mail words (births as_nodes scenario) rows seat number w.guided.seated w.guided.timely).1
 
   kind : RowKind words (births as_nodes scenario) rows seat number mail
   kind =
-      row_kind words (births as_nodes scenario) rows seat number w.guided.seated w.guided.timely mail taken.1
-      (λ group seq answer e. keeps.unanswered words (births as_nodes scenario) rows seat number task w.guided.seated w.guided.timely w.work mail group seq answer taken.1 e)
-      (λ node is. node_number well scenario rows seat node w.guided.seated is)
+      row_kind words (births as_nodes scenario) rows seat number w.guided.seated w.guided.timely mail (taken_mail words (births as_nodes scenario) rows seat number w.guided.seated w.guided.timely).1
+      (λ group seq answer e. keeps.unanswered words (births as_nodes scenario) rows seat number task w.guided.seated w.guided.timely w.work mail group seq answer (taken_mail words (births as_nodes scenario) rows seat number w.guided.seated w.guided.timely).1 e)
+      (λ node fact. node_number well scenario rows seat node w.guided.seated fact)
 
   else_stays : (name : Draw) (who : ℕ) → (who ≡ seat.who → ⊥) → view_at (births as_nodes scenario) after name who ≡ view_at (births as_nodes scenario) rows name who
   else_stays name who ne = view_others (births as_nodes scenario) rows (row_of player_table seat rows (Deliver number)) name who ne
@@ -152,29 +149,29 @@ module _ (laws : OfJournals) (well : ScenariosAreWellBorn) (keeps : DeliveriesKe
         subst (Found seat.who) t.here (found_well seat.who t.group t.node.replicas plays.1)
 
     not_own : (base : Base) → Among base (groups_at as_nodes scenario.groups journal) → IsNowhere (births as_nodes scenario) quiet base.core.id → base.core.id ≡ t.group → ⊥
-    not_own base is nowhere i = no_mail base is nowhere (t.taking.named ∙ ap Some (sym i))
+    not_own base fact nowhere i = no_mail base fact nowhere (t.taking.named ∙ ap Some (sym i))
 
   -- ---- which are there
 
   new_one : (base : Base) → Among base (groups_at as_nodes scenario.groups journal) → IsNowhere (births as_nodes scenario) quiet base.core.id → (x : ReplicaState) → view_at (births as_nodes scenario) after base.core.id seat.who ≡ Some x
       → RowKind words (births as_nodes scenario) rows seat number mail → (task.splits ≡ true) × (base.core.id ≡ task.name)
-  new_one base is nowhere x v (inl stay) = prior.only base is nowhere (seat.who, x, sym (stay base.core.id) ∙ v)
-  new_one base is nowhere x v (inr (inr m)) = prior.only base is nowhere (seat.who, x, sym (m.others base.core.id (λ i. no_mail base is nowhere (ap group_of_mail m.body ∙ ap Some (sym i)))) ∙ v)
-  new_one base is nowhere x v (inr (inl t)) = by (t.others base.core.id (not_own t base is nowhere))
+  new_one base fact nowhere x v (inl stay) = prior.only base fact nowhere (seat.who, x, sym (stay base.core.id) ∙ v)
+  new_one base fact nowhere x v (inr (inr m)) = prior.only base fact nowhere (seat.who, x, sym (m.others base.core.id (λ i. no_mail base fact nowhere (ap group_of_mail m.body ∙ ap Some (sym i)))) ∙ v)
+  new_one base fact nowhere x v (inr (inl t)) = by (t.others base.core.id (not_own t base fact nowhere))
     where
       by : OneOf base.core.id seat.who (mailed mail.from mail.body (t.r, [])).1 (view_at (births as_nodes scenario) after base.core.id seat.who) (view_at (births as_nodes scenario) rows base.core.id seat.who) → (task.splits ≡ true) × (base.core.id ≡ task.name)
-      by (inl same) = prior.only base is nowhere (seat.who, x, sym same ∙ v)
+      by (inl same) = prior.only base fact nowhere (seat.who, x, sym same ∙ v)
       by (inr (child, a, id, none, makes)) = (let b = b_of t child a in (b.splits, sym id ∙ b.name))
 
   only : (base : Base) → Among base (groups_at as_nodes scenario.groups journal) → IsNowhere (births as_nodes scenario) quiet base.core.id → IsThere (births as_nodes scenario) after base.core.id → (task.splits ≡ true) × (base.core.id ≡ task.name)
-  only base is nowhere (who, x, v) = elim (cases_eq who seat.who) [
-    | inl e ↦ new_one base is nowhere x (ap (view_at (births as_nodes scenario) after base.core.id) (sym e) ∙ v) kind
-    | inr ne ↦ prior.only base is nowhere (who, x, sym (else_stays base.core.id who ne) ∙ v)
+  only base fact nowhere (who, x, v) = elim (cases_eq who seat.who) [
+    | inl e ↦ new_one base fact nowhere x (ap (view_at (births as_nodes scenario) after base.core.id) (sym e) ∙ v) kind
+    | inr ne ↦ prior.only base fact nowhere (who, x, sym (else_stays base.core.id who ne) ∙ v)
   ]
 
   -- ---- the parent knows it
 
-  module _ (on : task.splits ≡ true) (base : Base) (is : Among base (groups_at as_nodes scenario.groups journal)) (id : base.core.id ≡ task.name) where
+  module _ (on : task.splits ≡ true) (base : Base) (fact : Among base (groups_at as_nodes scenario.groups journal)) (id : base.core.id ≡ task.name) where
     nowhere : IsNowhere (births as_nodes scenario) quiet base.core.id
     nowhere = subst (IsNowhere (births as_nodes scenario) quiet) (sym id) (w.of.new on)
 
@@ -185,7 +182,7 @@ module _ (laws : OfJournals) (well : ScenariosAreWellBorn) (keeps : DeliveriesKe
     no_state m = (let bad : SaysWork task (Install m.group m.slot m.state m.sets) = subst (SaysWork task) m.body says in off_true task.splits on bad.0)
 
     apart : (t : Takes words (births as_nodes scenario) rows seat number mail) → task.name ≡ t.group → ⊥
-    apart t i = not_own t base is nowhere (id ∙ i)
+    apart t i = not_own t base fact nowhere (id ∙ i)
 
     abbrev Known : ℕ → Type 0
     Known who = (r : ReplicaState) × (view_at (births as_nodes scenario) after task.group who ≡ Some r) × Knows task.name r
@@ -198,7 +195,7 @@ module _ (laws : OfJournals) (well : ScenariosAreWellBorn) (keeps : DeliveriesKe
       | inl e ↦ (
           let same : k.0 ≡ t.r = same_Some k.0 t.r (sym k.1 ∙ (ap (λ n. view_at (births as_nodes scenario) rows n seat.who) e ∙ t.was)) in (
             (mailed mail.from mail.body (t.r, [])).0.0,
-            ap (λ n. view_at (births as_nodes scenario) after n seat.who) e ∙ t.is,
+            ap (λ n. view_at (births as_nodes scenario) after n seat.who) e ∙ t.fact,
             knows_still mail.from mail.body t.r task.name stateless (subst (λ (y : ReplicaState). HasCreated task.name y.group.core.born) same k.2),
           ))
       | inr ne ↦ by (t.others task.group ne)
@@ -209,20 +206,20 @@ module _ (laws : OfJournals) (well : ScenariosAreWellBorn) (keeps : DeliveriesKe
         by (inr (child, a, i, none, makes)) = absurd (none_some (sym none ∙ k.1))
 
     known_here : (x : ReplicaState) → view_at (births as_nodes scenario) after task.name seat.who ≡ Some x → RowKind words (births as_nodes scenario) rows seat number mail → Known seat.who
-    known_here x v (inl stay) = (let k = prior.known on base is id seat.who x (sym (stay task.name) ∙ v) in (k.0, stay task.group ∙ k.1, k.2))
+    known_here x v (inl stay) = (let k = prior.known on base fact id seat.who x (sym (stay task.name) ∙ v) in (k.0, stay task.group ∙ k.1, k.2))
     known_here x v (inr (inr m)) = absurd (no_state m)
     known_here x v (inr (inl t)) = by (t.others task.name (apart t))
       where
         by : OneOf task.name seat.who (mailed mail.from mail.body (t.r, [])).1 (view_at (births as_nodes scenario) after task.name seat.who) (view_at (births as_nodes scenario) rows task.name seat.who) → Known seat.who
-        by (inl same) = still_knows t (prior.known on base is id seat.who x (sym same ∙ v))
+        by (inl same) = still_knows t (prior.known on base fact id seat.who x (sym same ∙ v))
         by (inr (child, a, i, none, makes)) =
             let b = b_of t child a in
-            ((mailed mail.from mail.body (t.r, [])).0.0, ap (λ n. view_at (births as_nodes scenario) after n seat.who) (sym b.own) ∙ t.is, subst (λ n. HasCreated n (mailed mail.from mail.body (t.r, [])).0.0.group.core.born) b.name (knows_made mail.from mail.body t.r child a))
+            ((mailed mail.from mail.body (t.r, [])).0.0, ap (λ n. view_at (births as_nodes scenario) after n seat.who) (sym b.own) ∙ t.fact, subst (λ n. HasCreated n (mailed mail.from mail.body (t.r, [])).0.0.group.core.born) b.name (knows_made mail.from mail.body t.r child a))
 
     known : (who : ℕ) (x : ReplicaState) → view_at (births as_nodes scenario) after task.name who ≡ Some x → Known who
     known who x v = elim (cases_eq who seat.who) [
       | inl e ↦ subst Known (sym e) (known_here x (ap (view_at (births as_nodes scenario) after task.name) (sym e) ∙ v) kind)
-      | inr ne ↦ (let k = prior.known on base is id who x (sym (else_stays task.name who ne) ∙ v) in (k.0, else_stays task.group who ne ∙ k.1, k.2))
+      | inr ne ↦ (let k = prior.known on base fact id who x (sym (else_stays task.name who ne) ∙ v) in (k.0, else_stays task.group who ne ∙ k.1, k.2))
     ]
 
     -- ---- where it knows it, there is one
@@ -258,7 +255,7 @@ module _ (laws : OfJournals) (well : ScenariosAreWellBorn) (keeps : DeliveriesKe
           was = state_of laws words scenario journal w.calm p.0 p.1 rows w.under.prefix seat.who t.r (ap (λ n. view_at (births as_nodes scenario) rows n seat.who) p.2 ∙ t.was)
 
           is_now : (k : ℕ) × (next made.0.0 ≡ suc k) × (made.0.0.group ≡ state_after (group_of p.0) (take k (decided_log as_nodes p.0 journal)))
-          is_now = state_of laws words scenario journal w.calm p.0 p.1 after w.goes.prefix seat.who made.0.0 (ap (λ n. view_at (births as_nodes scenario) after n seat.who) p.2 ∙ t.is)
+          is_now = state_of laws words scenario journal w.calm p.0 p.1 after w.goes.prefix seat.who made.0.0 (ap (λ n. view_at (births as_nodes scenario) after n seat.who) p.2 ∙ t.fact)
 
           one_more : is_now.0 ≡ suc was.0
           one_more = (let before = was.1 in let then = is_now.1 in omega (arith, before, then, next_is))
@@ -269,7 +266,7 @@ module _ (laws : OfJournals) (well : ScenariosAreWellBorn) (keeps : DeliveriesKe
           members : base.core.members ≡ right_members t.r.group.core.members
           members = elim (created_by laws words scenario journal w.calm p.0 p.1 task.name was.0 known_then) [
             | inl h ↦ absurd (not (subst (λ (g : Group). HasCreated task.name g.core.born) (sym was.2) h))
-            | inr k ↦ ap (λ (x : Base). x.core.members) (sym ((all_found laws words scenario journal w.calm).apart k.0 base k.1 is (k.2 ∙ sym id))) ∙ (k.3 ∙ ap (λ (g : Group). right_members g.core.members) (sym was.2))
+            | inr k ↦ ap (λ (x : Base). x.core.members) (sym ((all_found laws words scenario journal w.calm).apart k.0 base k.1 fact (k.2 ∙ sym id))) ∙ (k.3 ∙ ap (λ (g : Group). right_members g.core.members) (sym was.2))
           ]
 
           by : HasCreated task.name t.r.group.core.born ⊎ ((kid : Base) × (child_by t.r.group command ≡ Some kid) × (kid.core.id ≡ task.name)) → Has seat.who
@@ -291,12 +288,12 @@ module _ (laws : OfJournals) (well : ScenariosAreWellBorn) (keeps : DeliveriesKe
           goes = mailed_goes t.r [] mail.from mail.body stateless
 
           short : IsShort goes.0.log → Has seat.who
-          short (inl none) = absurd (changed (goes.0.is.0 ∙ ap (state_after t.r.group) none))
+          short (inl none) = absurd (changed (goes.0.fact.0 ∙ ap (state_after t.r.group) none))
           short (inr (command, one)) =
-              by_entry command (goes.0.is.0 ∙ ap (state_after t.r.group) one) (goes.0.is.2 ∙ ap (λ (l : List Command). next t.r + length l) one) (goes.0.kids ∙ ap (kids_of t.r.me t.r.group) one)
+              by_entry command (goes.0.fact.0 ∙ ap (state_after t.r.group) one) (goes.0.fact.2 ∙ ap (λ (l : List Command). next t.r + length l) one) (goes.0.kids ∙ ap (kids_of t.r.me t.r.group) one)
 
     kept_here : (r : ReplicaState) → is_member base.core.members seat.who ≡ true → view_at (births as_nodes scenario) after task.group seat.who ≡ Some r → Knows task.name r → RowKind words (births as_nodes scenario) rows seat number mail → Has seat.who
-    kept_here r member v knows (inl stay) = (let h = prior.kept on base is id seat.who r member (sym (stay task.group) ∙ v) knows in (h.0, stay task.name ∙ h.1))
+    kept_here r member v knows (inl stay) = (let h = prior.kept on base fact id seat.who r member (sym (stay task.group) ∙ v) knows in (h.0, stay task.name ∙ h.1))
     kept_here r member v knows (inr (inr m)) = absurd (no_state m)
     kept_here r member v knows (inr (inl t)) = elim (cases-draw task.group t.group) [
       | inl e ↦ same_group e
@@ -304,23 +301,23 @@ module _ (laws : OfJournals) (well : ScenariosAreWellBorn) (keeps : DeliveriesKe
     ]
       where
         by : (task.group ≡ t.group → ⊥) → OneOf task.group seat.who (mailed mail.from mail.body (t.r, [])).1 (view_at (births as_nodes scenario) after task.group seat.who) (view_at (births as_nodes scenario) rows task.group seat.who) → Has seat.who
-        by ne (inl same) = keep_there t (prior.kept on base is id seat.who r member (sym same ∙ v) knows)
+        by ne (inl same) = keep_there t (prior.kept on base fact id seat.who r member (sym same ∙ v) knows)
         by ne (inr (child, a, i, none, makes)) = absurd (ne (sym (b_of t child a).own))
 
         same_group : task.group ≡ t.group → Has seat.who
         same_group e =
             let made : Executed = mailed mail.from mail.body (t.r, []) in
-            let own : r ≡ made.0.0 = same_Some r made.0.0 (sym v ∙ (ap (λ n. view_at (births as_nodes scenario) after n seat.who) e ∙ t.is)) in
+            let own : r ≡ made.0.0 = same_Some r made.0.0 (sym v ∙ (ap (λ n. view_at (births as_nodes scenario) after n seat.who) e ∙ t.fact)) in
             elim (cases_Bool (list_any (λ other. same_draw other task.name) t.r.group.core.born)) [
-              | inl known_before ↦ keep_there t (prior.kept on base is id seat.who t.r member (ap (λ n. view_at (births as_nodes scenario) rows n seat.who) e ∙ t.was) known_before)
+              | inl known_before ↦ keep_there t (prior.kept on base fact id seat.who t.r member (ap (λ n. view_at (births as_nodes scenario) rows n seat.who) e ∙ t.was) known_before)
               | inr not ↦ new_kid t e member (λ has. true≢false (sym has ∙ not)) (subst (λ (y : ReplicaState). HasCreated task.name y.group.core.born) own knows)
             ]
 
     kept : (who : ℕ) (r : ReplicaState) → is_member base.core.members who ≡ true → view_at (births as_nodes scenario) after task.group who ≡ Some r → Knows task.name r → Has who
     kept who r member v knows = elim (cases_eq who seat.who) [
       | inl e ↦ subst Has (sym e) (kept_here r (subst (λ n. is_member base.core.members n ≡ true) e member) (ap (view_at (births as_nodes scenario) after task.group) (sym e) ∙ v) knows kind)
-      | inr ne ↦ (let h = prior.kept on base is id who r member (sym (else_stays task.group who ne) ∙ v) knows in (h.0, else_stays task.name who ne ∙ h.1))
+      | inr ne ↦ (let h = prior.kept on base fact id who r member (sym (else_stays task.group who ne) ∙ v) knows in (h.0, else_stays task.name who ne ∙ h.1))
     ]
 
   pub created_still : AreCreatedByOrder scenario journal quiet (with_event rows seat (Deliver number)) task
-  created_still = record { only = only; known = λ on base is id. known on base is id; kept = λ on base is id. kept on base is id }
+  created_still = record { only = only; known = λ on base fact id. known on base fact id; kept = λ on base fact id. kept on base fact id }

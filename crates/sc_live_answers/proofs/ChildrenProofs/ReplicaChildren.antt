@@ -17,7 +17,7 @@ use Rattle.sc_live_steps.proofs.FollowingProofs.Lemmas.{told_state, landed_is, e
 use Rattle.sc_live_journals.proofs.LogsProofs.Lemmas.{at, IsAlong, is_next, next_ready_is, one_past}
 use Rattle.sc_live_answers.proofs.ReplicasProofs.Pumps.{pump_next}
 use Rattle.sc_live_answers.specs.Definitions.{IsBirth}
-use Rattle.sc_live_answers.proofs.GroupsProofs.VoteEntries.{past_next, vote_executes}
+use Rattle.sc_live_answers.proofs.LedGroupsProofs.VoteEntries.{past_next, vote_executes}
 
 -- the last of two lists that go on the same
 same_last : (xs : List Command) (c d : Command) → xs ++ c ∷ [] ≡ xs ++ d ∷ [] → c ≡ d
@@ -100,7 +100,7 @@ module _ (ahead : Ahead) (open_slots : ahead.slots ≡ slots_ahead) (base : Base
   step_creates : (c : Command) (place : Place) (es : List (ℕ × Command)) → Along place.0 → place.0.me ≡ me → IsLearnt (rule ahead base) h (next place.0) c → next (executed_one true c place).0 ≡ next place.0 + 1
       → Creates (next (executed_one true c place).0) (executed_ready es (executed_one true c place)) → Creates (next place.0) (ending (next_child c place.0) (executed_ready es (executed_one true c place)))
   step_creates c place es k mine t up rest slot child least most b member = elim (cases_eq slot (next place.0)) [
-    | inl is ↦ Among-left child (next_child c place.0) (executed_ready es (executed_one true c place)).1 (born_here c place.0 k mine t child (subst (λ n. IsBirth all base n child) is b) member)
+    | inl fact ↦ Among-left child (next_child c place.0) (executed_ready es (executed_one true c place)).1 (born_here c place.0 k mine t child (subst (λ n. IsBirth all base n child) fact b) member)
     | inr ne ↦ Among-right child (next_child c place.0) (executed_ready es (executed_one true c place)).1
         (rest slot child (past_next slot (next place.0) (next (executed_one true c place).0) up least ne) (let still = pump_next (executed_ready es (executed_one true c place)).0 in omega (arith, most, still)) b member)
   ]
@@ -112,9 +112,9 @@ module _ (ahead : Ahead) (open_slots : ahead.slots ≡ slots_ahead) (base : Base
     where
       by : ((p : Place) → Along p.0 → p.0.me ≡ me → Creates (next p.0) (executed_ready es p)) → (o : Option Command) → next_ready place.0 ≡ o
           → Creates (next place.0) (elim o as (λ _. Executed) [ None ↦ childless place | Some command ↦ ending (next_child command place.0) (executed_ready es (executed_one true command place)) ])
-      by rest None is = λ slot child least most. absurd (omega (arith, least, most))
-      by rest (Some c) is =
-          let there = next_ready_is place.0 c is in
+      by rest None fact = λ slot child least most. absurd (omega (arith, least, most))
+      by rest (Some c) fact =
+          let there = next_ready_is place.0 c fact in
           let t = Each-among (λ e. IsLearnt (rule ahead base) h e.0 e.1) place.0.ready (next place.0, c) k.ready there.0 in
           let past = one_past ahead open_slots base roster h lawful all prefixes c place.0 k there.1 t place.1 in
           step_creates c place es k mine t past.1 (rest (executed_one true c place) past.0 (one_me c place.0 k there.1 t place.1 ∙ mine))
@@ -151,5 +151,5 @@ module _ (ahead : Ahead) (open_slots : ahead.slots ≡ slots_ahead) (base : Base
       (from : ℕ) (ballot : Ballot) (slot : ℕ) (d : Command) (did : Among (Accepted from ballot slot d) h) where
     pub vote_creates : Creates (next r) (accepted_row from ballot slot (r, []))
     vote_creates =
-        vote_executes ahead open_slots base roster h lawful all prefixes r k opens flying from ballot slot d did (Creates (next r)) (λ step is other child least most. absurd (omega (arith, least, most, is)))
+        vote_executes ahead open_slots base roster h lawful all prefixes r k opens flying from ballot slot d did (Creates (next r)) (λ step fact other child least most. absurd (omega (arith, least, most, fact)))
         (λ c leader ready along t. executed_creates c (record r { leader = leader; ready = ready }, []) along mine runs t)

@@ -62,9 +62,9 @@ no_deeds (entry ∷ entries) a = absurd a
 -- so the name that the order draws is in no use there
 pub order_unnamed : (words : ℕ → ℕ → ℕ × ℕ) (scenario : Scenario) (quiet rows : Rows) (stage : Stage) → IsBounded scenario → Lawful as_nodes words scenario quiet → IsTrueSince scenario quiet rows stage
     → (group : Draw) (chief : ℕ) (tx : Draw) → stage ≡ Ordered group chief (Opens tx) → (r : ReplicaState) → view_at (births as_nodes scenario) rows group chief ≡ Some r → has_named r.group.core tx ≡ false
-order_unnamed words scenario quiet rows stage bounded lawful t group chief tx e r is =
+order_unnamed words scenario quiet rows stage bounded lawful t group chief tx e r fact =
     let d : HasDone (births as_nodes scenario) quiet rows (doer group chief []) = (subst (λ x. Each (HasDone (births as_nodes scenario) quiet rows) (doers_of x)) e t.done).0 in
     let unused : IsUnused scenario quiet tx = (subst (λ x. Each (IsUnused scenario quiet) (listed (tx_of x))) e t.new).0 in
-    let same : d.now ≡ r = (let both : Some d.now ≡ Some r = sym d.is ∙ is in cc) in
+    let same : d.now ≡ r = (let both : Some d.now ≡ Some r = sym d.fact ∙ fact in cc) in
     let first_is : r.group ≡ d.first.group = ap (λ (x : ReplicaState). x.group) (sym same) ∙ (d.group_is ∙ ap (state_after d.first.group) (no_deeds d.entries d.did)) in
     ap (λ (g : Group). has_named g.core tx) first_is ∙ unnamed words scenario quiet bounded lawful tx unused group chief d.first d.was

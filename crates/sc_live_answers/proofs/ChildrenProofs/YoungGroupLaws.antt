@@ -1,7 +1,7 @@
 -- What holds of the groups that were nowhere in a quiet journal, while an order is under way since it.
 use Rattle.sc_live_answers.proofs.ChildrenProofs.YoungGroupRows.{groups_stay}
 use Rattle.sc_live_journals.proofs.GroupsProofs.Lemmas.{scenarios_are_well_born}
-use Rattle.sc_live_answers.proofs.GroupsProofs.LedGroupLaws.{children_are_begun, replicas_run_logs, groups_are_taught}
+use Rattle.sc_live_answers.proofs.LedGroupsProofs.LedGroupLaws.{children_are_begun, replicas_run_logs, groups_are_taught}
 use Rattle.sc_live_answers.specs.Definitions.{YoungGroupsStay, ChildrenWereNowhere, ChildrenAreCreated}
 use Rattle.sc_live_answers.proofs.ChildrenProofs.ChildrenUnderOrders.{children_were}
 use Rattle.sc_live_journals.proofs.MailProofs.Lemmas.{replicas_last, slots_are_left}

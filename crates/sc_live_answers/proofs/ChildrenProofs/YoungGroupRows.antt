@@ -20,9 +20,9 @@ use Rattle.sc_node_table.specs.Definitions.{result_sent, NodeState, replica_of, 
 use Rattle.sc_law_walks.proofs.Lemmas.{either_way}
 use Rattle.sc_meaning.specs.sound.Definitions.{Player, player_table, births, as_nodes}
 use Rattle.sc_live_steps.specs.calm.Definitions.{players, Rows}
-use Rattle.sc_live_steps.proofs.CalmProofs.Lemmas.{put_others}
+use Rattle.sc_live_steps.proofs.CalmStepsProofs.Lemmas.{put_others}
 use Rattle.sc_live_steps.specs.orders.Definitions.{errand_by, errand_for, errands_for, Errand, Here, IsNone, Stage, parties_of}
-use Rattle.sc_live_steps.proofs.OrdersProofs.Lemmas.{right_none as behind}
+use Rattle.sc_live_steps.proofs.OrderStepsProofs.Lemmas.{right_none as behind}
 use Rattle.sc_live_journals.specs.rows.Definitions.{view_at, IsSeat, with_event, IsBornOr, AreAsBegun, made_children}
 use Rattle.sc_live_journals.proofs.RowsProofs.Lemmas.{names_stay, mailed_keeps, order_keeps, found_name, view_others, view_was, Plays, replay_well, none_some}
 use Rattle.sc_live_journals.specs.groups.Definitions.{ScenariosAreWellBorn}
@@ -36,8 +36,8 @@ use Rattle.sc_live_answers.proofs.ReplicasProofs.TakenMail.{mail_taken}
 
 -- a node has the number of its seat
 pub node_number : ScenariosAreWellBorn → (scenario : Scenario) (rows : Rows) (seat : Seat Player) (node : NodeState) → IsSeat (births as_nodes scenario) seat → value player_table seat rows ≡ Node node → node.me ≡ seat.who
-node_number well scenario rows seat node born is =
-    let plays : Plays seat.who (Node node) = subst (Plays seat.who) is (replay_well seat.who seat.who rows seat.actor [] (plays_of seat.who seat.actor ((well scenario).well seat born))) in
+node_number well scenario rows seat node born fact =
+    let plays : Plays seat.who (Node node) = subst (Plays seat.who) fact (replay_well seat.who seat.who rows seat.actor [] (plays_of seat.who seat.actor ((well scenario).well seat born))) in
     plays.0
 
 -- ---- errands
@@ -63,7 +63,7 @@ IsNoneFor name mail = IsFor name mail → ⊥
 -- where a group has no errand in some mail, and all its mail is errands, none is of it
 silent_none : (name : Draw) (mails : List Mail) → errands_for name mails ≡ [] → Each (IsErrandFor name) mails → Each (IsNoneFor name) mails
 silent_none name [] none e = tt
-silent_none name (mail ∷ mails) none e = ((λ is. head is), silent_none name mails (rest_none none) e.1)
+silent_none name (mail ∷ mails) none e = ((λ fact. head fact), silent_none name mails (rest_none none) e.1)
   where
     own : List Errand
     own = errand_for name (errand_by mail.from mail.to mail.body)
@@ -72,9 +72,9 @@ silent_none name (mail ∷ mails) none e = ((λ is. head is), silent_none name m
     rest_none n = (split_none (errand_for name (errand_by mail.from mail.to mail.body)) (errands_for name mails) n).1
 
     head : IsFor name mail → ⊥
-    head is =
-        let entry = e.0 is in
-        let group = errand_group name mail.from mail.to mail.body entry.0 entry.1 is in
+    head fact =
+        let entry = e.0 fact in
+        let group = errand_group name mail.from mail.to mail.body entry.0 entry.1 fact in
         let nothing : own ≡ [] = (split_none own (errands_for name mails) none).0 in
         let one : own ≡ entry.0.1 ∷ [] = ap (errand_for name) entry.1 ∙ cond-true (same_draw entry.0.0 name) (entry.0.1 ∷ []) [] (same_name entry.0.0 name group) in
         let bad : [] ≡ entry.0.1 ∷ [] = sym nothing ∙ one in
@@ -95,7 +95,7 @@ module _ (words : ℕ → ℕ → ℕ × ℕ) (births : List (Seat Player)) (qui
   no_party : (name : Draw) → IsNowhere births quiet name → AreUntouched words births quiet (with_event rows seat event) later → IsNone name (parties_of later)
   no_party name nowhere u =
       Each-weaker (λ (party : Draw × Here). (node : ℕ) × (r : ReplicaState) × (view_at births quiet party.0 node ≡ Some r)) (λ (party : Draw × Here). name ≡ party.0 → ⊥)
-      (λ party there is. none_some (sym (nowhere there.0) ∙ (ap (λ n. view_at births quiet n there.0) is ∙ there.2))) (parties_of later) u.parties
+      (λ party there fact. none_some (sym (nowhere there.0) ∙ (ap (λ n. view_at births quiet n there.0) fact ∙ there.2))) (parties_of later) u.parties
 
   -- so the row sends it nothing
   pub sends_none : (name : Draw) → IsNowhere births quiet name → AreUntouched words births quiet (with_event rows seat event) later → Each (IsErrandFor name) (row_of player_table seat rows event).sent
@@ -113,12 +113,12 @@ module _ (words : ℕ → ℕ → ℕ × ℕ) (births : List (Seat Player)) (qui
   passes_young : (base : Base) → IsNowhere births quiet base.core.id → AreUntouched words births quiet (with_event rows seat event) later → Passes base → IsYoungAt words births rows base → IsYoungAt words births (with_event rows seat event) base
   passes_young base nowhere u p y = record {
     born = λ who. elim (cases_eq who seat.who) [
-      | inl is ↦ subst (λ n. Young n (view_at births (with_event rows seat event) base.core.id n)) (sym is) (own p.view (y.born seat.who))
+      | inl fact ↦ subst (λ n. Young n (view_at births (with_event rows seat event) base.core.id n)) (sym fact) (own p.view (y.born seat.who))
       | inr ne ↦ subst (Young who) (sym (view_others births rows (row_of player_table seat rows event) base.core.id who ne)) (y.born who)
     ];
-    unsent = λ who is.
+    unsent = λ who fact.
         subst (Each (IsNoneFor base.core.id)) (sym (rest-calm s rows row who tidy calm))
-        (Each-append (IsNoneFor base.core.id) (drop (taken who row) (rest s rows who)) (mail_for s who row.sent) (Each-drop (IsNoneFor base.core.id) (taken who row) (rest s rows who) (y.unsent who is))
+        (Each-append (IsNoneFor base.core.id) (drop (taken who row) (rest s rows who)) (mail_for s who row.sent) (Each-drop (IsNoneFor base.core.id) (taken who row) (rest s rows who) (y.unsent who fact))
         (each_filter (IsNoneFor base.core.id) (λ (m : Mail). eqb (s.receiver m) who) row.sent (sends_none base.core.id nowhere u p.silent)));
   }
     where
@@ -140,15 +140,15 @@ module _ (words : ℕ → ℕ → ℕ × ℕ) (births : List (Seat Player)) (qui
 
   -- a client that sends nothing
   client_passes : (base : Base) (client : ClientState) → value player_table seat rows ≡ Client client → (input : Input Mail OrderLine) → input_of (mails rows) event ≡ Some input → (table client input).1 ≡ [] → Passes base
-  client_passes base client is input e none = (let l = client_leaves words births rows seat event born timely client is base.core.id input e none in record { view = inl l.view; silent = l.silent })
+  client_passes base client fact input e none = (let l = client_leaves words births rows seat event born timely client fact base.core.id input e none in record { view = inl l.view; silent = l.silent })
 
   -- a node, by what it makes of its replica and sends
   node_passes : (base : Base) (node : NodeState) → value player_table seat rows ≡ Node node → (step : NodeState × List Mail) (o : Option (Input Mail OrderLine)) → input_of (mails rows) event ≡ o → acted player_table (Node node) o ≡ (Node step.0, step.1)
       → IsBornOr base seat.who (replica_of base.core.id step.0.replicas) (replica_of base.core.id node.replicas) → Each (IsErrandFor base.core.id) step.1 → Passes base
-  node_passes base node is step o input response view silent = record {
-    view = subst (λ v. IsBornOr base seat.who v (view_at births rows base.core.id seat.who)) (sym (now_is births rows seat event node born is step o input response base.core.id))
-        (subst (IsBornOr base seat.who (replica_of base.core.id step.0.replicas)) (sym (was_is births rows seat event node born is step o input response base.core.id)) view);
-    silent = subst (Each (IsErrandFor base.core.id)) (sym (all_sent births rows seat event node born is step o input response)) silent;
+  node_passes base node fact step o input response view silent = record {
+    view = subst (λ v. IsBornOr base seat.who v (view_at births rows base.core.id seat.who)) (sym (now_is births rows seat event node born fact step o input response base.core.id))
+        (subst (IsBornOr base seat.who (replica_of base.core.id step.0.replicas)) (sym (was_is births rows seat event node born fact step o input response base.core.id)) view);
+    silent = subst (Each (IsErrandFor base.core.id)) (sym (all_sent births rows seat event node born fact step o input response)) silent;
   }
 
 -- ---- a delivery
@@ -175,10 +175,10 @@ module _ (words : ℕ → ℕ → ℕ × ℕ) (births : List (Seat Player)) (qui
   abbrev mail : Mail
   mail = first.mail
 
-  module _ (node : NodeState) (is : value player_table seat rows ≡ Node node) where
+  module _ (node : NodeState) (fact : value player_table seat rows ≡ Node node) where
     makes : (step : NodeState × List Mail) → on_mail mail.from mail.body node ≡ step → IsBornOr base seat.who (replica_of name step.0.replicas) (replica_of name node.replicas) → Each (IsErrandFor name) step.1 → Passed
     makes step e view silent =
-        node_passes words births quiet rows seat (Deliver number) later born timely base node is step (Some (Got mail)) (ap (option_map Got) first.sent) (ap (λ (x : NodeState × List Mail). (Node x.0, x.1)) e) view silent
+        node_passes words births quiet rows seat (Deliver number) later born timely base node fact step (Some (Got mail)) (ap (option_map Got) first.sent) (ap (λ (x : NodeState × List Mail). (Node x.0, x.1)) e) view silent
 
     module _ (group : Draw) (named : group_of_mail mail.body ≡ Some group) (comes : may_come mail.from mail.body ≡ true) where
       ne : name ≡ group → ⊥
@@ -201,7 +201,7 @@ module _ (words : ℕ → ℕ → ℕ × ℕ) (births : List (Seat Player)) (qui
         stays_put = put_others group name made.0.0 node.replicas (names_stay.mailed mail.from mail.body r ∙ own) ne
 
         begun_so : AreAsBegun base seat.who made.1
-        begun_so = subst (λ o. AreAsBegun base seat.who (made_children o mail.from mail.body)) here (begun node mail group is first.sent named)
+        begun_so = subst (λ o. AreAsBegun base seat.who (made_children o mail.from mail.body)) here (begun node mail group fact first.sent named)
 
         by : OneOf name seat.who made.1 (replica_of name (with_children made.1 put).replicas) (replica_of name put.replicas) → IsBornOr base seat.who (replica_of name (with_children made.1 put).replicas) (replica_of name node.replicas)
         by (inl e) = inl (e ∙ stays_put)
@@ -211,7 +211,7 @@ module _ (words : ℕ → ℕ → ℕ × ℕ) (births : List (Seat Player)) (qui
 
         some_passes : Passed
         some_passes =
-            makes (with_children made.1 put, made.0.1) (mail_taken mail.from mail.body node group named comes (Some r) here) (by (all_children seat.who name made.1 put (me node is)))
+            makes (with_children made.1 put, made.0.1) (mail_taken mail.from mail.body node group named comes (Some r) here) (by (all_children seat.who name made.1 put (me node fact)))
             (quiet_errands (name_of r) name made.0.1 (λ i. ne (sym i ∙ own)) (mailed_keeps (name_of r) mail.from mail.body (r, []) (refl, tt)).1)
 
       taken_so : (o : Option ReplicaState) → replica_of group node.replicas ≡ o → Passed
@@ -226,10 +226,10 @@ module _ (words : ℕ → ℕ → ℕ × ℕ) (births : List (Seat Player)) (qui
     mail_so true comes (Some group) e = taken_so group e comes (replica_of group node.replicas) refl
 
   player_so : (player : Player) → value player_table seat rows ≡ player → Passed
-  player_so (Client client) is =
-      client_passes words births quiet rows seat (Deliver number) later born timely base client is (Got mail) (ap (option_map Got) first.sent)
+  player_so (Client client) fact =
+      client_passes words births quiet rows seat (Deliver number) later born timely base client fact (Got mail) (ap (option_map Got) first.sent)
       (got_nothing mail.from mail.body client (λ group seq answer. unanswered mail group seq answer first.sent))
-  player_so (Node node) is = mail_so node is (may_come mail.from mail.body) refl (group_of_mail mail.body) refl
+  player_so (Node node) fact = mail_so node fact (may_come mail.from mail.body) refl (group_of_mail mail.body) refl
 
   pub delivery_passes : Passed
   delivery_passes = player_so (value player_table seat rows) refl
@@ -245,21 +245,21 @@ module _ (words : ℕ → ℕ → ℕ × ℕ) (births : List (Seat Player)) (qui
   told = group_of_order line.order
 
   node_begins : (node : NodeState) → value player_table seat quiet ≡ Node node → (o : Option ReplicaState) → replica_of told node.replicas ≡ o → Begins
-  node_begins node is None here =
-      node_passes words births quiet quiet seat (Told line) stage born timely base node is (node, result_sent node.me line.number (Refused (NotLeader None)) []) (Some (ToldInput line)) refl
+  node_begins node fact None here =
+      node_passes words births quiet quiet seat (Told line) stage born timely base node fact (node, result_sent node.me line.number (Refused (NotLeader None)) []) (Some (ToldInput line)) refl
       (ap (λ (x : NodeState × List Mail). (Node x.0, x.1)) (ap (λ o. ordered_of o line node) here)) (inl refl) ((λ n. absurd (none_some n)), tt)
-  node_begins node is (Some r) here =
+  node_begins node fact (Some r) here =
       let own = found_name told node.replicas r here in
-      let ne : base.core.id ≡ told → ⊥ = λ i. none_some (sym (nowhere seat.who) ∙ (view_was births quiet seat Go base.core.id born (Node node) is ∙ (ap (λ n. replica_of n node.replicas) i ∙ here))) in
+      let ne : base.core.id ≡ told → ⊥ = λ i. none_some (sym (nowhere seat.who) ∙ (view_was births quiet seat Go base.core.id born (Node node) fact ∙ (ap (λ n. replica_of n node.replicas) i ∙ here))) in
       let step : NodeState × List Mail = ordered_of (Some r) line node in
-      node_passes words births quiet quiet seat (Told line) stage born timely base node is step (Some (ToldInput line)) refl
+      node_passes words births quiet quiet seat (Told line) stage born timely base node fact step (Some (ToldInput line)) refl
       (ap (λ (x : NodeState × List Mail). (Node x.0, x.1)) (ap (λ o. ordered_of o line node) here))
       (inl (put_others told base.core.id (ordered_row node.draws line (r, [])).0 node.replicas (names_stay.ordered node.draws line r ∙ own) ne))
       (quiet_errands (name_of r) base.core.id (ordered_row node.draws line (r, [])).1 (λ i. ne (sym i ∙ own)) (order_keeps (name_of r) node.draws line (r, []) (refl, tt)).1)
 
   player_begins : (player : Player) → value player_table seat quiet ≡ player → Begins
-  player_begins (Client client) is = client_passes words births quiet quiet seat (Told line) stage born timely base client is (ToldInput line) refl refl
-  player_begins (Node node) is = node_begins node is (replica_of told node.replicas) refl
+  player_begins (Client client) fact = client_passes words births quiet quiet seat (Told line) stage born timely base client fact (ToldInput line) refl refl
+  player_begins (Node node) fact = node_begins node fact (replica_of told node.replicas) refl
 
   pub order_passes : Begins
   order_passes = player_begins (value player_table seat quiet) refl
@@ -268,7 +268,7 @@ module _ (words : ℕ → ℕ → ℕ × ℕ) (births : List (Seat Player)) (qui
   pub quiet_young : is_quiet (players words births) quiet ≡ true → IsYoungAt words births quiet base
   quiet_young calm = record {
     born = λ who. inl (nowhere who);
-    unsent = λ who is. subst (Each (IsNoneFor base.core.id)) (sym (quiet-empty (players words births) quiet who (in_time_tidy (players words births) quiet (in_time_before (players words births) quiet (row_of player_table seat quiet (Told line)) timely)) is calm)) tt;
+    unsent = λ who fact. subst (Each (IsNoneFor base.core.id)) (sym (quiet-empty (players words births) quiet who (in_time_tidy (players words births) quiet (in_time_before (players words births) quiet (row_of player_table seat quiet (Told line)) timely)) fact calm)) tt;
   }
 
 pub groups_stay : ScenariosAreWellBorn → ChildrenAreBegun → YoungGroupsStay
@@ -279,8 +279,8 @@ groups_stay well begun = record {
   stays = λ words scenario journal quiet rows seat number later calm goes unanswered u base stands nowhere y.
       (let group : IsGroupOf as_nodes words scenario journal base = record { open_slots = refl; valid = calm.valid; lawful = calm.lawful; stands = stands } in
       passes_young words (births as_nodes scenario) quiet rows seat (Deliver number) later goes.seated goes.timely base nowhere u
-      (delivery_passes words (births as_nodes scenario) quiet rows seat number later goes.seated goes.timely unanswered (λ node is. node_number well scenario rows seat node goes.seated is) base
-      (λ node mail g is sent named. begun as_nodes words scenario journal base group rows (row_of player_table seat rows (Deliver number) ∷ goes.prefix.more) (prefixes rows (row_of player_table seat rows (Deliver number)) goes.prefix.more journal goes.prefix.is) seat node goes.seated is number mail g sent named) y) y);
+      (delivery_passes words (births as_nodes scenario) quiet rows seat number later goes.seated goes.timely unanswered (λ node fact. node_number well scenario rows seat node goes.seated fact) base
+      (λ node mail g fact sent named. begun as_nodes words scenario journal base group rows (row_of player_table seat rows (Deliver number) ∷ goes.prefix.more) (prefixes rows (row_of player_table seat rows (Deliver number)) goes.prefix.more journal goes.prefix.fact) seat node goes.seated fact number mail g sent named) y) y);
 }
   where
     prefixes : (xs : Rows) (x : Row Mail OrderLine) (ys journal : Rows) → journal ≡ (xs ++ x ∷ []) ++ ys → journal ≡ xs ++ x ∷ ys

@@ -26,7 +26,7 @@ use Rattle.sc_live_answers.proofs.ChildrenProofs.ChildrenAtStart.{created_first}
 use Rattle.sc_live_answers.proofs.ChildrenProofs.ChildrenUnderOrders.{there_or, prefix_in_time}
 use Rattle.sc_live_answers.proofs.ChildrenProofs.Lineage.{log_stays}
 use Rattle.sc_live_answers.proofs.ChildrenProofs.ChildrenInLogs.{OfJournals, all_found, state_of, state_stays, first_known}
-use Rattle.sc_live_answers.proofs.GroupsProofs.JournalGroups.{calm_slots, calm_group}
+use Rattle.sc_live_answers.proofs.LedGroupsProofs.JournalGroups.{calm_slots, calm_group}
 
 -- who goes was a member
 any_behind : {X : Type 0} (p : X → Bool) (n : ℕ) (xs : List X) → list_any p (drop n xs) ≡ true → list_any p xs ≡ true
@@ -52,7 +52,7 @@ module _ (laws : OfJournals) (more_laws : OfMembers) (words : ℕ → ℕ → �
   all = births as_nodes scenario
 
   timely : AreInTime (players words (births as_nodes scenario)) rows
-  timely = prefix_in_time words (births as_nodes scenario) journal rows under.prefix.more under.prefix.is calm.timely
+  timely = prefix_in_time words (births as_nodes scenario) journal rows under.prefix.more under.prefix.fact calm.timely
 
   -- what was there is there
   lasts : (name : Draw) (who : ℕ) → HasReplica (view_at (births as_nodes scenario) quiet) name who → HasReplica (view_at (births as_nodes scenario) rows) name who
@@ -62,7 +62,7 @@ module _ (laws : OfJournals) (more_laws : OfMembers) (words : ℕ → ℕ → �
 
   module _ (p : Base) (stands : Among p (groups_at as_nodes scenario.groups journal)) where
     taught : IsTaughtOn (logged_sets as_nodes p journal) (over_at as_nodes p journal) (slot_leaders_at as_nodes scenario p journal) words (births as_nodes scenario) rows p
-    taught = (more_laws.taught words scenario journal rows under.prefix.more p (calm_group words scenario journal calm p stands) calm.timely (calm_slots words scenario journal calm more_laws.left p) under.prefix.is (under.sent p stands).so).0
+    taught = (more_laws.taught words scenario journal rows under.prefix.more p (calm_group words scenario journal calm p stands) calm.timely (calm_slots words scenario journal calm more_laws.left p) under.prefix.fact (under.sent p stands).so).0
 
     no_marks : (who : ℕ) → marks_at (players words (births as_nodes scenario)) rows p.core.id who ≡ []
     no_marks who = elim (cases_Bool (is_born (players words (births as_nodes scenario)) who)) [
@@ -90,13 +90,13 @@ module _ (laws : OfJournals) (more_laws : OfMembers) (words : ℕ → ℕ → �
         by true k = omega (arith, k)
         by false k = omega (arith, k)
 
-  module _ (base : Base) (is : Among base (groups_at as_nodes scenario.groups journal)) (there : IsThere (births as_nodes scenario) rows base.core.id) (who : ℕ) (member : is_member base.core.members who ≡ true) where
+  module _ (base : Base) (fact : Among base (groups_at as_nodes scenario.groups journal)) (there : IsThere (births as_nodes scenario) rows base.core.id) (who : ℕ) (member : is_member base.core.members who ≡ true) where
     abbrev Has : Type 0
     Has = HasReplica (view_at (births as_nodes scenario) rows) base.core.id who
 
     module _ (on : task.splits ≡ true) (id : base.core.id ≡ task.name) where
       created_of : (r : ReplicaState) × (view_at (births as_nodes scenario) rows task.group there.0 ≡ Some r) × Knows task.name r
-      created_of = prior.known on base is id there.0 there.1 (ap (λ n. view_at (births as_nodes scenario) rows n there.0) (sym id) ∙ there.2)
+      created_of = prior.known on base fact id there.0 there.1 (ap (λ n. view_at (births as_nodes scenario) rows n there.0) (sym id) ∙ there.2)
 
       p : (base : Base) × Among base (groups_at as_nodes scenario.groups journal) × (base.core.id ≡ task.group)
       p = named task.group there.0 created_of.0 created_of.1
@@ -119,7 +119,7 @@ module _ (laws : OfJournals) (more_laws : OfMembers) (words : ℕ → ℕ → �
       entry = first_known laws words scenario journal calm p.0 p.1 task.name state.0 (subst (λ (g : Group). HasCreated task.name g.core.born) state.2 created_of.2) not_first
 
       same : entry.2.0 ≡ base
-      same = (all_found laws words scenario journal calm).apart entry.2.0 base entry.2.1 is (entry.2.2 ∙ sym id)
+      same = (all_found laws words scenario journal calm).apart entry.2.0 base entry.2.1 fact (entry.2.2 ∙ sym id)
 
       -- its members were members before
       before : is_member (State entry.0).core.members who ≡ true
@@ -145,13 +145,13 @@ module _ (laws : OfJournals) (more_laws : OfMembers) (words : ℕ → ℕ → �
 
       by_entry : Has
       by_entry =
-          let has = prior.kept on base is id who some.0 member (ap (λ n. view_at (births as_nodes scenario) rows n who) (sym p.2) ∙ some.1) knows in
+          let has = prior.kept on base fact id who some.0 member (ap (λ n. view_at (births as_nodes scenario) rows n who) (sym p.2) ∙ some.1) knows in
           (has.0, ap (λ n. view_at (births as_nodes scenario) rows n who) id ∙ has.1)
 
     pub has : Has
     has = elim (there_or (births as_nodes scenario) quiet base.core.id) [
-      | inl old ↦ lasts base.core.id who (under.rests.members base is old who member)
-      | inr nowhere ↦ (let new = prior.only base is nowhere there in by_entry new.0 new.1)
+      | inl old ↦ lasts base.core.id who (under.rests.members base fact old who member)
+      | inr nowhere ↦ (let new = prior.only base fact nowhere there in by_entry new.0 new.1)
     ]
 
 pub children_created : OfJournals → OfMembers → ScenariosAreWellBorn → ChildrenAreBegun → DeliveriesKeepWork → ChildrenAreCreated
@@ -159,6 +159,6 @@ children_created laws more_laws well begun keeps = record {
   begins = created_first;
   keeps = λ words scenario first journal quiet rows line task seat number w prior. created_still laws well keeps words scenario first journal quiet rows line task seat number w prior;
   young = λ words scenario first journal quiet rows line task seat number w prior mail group node r t here. are_young laws begun keeps words scenario first journal quiet rows line task seat number w prior mail group node r t here;
-  members = λ words scenario first journal quiet rows more line task calm under at is_calm named of prior strangers base is there node member.
-      has laws more_laws words scenario first journal quiet rows more line task calm under at is_calm named of prior strangers base is there node member;
+  members = λ words scenario first journal quiet rows more line task calm under at is_calm named of prior strangers base fact there node member.
+      has laws more_laws words scenario first journal quiet rows more line task calm under at is_calm named of prior strangers base fact there node member;
 }

@@ -7,7 +7,7 @@ use Rattle.sc_node_table.specs.Definitions.{ReplicaState, Place, mailed, name_of
 use Rattle.sc_meaning.specs.sound.Definitions.{Player}
 use Rattle.sc_live_steps.specs.calm.Definitions.{Rows}
 use Rattle.sc_live_steps.specs.orders.Definitions.{bond_of, errand_by, is_yes, is_cast_yes, work_by, works, FliesLone, RunsAlone, Answers, Bound, Elsewhere, Errand, Question, Reply, Result, Here, Records, Ends, Unbound, Work, IsUnderWay, IsUnbound, MayFile, Works, EntryLeaves, results, errands_for, is_watch, Asking, Bond, First, IsOnly, IsNone, Lone, Next, Turn}
-use Rattle.sc_live_steps.proofs.OrdersProofs.Lemmas.{votes-count-alone, tables-file, tables-ask-on, cases-draw, tables-rest, promises-keep, entries-run-alone}
+use Rattle.sc_live_steps.proofs.OrderStepsProofs.Lemmas.{votes-count-alone, tables-file, tables-ask-on, cases-draw, tables-rest, promises-keep, entries-run-alone}
 use Rattle.sc_live_journals.specs.scenes.Definitions.{IsAsking, IsWaiting, Aborted, Changed, Decided, Ended, FindsFlight, Heard, Late, LeaderFinds, Leaves, Opened, Voted, ComesToLeader, scene_at, IsEntry}
 use Rattle.sc_live_journals.proofs.ScenesProofs.Lemmas.{tell}
 use Rattle.sc_live_journals.proofs.ScenesProofs.AnswersAndLateMail.{untouched, asks_leave, votes_late, learnt_late, sent_late}
@@ -38,7 +38,7 @@ only_each P sent f o each name e a = go sent o.0 each (o.1 name)
     go : (more : List (Draw × List Errand)) → Each (λ entry. f entry.0 ≡ entry.1) more → Each (λ entry. Each P entry.1) more → (IsNone name more → f name ≡ []) → P e
     go [] are each none = absurd (subst (Among e) (none tt) a)
     go (entry ∷ more) are each none = elim (cases-draw name entry.0) [
-      | inl is ↦ Each-among P entry.1 e each.0 (subst (Among e) (ap f is ∙ are.0) a)
+      | inl fact ↦ Each-among P entry.1 e each.0 (subst (Among e) (ap f fact ∙ are.0) a)
       | inr ne ↦ go more are.1 each.1 (λ m. none (ne, m))
     ]
 
@@ -60,10 +60,10 @@ results_other tx asked (Next part host) by = ((tt, tt), ((tt, tt), tt))
 -- a vote for the one command: it is executed, or nothing is sent
 counts_each : (P : Errand → Type 0) (bond : Bond) (sent : List (Draw × List Errand)) (who from : ℕ) (named : Draw) (ballot : Ballot) (slot : ℕ) (flight : Flight Command) (work : Work) (r : ReplicaState) → FliesLone flight r → work_by flight.value ≡ Some work → r.me ≡ who
     → Each (λ entry. Each P entry.1) sent → EntryLeaves bond sent flight.value who r.group → (name : Draw) (e : Errand) → Among e (errands_for name (mailed from (Accepted named ballot slot) (r, [])).0.1) → P e
-counts_each P bond sent who from named ballot slot flight work r flies is me each leaves name e a = elim (votes-count-alone from named ballot slot flight r flies) [
+counts_each P bond sent who from named ballot slot flight work r flies fact me each leaves name e a = elim (votes-count-alone from named ballot slot flight r flies) [
   | inl w ↦ only_each P [] (λ n. errands_for n (mailed from (Accepted named ballot slot) (r, [])).0.1) w.sends tt name e a
   | inr d ↦ (
-      let run : RunsAlone flight.value d.readied (mailed from (Accepted named ballot slot) (r, [])).0 = subst (λ p. RunsAlone flight.value d.readied p) (sym d.is) (entries-run-alone flight.value work d.readied d.lone is) in
+      let run : RunsAlone flight.value d.readied (mailed from (Accepted named ballot slot) (r, [])).0 = subst (λ p. RunsAlone flight.value d.readied p) (sym d.fact) (entries-run-alone flight.value work d.readied d.lone fact) in
       let f : ℕ → Group → Draw → List Errand = λ m g n. errands_for n (went_on m (applied g flight.value).0 (before_of g.core) (applied g flight.value).1 flight.value []) in
       only_each P sent (f who r.group) leaves.sends each name e (subst (Among e) (run.sends name ∙ (ap (λ m. f m d.readied.group name) (d.me ∙ me) ∙ ap (λ g. f who g name) d.group)) a))
 ]
@@ -93,7 +93,7 @@ module _ (words : ℕ → ℕ → ℕ × ℕ) (births : List (Seat Player)) (row
       let l = votes_late r mail.from named ballot slot none in
       mute mail r (works r) (mailed mail.from (Accepted named ballot slot) (r, [])).0 (untouched r (mailed mail.from (Accepted named ballot slot) (r, [])).0 l)
   flight_sends named ballot slot e (Leaves w) = mute mail r (works r) (mailed mail.from (Accepted named ballot slot) (r, [])).0 (subst (λ b. Works (works r) [] r (mailed mail.from b (r, [])).0) e w)
-  flight_sends named ballot slot e (Changed flight order flies me entry is) = silent (bond_of r.group.core) [] named ballot slot flight order flies me entry tt
+  flight_sends named ballot slot e (Changed flight order flies me entry fact) = silent (bond_of r.group.core) [] named ballot slot flight order flies me entry tt
   flight_sends named ballot slot e (Opened flight tx asked watch node flies me entry stays apart) =
       Enters flight (subst (Among flight) (sym flies.flights) (inl refl)) _ entry.work_is named ballot slot e asked tx group watch seat.who node (Asking tx asked (cond watch Lone First)) (subst (λ m. EntryLeaves (Asking tx asked (cond watch Lone First)) ((asked, Question tx group watch seat.who node ∷ []) ∷ []) flight.value m r.group) (sym me) entry.leaves)
       (λ name x a. counts_each (IsTo node) _ ((asked, Question tx group watch seat.who node ∷ []) ∷ []) seat.who mail.from named ballot slot flight _ r flies entry.work_is me ((refl, tt), tt) entry.leaves name x a)

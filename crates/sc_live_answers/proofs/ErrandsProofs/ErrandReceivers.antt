@@ -36,16 +36,16 @@ module _ (scenario : Scenario) where
 
   -- a player that was born a node is one of the scenario's
   born_node : (seat : Seat Player) (node : NodeState) → IsSeat (births as_nodes scenario) seat → seat.actor ≡ Node node → IsNodeOf scenario seat.who
-  born_node seat node born is =
+  born_node seat node born fact =
       let found = find_found (λ (other : Seat Player). eqb other.who seat.who) (births as_nodes scenario) seat born in
       elim (Among-either seat (map (node_seat as_nodes scenario.groups scenario.policy) (numbers_from 1 scenario.nodes)) (client_seats scenario.groups scenario.clients) found.0) [
         | inl a ↦ (let within = node_among scenario.groups scenario.policy scenario.nodes 1 seat a in let low = within.0 in let high = within.1 in (low, omega (arith, high)))
-        | inr a ↦ absurd (subst IsClient is (client_among scenario.groups scenario.clients seat a))
+        | inr a ↦ absurd (subst IsClient fact (client_among scenario.groups scenario.clients seat a))
       ]
 
   -- who sends what may be refused is one
   refused_home : (state : AcceptorState Command) (mail : Mail) → IsPosted (births as_nodes scenario) mail → Refuses state mail.body → IsNodeOf scenario mail.from
-  refused_home state mail p r = subst (IsNodeOf scenario) (sym p.from_is) (by p.seat.actor refl p.is)
+  refused_home state mail p r = subst (IsNodeOf scenario) (sym p.from_is) (by p.seat.actor refl p.fact)
     where
       by : (player : Player) → p.seat.actor ≡ player → IsPlayers p.seat.who player mail → IsNodeOf scenario p.seat.who
       by (Node node) e k = born_node p.seat node p.born e
@@ -63,11 +63,11 @@ module _ (scenario : Scenario) where
         by None e = tt
         by (Some mail) e =
             input_said May (value player_table seat rows) (Got mail) (λ t. cc)
-            (λ node m is got group r g here n. (let same : mail ≡ m = cc in
+            (λ node m fact got group r g here n. (let same : mail ≡ m = cc in
             subst (λ (x : Mail). IsNodeOf scenario x.from) same
             (refused_home r.acceptor mail (Each-among (IsPosted (births as_nodes scenario)) (mails rows) mail posted (number_among (mails rows) number mail e)) (subst (λ (x : Mail). Refuses r.acceptor x.body) (sym same) n))))
-    row_said Go calm = input_said May (value player_table seat rows) GoInput (λ t. cc) (λ node m is got. cc)
-    row_said (Told line) calm = input_said May (value player_table seat rows) (ToldInput line) (λ t. cc) (λ node m is got. cc)
+    row_said Go calm = input_said May (value player_table seat rows) GoInput (λ t. cc) (λ node m fact got. cc)
+    row_said (Told line) calm = input_said May (value player_table seat rows) (ToldInput line) (λ t. cc) (λ node m fact got. cc)
     row_said _ calm = absurd calm
 
   said_home : (mail : Mail) → IsRefusal May mail.to mail.body → RefusesToNode scenario mail

@@ -1,15 +1,16 @@
 -- What is delivered while an order is under way is for a node: no such mail goes to a client.
+use Rattle.sc_live_journals.proofs.LogsProofs.Lemmas.{no_client}
 use Rattle.std.proofs.Common.{◌≡◌, ℕ, eqb, find, true, List, [], ◌++◌, Option, Some, None, inl, inr, refl, sym, ◌∙◌, ap, subst}
 use Rattle.std.proofs.lemmas.Bool.{cases_Bool}
 use Rattle.std.proofs.lemmas.Option.{none-some}
 use Rattle.sc_base.specs.Definitions.{Among, Each, is_member}
-use Rattle.sc_node_table.specs.Values.{Draw, Base, OrderLine, Mail, MailBody, Request, Answer, Prepare, Promise, Accept, Accepted, Nack, Learn, Ask, Install, Told, Node, Client, Seat, Deliver}
+use Rattle.sc_node_table.specs.Values.{Draw, Base, OrderLine, Mail, MailBody, Request, Answer, Prepare, Promise, Accept, Accepted, Nack, Learn, Ask, Install, Told, Client, Seat, Deliver}
 use Rattle.sc_actor.specs.Definitions.{mails, value, System, row_of}
 use Rattle.sc_client_table.specs.table.Definitions.{Client as ClientState}
-use Rattle.sc_live_steps.specs.following.Definitions.{Mark, Asks, Votes, Tells, Installs, Prepares, Promises, mark_of, marks_of}
+use Rattle.sc_live_steps.specs.following.Definitions.{Mark, Asks, Votes, Teaches, Installs, Prepares, Promises, mark_of, marks_of}
 use Rattle.sc_live_steps.proofs.FollowingProofs.Lemmas.{same_mark}
 use Rattle.sc_law_groups.proofs.GroupProofs.Lemmas.{number_among}
-use Rattle.sc_node_table.specs.Definitions.{NodeState, born_node, group_of_mail, listed, slots_ahead}
+use Rattle.sc_node_table.specs.Definitions.{born_node, group_of_mail, listed, slots_ahead}
 use Rattle.sc_live_orderly.specs.Definitions.{is_born, AreInTime}
 use Rattle.sc_live_orderly.proofs.Lemmas.{in_time_before, in_time_tidy, last_in_time, TakesFirst, takes_first, is_born-from}
 use Rattle.sc_words.proofs.PaxosProofs.Lemmas.{Each-among}
@@ -25,14 +26,11 @@ use Rattle.sc_live_answers.proofs.ErrandsProofs.ErrandReceivers.{node_seated}
 use Rattle.sc_live_answers.proofs.ReplicasProofs.Nodes.{node_replays}
 use Rattle.sc_live_answers.proofs.ErrandsProofs.StrayMail.{told_zero as told_to}
 
-pub roles_differ : (client : ClientState) (node : NodeState) → ◌≡◌ {A = Player} (Client client) (Node node) → ⊥
-roles_differ client node e = cc
-
 one_seat : (one other : Seat Player) → Some one ≡ Some other → one ≡ other
 one_seat one other e = cc
 
 module _ (post_law : MailIsPosted) (desk_law : DesksAreNotBorn) (members_law : MembersAreHome) (refuse_law : RefusalsGoToNodes) (words : ℕ → ℕ → ℕ × ℕ) (scenario : Scenario) (first : Base) (journal quiet rows : Rows) (seat : Seat Player) (number : ℕ) (calm : IsCalmJournal words scenario journal)
-    (o : IsOrderedSince words scenario first journal quiet rows) (on : ContinuesBy words scenario journal rows seat number) (client : ClientState) (is : value player_table seat rows ≡ Client client) where
+    (o : IsOrderedSince words scenario first journal quiet rows) (on : ContinuesBy words scenario journal rows seat number) (client : ClientState) (fact : value player_table seat rows ≡ Client client) where
   abbrev all : List (Seat Player)
   all = births as_nodes scenario
 
@@ -57,7 +55,7 @@ module _ (post_law : MailIsPosted) (desk_law : DesksAreNotBorn) (members_law : M
   away node =
       let same = one_seat seat (node_seat as_nodes scenario.groups scenario.policy seat.who) (sym on.seated ∙ node_seated scenario seat.who node) in
       let stays = node_replays seat.who [] rows (born_node slots_ahead seat.who scenario.groups scenario.policy) in
-      roles_differ client stays.0 (sym is ∙ (ap (λ (x : Seat Player). value player_table x rows) same ∙ stays.1))
+      no_client client stays.0 (sym fact ∙ (ap (λ (x : Seat Player). value player_table x rows) same ∙ stays.1))
 
   away_to : IsNodeOf scenario d.mail.to → ⊥
   away_to node = away (subst (IsNodeOf scenario) d.receiver node)
@@ -114,15 +112,15 @@ module _ (post_law : MailIsPosted) (desk_law : DesksAreNotBorn) (members_law : M
   none (Promise group ballot reports) e = marked group (ap group_of_mail e) (λ n. Promise n ballot reports) (Promises d.mail.from ballot) e (λ n. same_mark n (Promises d.mail.from ballot))
   none (Accept group ballot slot command) e = marked group (ap group_of_mail e) (λ n. Accept n ballot slot command) (Asks ballot slot) e (λ n. same_mark n (Asks ballot slot))
   none (Accepted group ballot slot) e = marked group (ap group_of_mail e) (λ n. Accepted n ballot slot) (Votes d.mail.from ballot slot) e (λ n. same_mark n (Votes d.mail.from ballot slot))
-  none (Learn group slot command) e = marked group (ap group_of_mail e) (λ n. Learn n slot command) (Tells slot) e (λ n. same_mark n (Tells slot))
+  none (Learn group slot command) e = marked group (ap group_of_mail e) (λ n. Learn n slot command) (Teaches slot) e (λ n. same_mark n (Teaches slot))
   none (Install group slot base sets) e = marked group (ap group_of_mail e) (λ n. Install n slot base sets) (Installs slot) e (λ n. same_mark n (Installs slot))
   none (Ask group from_slot) e = asked group (ap group_of_mail e) from_slot e
   none (Nack group promised) e = away_to (Each-among (RefusesToNode scenario) (mails rows) d.mail (refuse_law words scenario rows before) sent group promised e)
-  none (Told order result) e = (let p = Each-among (IsPosted all) (mails rows) d.mail (post_law words scenario rows before) sent in desk (told_to p.seat.who p.seat.actor d.mail order result e p.is))
+  none (Told order result) e = (let p = Each-among (IsPosted all) (mails rows) d.mail (post_law words scenario rows before) sent in desk (told_to p.seat.who p.seat.actor d.mail order result e p.fact))
   none _ e = errand _ (ap (errand_by d.mail.from d.mail.to) e)
 
   taken_by_node : ⊥
   taken_by_node = none d.mail.body refl
 
 pub takers_are_nodes : MailIsPosted → DesksAreNotBorn → MembersAreHome → RefusalsGoToNodes → TakersAreNodes
-takers_are_nodes post_law desk_law members_law refuse_law words scenario first journal quiet rows seat number calm o on client is = taken_by_node post_law desk_law members_law refuse_law words scenario first journal quiet rows seat number calm o on client is
+takers_are_nodes post_law desk_law members_law refuse_law words scenario first journal quiet rows seat number calm o on client fact = taken_by_node post_law desk_law members_law refuse_law words scenario first journal quiet rows seat number calm o on client fact

@@ -9,7 +9,7 @@ use Rattle.sc_scenario.specs.declared.scenario.scenarios.Scenario.{Scenario}
 use Rattle.sc_meaning.specs.sound.Definitions.{Player, births, as_nodes}
 use Rattle.sc_live_steps.specs.calm.Definitions.{Rows}
 use Rattle.sc_live_steps.specs.orders.Definitions.{errand_by, Errand, Question, Elsewhere, Reply, Result, Scene, Deal, Stage, Still, Ordered, Asks, SentOn, Weighs, Replied, Recorded, Closes, ClosesBoth, closing, parties_of, leads_of, IsAt}
-use Rattle.sc_live_steps.proofs.OrdersProofs.Lemmas.{among-right, found, tagged, tokens, closing-errand, errands_of, no-errand}
+use Rattle.sc_live_steps.proofs.OrderStepsProofs.Lemmas.{among-right, found, tagged, tokens, closing-errand, errands_of, no-errand}
 use Rattle.sc_live_journals.specs.rows.Definitions.{view_at}
 use Rattle.sc_live_journals.specs.scenes.Definitions.{is_running, left_after, scene_at}
 use Rattle.sc_live_journals.proofs.ScenesProofs.Lemmas.{left_by, left_row}
@@ -100,7 +100,7 @@ module _ (found_law : PrefixesAreFound) (words : ℕ → ℕ → ℕ × ℕ) (sc
 
   -- the node that is asked is a node of the scenario
   asked_home : (deal : Deal) (to : ℕ) → stage ≡ Asks deal to → IsNodeOf scenario to
-  asked_home deal to is = (found_law words scenario journal quiet calm was).homes deal.asked to (subst (IsHinted scenario quiet then) is hinted)
+  asked_home deal to fact = (found_law words scenario journal quiet calm was).homes deal.asked to (subst (IsHinted scenario quiet then) fact hinted)
 
   for_home : (to : ℕ) → IsFor stage to → IsNodeOf scenario to
   for_home to (inl asked) = asked_home asked.0 to asked.1

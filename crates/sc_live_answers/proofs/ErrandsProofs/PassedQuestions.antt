@@ -48,12 +48,12 @@ module _ (tells : ReplicasAreRecorded) (words : ℕ → ℕ → ℕ × ℕ) (sce
 
   -- ---- a question is sent on
 
-  module _ (deal : Deal) (to : ℕ) (is : stage ≡ Asks deal to) (reached : HasReplica (replicas_after scenario quiet) deal.asked to) (stands : IsAt (SentOn deal) (scene_at (births as_nodes scenario) (with_event rows seat (Deliver number)))) where
+  module _ (deal : Deal) (to : ℕ) (fact : stage ≡ Asks deal to) (reached : HasReplica (replicas_after scenario quiet) deal.asked to) (stands : IsAt (SentOn deal) (scene_at (births as_nodes scenario) (with_event rows seat (Deliver number)))) where
     untouched : AreUntouched words (births as_nodes scenario) quiet rows (Asks deal to)
-    untouched = subst (AreUntouched words all quiet rows) is g.untouched
+    untouched = subst (AreUntouched words all quiet rows) fact g.untouched
 
-    stood : Rattle.sc_live_steps.specs.calm.QuietJournals.StandsQuiet (replicas_after scenario quiet) deal.asked
-    stood = (subst (IsTrueSince scenario quiet rows) is g.true_since).asked.0
+    stood : Rattle.sc_live_steps.specs.calm.QuietPlayers.StandsQuiet (replicas_after scenario quiet) deal.asked
+    stood = (subst (IsTrueSince scenario quiet rows) fact g.true_since).asked.0
 
     mail_is : IsQuestion (one words scenario first journal quiet rows seat number stage g).mail.body × ((group_of_mail (one words scenario first journal quiet rows seat number stage g).mail.body ≡ Some deal.asked) × ((one words scenario first journal quiet rows seat number stage g).mail.to ≡ to))
     mail_is =
@@ -73,7 +73,7 @@ module _ (tells : ReplicasAreRecorded) (words : ℕ → ℕ → ℕ × ℕ) (sce
     has : view_at (births as_nodes scenario) rows deal.asked seat.who ≡ Some reached.0
     has =
         ap (view_at all rows deal.asked) (sym here)
-        ∙ (untouched.views deal.asked (asked_fresh (scene_at all rows) deal to untouched.stands) (stands_there scenario quiet _ _ g.rests.is.quiet g.rests.known g.seen deal.asked stood) to ∙ (g.seen deal.asked to ∙ reached.1))
+        ∙ (untouched.views deal.asked (asked_fresh (scene_at all rows) deal to untouched.stands) (stands_there scenario quiet _ _ g.rests.fact.quiet g.rests.known g.seen deal.asked stood) to ∙ (g.seen deal.asked to ∙ reached.1))
 
     module _ (m : Mail) (among : Among m (row_of player_table seat rows (Deliver number)).sent) (tx c : Draw) (hint : Option ℕ) (body : m.body ≡ TxElsewhere tx c hint) where
       abbrev Told_so : Type 0
@@ -88,7 +88,7 @@ module _ (tells : ReplicasAreRecorded) (words : ℕ → ℕ → ℕ × ℕ) (sce
       passed tx2 c2 off a =
           let only : record { from = x.me; to = mail0.from; body = TxElsewhere tx2 c2 x.hint } ≡ m = elim a [ inl e ↦ e | inr none ↦ absurd none ] in
           let same : hint ≡ x.hint = same_hint tx tx2 c c2 hint x.hint (sym body ∙ ap (λ (y : Mail). y.body) (sym only)) in
-          let up = g.rests.is.quiet.rises deal.asked to x reached.1 off (g.rests.reach.stand deal.asked stood to x reached.1) in
+          let up = g.rests.fact.quiet.rises deal.asked to x reached.1 off (g.rests.reach.stand deal.asked stood to x reached.1) in
           (x.top.node, same ∙ up.hint_is, (up.there, up.is_there))
 
       at_node : (node : NodeState) → value player_table seat rows ≡ Node node → Told_so
@@ -118,6 +118,6 @@ module _ (tells : ReplicasAreRecorded) (words : ℕ → ℕ → ℕ × ℕ) (sce
 
     pub passes_so : (mail : Mail) → Among mail (left_after (with_event rows seat (Deliver number))) → IsHintedAt scenario quiet deal.asked mail
     passes_so m among tx c hint body = elim (mail_was words scenario first journal quiet rows seat number stage g m among) [
-      | inl old ↦ (let w = elsewhere_at (scene_at all rows) stage g.untouched.stands c tx m.to (errand_there c (Elsewhere tx m.to) m (left_after rows) old (ap (errand_by m.from m.to) body)) in absurd (asks_not deal w.deal to (sym is ∙ w.is)))
+      | inl old ↦ (let w = elsewhere_at (scene_at all rows) stage g.untouched.stands c tx m.to (errand_there c (Elsewhere tx m.to) m (left_after rows) old (ap (errand_by m.from m.to) body)) in absurd (asks_not deal w.deal to (sym fact ∙ w.fact)))
       | inr fresh ↦ by_player m fresh tx c hint body (value player_table seat rows) refl
     ]

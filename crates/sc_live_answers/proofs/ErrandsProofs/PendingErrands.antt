@@ -11,7 +11,7 @@ use Rattle.sc_live_orderly.proofs.Lemmas.{last_in_time}
 use Rattle.sc_meaning.specs.sound.Definitions.{Player, player_table}
 use Rattle.sc_live_steps.specs.calm.Definitions.{players, Rows}
 use Rattle.sc_live_steps.specs.orders.Definitions.{errand_by, errand_for, errands_for, Errand, Question, Elsewhere, Reply, Result, Scene, Asks, Closes, ClosesBoth, Deal, IsAt, Leg, Ordered, Recorded, Replied, SentOn, Stage, Still, Weighs, closing, parties_of}
-use Rattle.sc_live_steps.proofs.OrdersProofs.Lemmas.{among-left, among-right, found, tagged, tokens, closing-errand, errands_of, no-errand}
+use Rattle.sc_live_steps.proofs.OrderStepsProofs.Lemmas.{among-left, among-right, found, tagged, tokens, closing-errand, errands_of, no-errand}
 use Rattle.sc_live_journals.specs.rows.Definitions.{with_event}
 use Rattle.sc_live_journals.specs.scenes.Definitions.{left_after, scene_at}
 use Rattle.sc_live_journals.proofs.ScenesProofs.Lemmas.{errands-append, takes_one, calm_is}
@@ -34,10 +34,10 @@ module _ (words : ℕ → ℕ → ℕ × ℕ) (births : List (Seat Player)) (row
       let calm = (last_in_time (players words births) rows (row_of player_table seat rows (Deliver number)) timely).0 in
       let one = takes_one words births rows seat.who number (calm_is words births rows seat (Deliver number) calm) in
       let same = same_Some one.mail mail (sym one.sent ∙ sent) in
-      let is : errand_by one.mail.from one.mail.to one.mail.body ≡ Some entry = ap (λ (m : Mail). errand_by m.from m.to m.body) same ∙ errand in
+      let fact : errand_by one.mail.from one.mail.to one.mail.body ≡ Some entry = ap (λ (m : Mail). errand_by m.from m.to m.body) same ∙ errand in
       let has : errands_for entry.0 (left_after rows) ≡ errands_for entry.0 one.takes.before ++ (errand_for entry.0 (Some entry) ++ errands_for entry.0 one.takes.behind) =
       ap (errands_for entry.0) one.takes.had_is ∙ (errands-append entry.0 one.takes.before (one.mail ∷ one.takes.behind)
-      ∙ ap (λ o. errands_for entry.0 one.takes.before ++ (errand_for entry.0 o ++ errands_for entry.0 one.takes.behind)) is) in
+      ∙ ap (λ o. errands_for entry.0 one.takes.before ++ (errand_for entry.0 o ++ errands_for entry.0 one.takes.behind)) fact) in
       subst (Among entry.1) (sym has) (among-right entry.1 (errands_for entry.0 one.takes.before) (errand_for entry.0 (Some entry) ++ errands_for entry.0 one.takes.behind) (own_errand entry (errands_for entry.0 one.takes.behind)))
 
 -- ---- stages
@@ -67,7 +67,7 @@ IsElsewhere (Result tx to) = ⊥
 -- one that closes is a result
 closes_no : (Kind : Errand → Type 0) → ((tx : Draw) (to : ℕ) → Kind (Result tx to) → ⊥) → (tx : Draw) (leg : Leg) (host : ℕ) (name : Draw) (rest : List Pair) (t : Pair) → Kind t.1 → (Among t rest → ⊥) → Among t (tagged name (closing tx leg host).errands ++ rest) → ⊥
 closes_no Kind none tx leg host name rest t k more a = elim (closing-errand tx leg host name rest t a) [
-  | inl is ↦ none tx host (subst (λ (x : Pair). Kind x.1) (sym is.1) k)
+  | inl fact ↦ none tx host (subst (λ (x : Pair). Kind x.1) (sym fact.1) k)
   | inr b ↦ more b
 ]
 
@@ -75,14 +75,14 @@ closes_no Kind none tx leg host name rest t k more a = elim (closing-errand tx l
 pub record IsAsked (stage : Stage) (group : Draw) (errand : Errand) : Type 0 where
   pub deal : Deal
   pub to : ℕ
-  pub is : stage ≡ Asks deal to
+  pub fact : stage ≡ Asks deal to
   pub group_is : deal.asked ≡ group
   pub errand_is : Question deal.tx deal.coord (Rattle.sc_live_steps.specs.orders.Scenes.is_watch deal.turn) deal.chief to ≡ errand
 
 question_in : (stage : Stage) (t : Pair) → IsQuestion t.1 → Among t (tokens errands_of (parties_of stage)) → IsAsked stage t.0 t.1
 question_in Still t q a = absurd a
 question_in (Ordered group chief work) t q a = absurd a
-question_in (Asks deal to) t q (inl e) = record { deal = deal; to = to; is = refl; group_is = ap (λ (x : Pair). x.0) e; errand_is = ap (λ (x : Pair). x.1) e }
+question_in (Asks deal to) t q (inl e) = record { deal = deal; to = to; fact = refl; group_is = ap (λ (x : Pair). x.0) e; errand_is = ap (λ (x : Pair). x.1) e }
 question_in (Asks deal to) t q (inr a) = absurd (no-errand deal.tx deal.turn t a)
 question_in (SentOn deal) t q (inl e) = absurd (subst (λ (x : Pair). IsQuestion x.1) (sym e) q)
 question_in (SentOn deal) t q (inr a) = absurd (no-errand deal.tx deal.turn t a)
@@ -100,7 +100,7 @@ pub record IsReplied (stage : Stage) (group : Draw) (errand : Errand) : Type 0 w
   pub deal : Deal
   pub agreed : Bool
   pub host : ℕ
-  pub is : stage ≡ Replied deal agreed host
+  pub fact : stage ≡ Replied deal agreed host
   pub group_is : deal.coord ≡ group
   pub errand_is : Reply deal.tx (Rattle.sc_live_steps.specs.orders.Scenes.is_watch deal.turn) agreed host deal.chief ≡ errand
 
@@ -112,7 +112,7 @@ reply_in (Asks deal to) t q (inr a) = absurd (no-errand deal.tx deal.turn t a)
 reply_in (SentOn deal) t q (inl e) = absurd (subst (λ (x : Pair). IsReply x.1) (sym e) q)
 reply_in (SentOn deal) t q (inr a) = absurd (no-errand deal.tx deal.turn t a)
 reply_in (Weighs deal host) t q a = absurd (no-errand deal.tx deal.turn t a)
-reply_in (Replied deal agreed host) t q (inl e) = record { deal = deal; agreed = agreed; host = host; is = refl; group_is = ap (λ (x : Pair). x.0) e; errand_is = ap (λ (x : Pair). x.1) e }
+reply_in (Replied deal agreed host) t q (inl e) = record { deal = deal; agreed = agreed; host = host; fact = refl; group_is = ap (λ (x : Pair). x.0) e; errand_is = ap (λ (x : Pair). x.1) e }
 reply_in (Replied deal agreed host) t q (inr a) = absurd (no-errand deal.tx deal.turn t a)
 reply_in (Recorded deal agreed host) t q a = absurd (no-errand deal.tx deal.turn t a)
 reply_in (Closes tx party) t q a = absurd (closes_no IsReply (λ x n k. k) tx party.leg party.host party.group [] t q (λ none. none) a)
@@ -123,7 +123,7 @@ reply_in (ClosesBoth tx one two) t q a =
 -- one that is to be asked elsewhere: the coordinator has asked
 pub record IsSentOn (stage : Stage) (group : Draw) (errand : Errand) : Type 0 where
   pub deal : Deal
-  pub is : stage ≡ SentOn deal
+  pub fact : stage ≡ SentOn deal
   pub group_is : deal.coord ≡ group
   pub errand_is : Elsewhere deal.tx deal.chief ≡ errand
 
@@ -132,7 +132,7 @@ elsewhere_in Still t q a = absurd a
 elsewhere_in (Ordered group chief work) t q a = absurd a
 elsewhere_in (Asks deal to) t q (inl e) = absurd (subst (λ (x : Pair). IsElsewhere x.1) (sym e) q)
 elsewhere_in (Asks deal to) t q (inr a) = absurd (no-errand deal.tx deal.turn t a)
-elsewhere_in (SentOn deal) t q (inl e) = record { deal = deal; is = refl; group_is = ap (λ (x : Pair). x.0) e; errand_is = ap (λ (x : Pair). x.1) e }
+elsewhere_in (SentOn deal) t q (inl e) = record { deal = deal; fact = refl; group_is = ap (λ (x : Pair). x.0) e; errand_is = ap (λ (x : Pair). x.1) e }
 elsewhere_in (SentOn deal) t q (inr a) = absurd (no-errand deal.tx deal.turn t a)
 elsewhere_in (Weighs deal host) t q a = absurd (no-errand deal.tx deal.turn t a)
 elsewhere_in (Replied deal agreed host) t q (inl e) = absurd (subst (λ (x : Pair). IsElsewhere x.1) (sym e) q)

@@ -27,7 +27,7 @@ module _ (words : ℕ → ℕ → ℕ × ℕ) (scenario : Scenario) (first : Bas
   sent_now = (row_of player_table seat rows (Deliver number)).sent
 
   pub one : TakesOne words (births as_nodes scenario) rows seat.who number
-  one = takes_one words all rows seat.who number (calm_is words all rows seat (Deliver number) (last_in_time (Rattle.sc_live_steps.specs.calm.Charts.players words all) rows (row_of player_table seat rows (Deliver number)) g.goes.timely).0)
+  one = takes_one words all rows seat.who number (calm_is words all rows seat (Deliver number) (last_in_time (Rattle.sc_live_steps.specs.calm.ChartedPotential.players words all) rows (row_of player_table seat rows (Deliver number)) g.goes.timely).0)
 
   after_is : left_after (with_event rows seat (Deliver number)) ≡ (one.takes.before ++ one.takes.behind) ++ sent_now
   after_is = left_row words all rows (row_of player_table seat rows (Deliver number)) ∙ ap (λ l. l ++ sent_now) one.takes.has_is
@@ -49,8 +49,8 @@ module _ (words : ℕ → ℕ → ℕ × ℕ) (scenario : Scenario) (first : Bas
   errand_was name e a =
       let mine = errand_for name (errand_by one.mail.from one.mail.to one.mail.body) in
       subst (Among e) (sym (errands_were name)) (elim (Among-either e (errands_for name one.takes.before) (errands_for name one.takes.behind) (subst (Among e) (errands-append name one.takes.before one.takes.behind) a)) [
-        | inl l ↦ Rattle.sc_live_steps.proofs.OrdersProofs.NamedValues.among-left e (errands_for name one.takes.before) (mine ++ errands_for name one.takes.behind) l
-        | inr r ↦ Rattle.sc_live_steps.proofs.OrdersProofs.NamedValues.among-right e (errands_for name one.takes.before) (mine ++ errands_for name one.takes.behind) (Rattle.sc_live_steps.proofs.OrdersProofs.NamedValues.among-right e mine (errands_for name one.takes.behind) r)
+        | inl l ↦ Rattle.sc_live_steps.proofs.OrderStepsProofs.NamedValues.among-left e (errands_for name one.takes.before) (mine ++ errands_for name one.takes.behind) l
+        | inr r ↦ Rattle.sc_live_steps.proofs.OrderStepsProofs.NamedValues.among-right e (errands_for name one.takes.before) (mine ++ errands_for name one.takes.behind) (Rattle.sc_live_steps.proofs.OrderStepsProofs.NamedValues.among-right e mine (errands_for name one.takes.behind) r)
       ])
 
   -- an errand that is gone was that of the mail
@@ -69,18 +69,18 @@ module _ (words : ℕ → ℕ → ℕ × ℕ) (scenario : Scenario) (first : Bas
     none_some : {X : Type 0} {x : X} → None ≡ Some x → ⊥
     none_some e = cc
 
-    module _ (node : NodeState) (is : value player_table seat rows ≡ Node node) where
+    module _ (node : NodeState) (fact : value player_table seat rows ≡ Node node) where
       found : replica_of name node.replicas ≡ Some r
-      found = sym (view_was all rows seat (Deliver number) name g.goes.seated (Node node) is) ∙ has
+      found = sym (view_was all rows seat (Deliver number) name g.goes.seated (Node node) fact) ∙ has
 
       barred : may_come one.mail.from one.mail.body ≡ false → Sends
       barred f =
           let response = ap (λ (x : NodeState × List Mail). (Node x.0, x.1)) (cond-false (may_come one.mail.from one.mail.body) (routed (group_of_mail one.mail.body) one.mail.from one.mail.body node) (node, []) f) in
-          Nothing (all_sent all rows seat (Deliver number) node g.goes.seated is (node, []) (Some (Got one.mail)) (ap (option_map Got) one.sent) response)
+          Nothing (all_sent all rows seat (Deliver number) node g.goes.seated fact (node, []) (Some (Got one.mail)) (ap (option_map Got) one.sent) response)
 
       comes : may_come one.mail.from one.mail.body ≡ true → Sends
       comes t =
-          let taking : IsTaking words all rows seat number one.mail name node = record { seated = g.goes.seated; timely = g.goes.timely; is_node = is; me_is = g.finds.me_is node is; sent = one.sent; comes = t; named = named } in
+          let taking : IsTaking words all rows seat number one.mail name node = record { seated = g.goes.seated; timely = g.goes.timely; is_node = fact; me_is = g.finds.me_is node fact; sent = one.sent; comes = t; named = named } in
           let f = g.finds.here number one.mail name node r refl taking found in
           let c : ComesTo words all rows seat number one.mail name r = record { node = node; taking = taking; here = found; children = f.0 } in
           by c f.1
@@ -95,8 +95,8 @@ module _ (words : ℕ → ℕ → ℕ × ℕ) (scenario : Scenario) (first : Bas
       at_node = elim (cases_Bool (may_come one.mail.from one.mail.body)) [ inl t ↦ comes t | inr f ↦ barred f ]
 
     by_player : (player : Player) → value player_table seat rows ≡ player → Sends
-    by_player (Client client) is = absurd (none_some (sym (view_was all rows seat (Deliver number) name g.goes.seated (Client client) is) ∙ has))
-    by_player (Node node) is = at_node node is
+    by_player (Client client) fact = absurd (none_some (sym (view_was all rows seat (Deliver number) name g.goes.seated (Client client) fact) ∙ has))
+    by_player (Node node) fact = at_node node fact
 
     pub leader_row : Sends
     leader_row = by_player (value player_table seat rows) refl

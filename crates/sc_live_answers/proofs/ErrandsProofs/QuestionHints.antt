@@ -48,13 +48,13 @@ module _ (tells : ReplicasAreRecorded) (words : ℕ → ℕ → ℕ × ℕ) (sce
   more = row_of player_table seat rows (Deliver number) ∷ g.goes.prefix.more
 
   pub prefix : journal ≡ rows ++ (row_of player_table seat rows (Deliver number) ∷ g.goes.prefix.more)
-  prefix = g.goes.prefix.is ∙ append_assoc rows (row_of player_table seat rows (Deliver number) ∷ []) g.goes.prefix.more
+  prefix = g.goes.prefix.fact ∙ append_assoc rows (row_of player_table seat rows (Deliver number) ∷ []) g.goes.prefix.more
 
   -- the least member by a link of one that did something
   pub least_at : (it : Doer) (d : HasDone (births as_nodes scenario) quiet (with_event rows seat (Deliver number)) it) → HasReplica (replicas_after scenario quiet) d.first.group.core.succ.group (least_of d.first.group.core.succ.members)
   least_at it d =
-      let s = led_first tells words scenario first journal quiet next g.goes.prefix.more g.goes.prefix.is g.calm g.rests g.seen it d in
-      subst (λ (x : ReplicaState). HasReplica (replicas_after scenario quiet) x.group.core.succ.group (least_of x.group.core.succ.members)) (sym s.1) (link_least scenario quiet _ _ g.rests.is.quiet g.rests.known g.rests.reach it.group s.0)
+      let s = led_first tells words scenario first journal quiet next g.goes.prefix.more g.goes.prefix.fact g.calm g.rests g.seen it d in
+      subst (λ (x : ReplicaState). HasReplica (replicas_after scenario quiet) x.group.core.succ.group (least_of x.group.core.succ.members)) (sym s.1) (link_least scenario quiet _ _ g.rests.fact.quiet g.rests.known g.rests.reach it.group s.0)
 
   -- a leader that has done its work took the mail
   pub at_seat : (name : Draw) (host : ℕ) (r : ReplicaState) (work : Work) → view_at (births as_nodes scenario) rows name host ≡ Some r → (scene_at (births as_nodes scenario) rows).lead name ≡ Some host → ((scene_at (births as_nodes scenario) rows).at name).work ≡ work ∷ []
@@ -76,7 +76,7 @@ module _ (tells : ReplicasAreRecorded) (words : ℕ → ℕ → ℕ × ℕ) (sce
         elim (Among-either question (errands_for deal.asked ((one words scenario first journal quiet rows seat number stage g).takes.before ++ (one words scenario first journal quiet rows seat number stage g).takes.behind)) (errands_for deal.asked (row_of player_table seat rows (Deliver number)).sent) (subst (Among question) (errands_are words scenario first journal quiet rows seat number stage g deal.asked) there)) [
           | inl old ↦ (
               let a = question_at (scene_at all rows) stage g.untouched.stands deal.asked deal.tx deal.coord (is_watch deal.turn) deal.chief to (errand_was words scenario first journal quiet rows seat number stage g deal.asked question old) in
-              absurd (new a.deal a.to a.is))
+              absurd (new a.deal a.to a.fact))
           | inr fresh ↦ fresh
         ]
 
@@ -92,10 +92,10 @@ module _ (tells : ReplicasAreRecorded) (words : ℕ → ℕ → ℕ × ℕ) (sce
           sending : (place : _) → IsSending (one words scenario first journal quiet rows seat number stage g).mail r place → (row_of player_table seat rows (Deliver number)).sent ≡ place.1 → P to
           sending place (Mute k) e = absurd (k deal.asked question (subst (λ ms. Among question (errands_for deal.asked ms)) e sent_question))
           sending place (AsksOn tx coord n body k) e = subst P (sym (k deal.asked question (subst (λ ms. Among question (errands_for deal.asked ms)) e sent_question))) (asks_on tx coord n body)
-          sending place (Enters flight among work is named ballot slot body asked tx coord watch b node bond leaves k) e =
+          sending place (Enters flight among work fact named ballot slot body asked tx coord watch b node bond leaves k) e =
               subst P (sym (k deal.asked question (subst (λ ms. Among question (errands_for deal.asked ms)) e sent_question)))
-              (enters flight among work is (one words scenario first journal quiet rows seat number stage g).mail.body named ballot slot body asked tx coord watch b node bond leaves)
+              (enters flight among work fact (one words scenario first journal quiet rows seat number stage g).mail.body named ballot slot body asked tx coord watch b node bond leaves)
 
           by : Sends words scenario first journal quiet rows seat number stage g name r has runs named → P to
           by (Nothing e) = absurd (subst (λ ms. Among question (errands_for deal.asked ms)) e sent_question)
-          by (Sending place is e) = sending place is e
+          by (Sending place fact e) = sending place fact e

@@ -30,10 +30,10 @@ same_records t tx w w2 a a2 n n2 e = (cc, (cc, cc))
 record IsYes (command : Command) (tx : Draw) : Type 0 where
   frozen : Frozen
   by : ℕ
-  is : command ≡ RecordVote tx (Says.Yes frozen) by
+  fact : command ≡ RecordVote tx (Says.Yes frozen) by
 
 yes_of : (c : Command) (tx : Draw) (n : ℕ) → work_by c ≡ Some (Records tx false true n) → IsYes c tx
-yes_of (RecordVote t (Says.Yes frozen) m) tx n e = (let k = same_records t tx false false true true m n e in record { frozen = frozen; by = m; is = ap (λ x. RecordVote x (Says.Yes frozen) m) k.0 })
+yes_of (RecordVote t (Says.Yes frozen) m) tx n e = (let k = same_records t tx false false true true m n e in record { frozen = frozen; by = m; fact = ap (λ x. RecordVote x (Says.Yes frozen) m) k.0 })
 yes_of (RecordVote t (Says.No why) m) tx n e = absurd (true≢false (sym (same_records t tx false false false true m n e).1.1))
 yes_of (RecordWatch t vote m) tx n e = absurd (true≢false (same_records t tx true false _ true m n e).1.0)
 yes_of Noop tx n e = absurd (none_some e)
@@ -64,22 +64,22 @@ module _ (tells : ReplicasAreRecorded) (words : ℕ → ℕ → ℕ × ℕ) (sce
       let coord = s.deal.coord in
       let d : HasDone all quiet rows (doer s.deal.coord s.deal.chief (opened s.deal.tx s.deal.turn)) = (subst (IsTrueSince scenario quiet rows) s.before_is g.true_since).done.0 in
       let r = d.now in
-      let runs = runs_at tells words scenario first journal quiet rows seat number stage g trues coord s.deal.chief r at_rows.leads.0 d.is in
+      let runs = runs_at tells words scenario first journal quiet rows seat number stage g trues coord s.deal.chief r at_rows.leads.0 d.fact in
       let lead_then : (scene_at all next).lead coord ≡ Some s.deal.chief = subst (λ n. (scene_at all next).lead n ≡ Some s.deal.chief) s.coord_same (stands.leads.0 ∙ ap Some s.chief_same) in
       let work_then : ((scene_at all next).at coord).work ≡ [] = subst (λ n. ((scene_at all next).at n).work ≡ []) s.coord_same (ap (λ (h : Here). h.work) stands.parties.0.0) in
-      let here : s.deal.chief ≡ seat.who = at_seat tells words scenario first journal quiet rows seat number stage g coord s.deal.chief r (Records s.deal.tx (is_watch s.deal.turn) true s.host) d.is at_rows.leads.0 (ap (λ (h : Here). h.work) at_rows.parties.0.0) lead_then work_then in
-      let has : view_at all rows coord seat.who ≡ Some r = ap (view_at all rows coord) (sym here) ∙ d.is in
+      let here : s.deal.chief ≡ seat.who = at_seat tells words scenario first journal quiet rows seat number stage g coord s.deal.chief r (Records s.deal.tx (is_watch s.deal.turn) true s.host) d.fact at_rows.leads.0 (ap (λ (h : Here). h.work) at_rows.parties.0.0) lead_then work_then in
+      let has : view_at all rows coord seat.who ≡ Some r = ap (view_at all rows coord) (sym here) ∙ d.fact in
       let asking : bond_of r.group.core ≡ Asking s.deal.tx s.deal.asked First =
-      sym (lead_bond all rows coord s.deal.chief r at_rows.leads.0 d.is) ∙ (ap (λ (h : Here). h.bond) at_rows.parties.0.0 ∙ ap (λ t. Asking s.deal.tx s.deal.asked t) s.first) in
-      let its_work : works r ≡ Records s.deal.tx false true s.host ∷ [] = lead_works all rows coord s.deal.chief r at_rows.leads.0 d.is ∙ (ap (λ (h : Here). h.work) at_rows.parties.0.0 ∙ ap (λ t. Records s.deal.tx (is_watch t) true s.host ∷ []) s.first) in
+      sym (lead_bond all rows coord s.deal.chief r at_rows.leads.0 d.fact) ∙ (ap (λ (h : Here). h.bond) at_rows.parties.0.0 ∙ ap (λ t. Asking s.deal.tx s.deal.asked t) s.first) in
+      let its_work : works r ≡ Records s.deal.tx false true s.host ∷ [] = lead_works all rows coord s.deal.chief r at_rows.leads.0 d.fact ∙ (ap (λ (h : Here). h.work) at_rows.parties.0.0 ∙ ap (λ t. Records s.deal.tx (is_watch t) true s.host ∷ []) s.first) in
       let e : HasDone all quiet next (doer s.next.coord s.next.chief (opened s.next.tx s.next.turn)) = since.done.0 in
       let p : HasDone all quiet next (doer s.deal.asked s.host (Promising s.next.tx ∷ [])) = (subst (λ t. Each (HasDone all quiet next) (heard_doer s.next.tx t)) s.turn_is since.done.1).0 in
       let lead = (subst (λ t. Each (λ (x : Draw × ℕ). (scene_at all next).lead x.0 ≡ Some x.1) (heard_lead t)) s.turn_is stands.leads.1).0 in
       let bond = ap (λ (h : Here). h.bond) (subst (λ t. Each (λ (x : Draw × Here). (scene_at all next).at x.0 ≡ x.1) (heard s.next.tx t)) s.turn_is stands.parties.0.1.1).0 in
       let coord_bond = ap (λ (h : Here). h.bond) stands.parties.0.0 in
-      let told = heard_vote tells words scenario first journal quiet next g.goes.prefix.more g.goes.prefix.is g.calm g.rests g.seen s.next stands.leads.0 coord_bond e s.deal.asked s.host s.turn_is lead bond p in
-      let frozen = frozen_is tells words scenario first journal quiet next g.goes.prefix.more g.goes.prefix.is g.calm g.rests g.seen s.next stands.leads.0 coord_bond e s.deal.asked s.host s.turn_is lead bond p in
-      let asked = next_is tells words scenario first journal quiet next g.goes.prefix.more g.goes.prefix.is g.calm g.rests g.seen s.next stands.leads.0 coord_bond e s.deal.asked s.host s.turn_is lead bond p in
+      let told = heard_vote tells words scenario first journal quiet next g.goes.prefix.more g.goes.prefix.fact g.calm g.rests g.seen s.next stands.leads.0 coord_bond e s.deal.asked s.host s.turn_is lead bond p in
+      let frozen = frozen_is tells words scenario first journal quiet next g.goes.prefix.more g.goes.prefix.fact g.calm g.rests g.seen s.next stands.leads.0 coord_bond e s.deal.asked s.host s.turn_is lead bond p in
+      let asked = next_is tells words scenario first journal quiet next g.goes.prefix.more g.goes.prefix.fact g.calm g.rests g.seen s.next stands.leads.0 coord_bond e s.deal.asked s.host s.turn_is lead bond p in
       let least = least_at tells words scenario first journal quiet rows seat number stage g (doer s.deal.asked s.host (Promising s.next.tx ∷ [])) p in
       let there : HasReplica (replicas_after scenario quiet) s.next.asked (least_of p.first.group.core.succ.members) = subst (λ n. HasReplica (replicas_after scenario quiet) n (least_of p.first.group.core.succ.members)) (sym asked) least in
       goes_to tells words scenario first journal quiet rows seat number stage g s.next s.to stands (λ other n x. recorded_not s.deal other true s.host n (sym s.before_is ∙ x)) coord r has runs
@@ -89,11 +89,11 @@ module _ (tells : ReplicasAreRecorded) (words : ℕ → ℕ → ℕ × ℕ) (sce
       (λ flight among work w body b_named ballot slot b asked2 tx c watch by node bond2 leaves. (
       let work_is : Records s.deal.tx false true s.host ≡ work = the_work work (Records s.deal.tx false true s.host) (subst (Among work) its_work (is_work_of r flight work among w)) in
       let yes = yes_of flight.value s.deal.tx s.host (w ∙ ap Some (sym work_is)) in
-      let k = hears_least r flight.value asked2 tx c watch by node bond2 leaves s.deal.tx s.deal.asked yes.frozen yes.by yes.is asking
-      (subst (λ x. IsTrueEntry r.me r.group x) yes.is (true_flight tells words scenario first journal quiet rows seat number stage g trues coord s.deal.chief r d.is runs flight among)) in
+      let k = hears_least r flight.value asked2 tx c watch by node bond2 leaves s.deal.tx s.deal.asked yes.frozen yes.by yes.fact asking
+      (subst (λ x. IsTrueEntry r.me r.group x) yes.fact (true_flight tells words scenario first journal quiet rows seat number stage g trues coord s.deal.chief r d.fact runs flight among)) in
       let allowed : IsAllowedBy scenario journal coord flight.value = Each-among (λ (x : Flight Command). IsAllowedBy scenario journal coord x.value) r.leader.flights flight
-      (flights_at tells words scenario first journal quiet rows (row_of player_table seat rows (Deliver number) ∷ g.goes.prefix.more) (prefix tells words scenario first journal quiet rows seat number stage g) g.calm g.rests g.seen coord s.deal.chief r (s.deal.chief, d.first, d.was) d.is) among in
-      let vote : IsAllowedBy scenario journal coord (RecordVote s.next.tx (Says.Yes yes.frozen) yes.by) = subst (λ t. IsAllowedBy scenario journal coord (RecordVote t (Says.Yes yes.frozen) yes.by)) (sym s.tx_same) (subst (IsAllowedBy scenario journal coord) yes.is allowed) in
+      (flights_at tells words scenario first journal quiet rows (row_of player_table seat rows (Deliver number) ∷ g.goes.prefix.more) (prefix tells words scenario first journal quiet rows seat number stage g) g.calm g.rests g.seen coord s.deal.chief r (s.deal.chief, d.first, d.was) d.fact) among in
+      let vote : IsAllowedBy scenario journal coord (RecordVote s.next.tx (Says.Yes yes.frozen) yes.by) = subst (λ t. IsAllowedBy scenario journal coord (RecordVote t (Says.Yes yes.frozen) yes.by)) (sym s.tx_same) (subst (IsAllowedBy scenario journal coord) yes.fact allowed) in
       let same = one_vote scenario journal s.next.tx coord s.next.coord yes.frozen _ yes.by 0 vote told ∙ frozen in
       subst (λ n. HasReplica (replicas_after scenario quiet) s.next.asked n) (sym (k.1 ∙ ap (λ (x : Frozen). least_of x.succ.members) same)) there))
 

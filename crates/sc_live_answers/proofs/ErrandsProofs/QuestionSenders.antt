@@ -14,7 +14,7 @@ watch_by who (Client client) mail tx watch e from p = (let none : IsClientsBody 
 
 -- a question is its sender's
 pub offers_own : (births : List (Seat Player)) (mail : Mail) (tx : Draw) (offer : Offer) → mail.body ≡ TxPrepare tx offer → IsPosted births mail → offer.by ≡ mail.from
-offers_own births mail tx offer e p = offer_by p.seat.who p.seat.actor mail tx offer e p.from_is p.is
+offers_own births mail tx offer e p = offer_by p.seat.who p.seat.actor mail tx offer e p.from_is p.fact
 
 pub watches_own : (births : List (Seat Player)) (mail : Mail) (tx : Draw) (watch : Watch) → mail.body ≡ TxWatch tx watch → IsPosted births mail → watch.by ≡ mail.from
-watches_own births mail tx watch e p = watch_by p.seat.who p.seat.actor mail tx watch e p.from_is p.is
+watches_own births mail tx watch e p = watch_by p.seat.who p.seat.actor mail tx watch e p.from_is p.fact

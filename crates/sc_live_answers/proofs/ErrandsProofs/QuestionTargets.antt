@@ -10,7 +10,7 @@ use Rattle.sc_group_table.specs.machine.Definitions.{applied}
 use Rattle.sc_node_table.specs.Definitions.{group_of_mail, ReplicaState, before_of, went_on}
 use Rattle.sc_live_answers.specs.Definitions.{IsTrueEntry}
 use Rattle.sc_live_steps.specs.orders.Definitions.{EntryLeaves, bond_of, errand_by, errand_for, errands_for, work_by, results, Asking, Bond, Elsewhere, Errand, First, IsOnly, Opens, Question, Reply, Result}
-use Rattle.sc_live_steps.proofs.OrdersProofs.Lemmas.{orders-leave, records-leave, among-left, among-right, cases-draw}
+use Rattle.sc_live_steps.proofs.OrderStepsProofs.Lemmas.{orders-leave, records-leave, among-left, among-right, cases-draw}
 use Rattle.sc_live_journals.specs.scenes.Definitions.{BesideFinds}
 use Rattle.sc_live_journals.proofs.ScenesProofs.Lemmas.{IsQuestion}
 use Rattle.std.proofs.lemmas.Option.{same_Some}
@@ -27,26 +27,26 @@ no_append [] ys e = (refl, e)
 no_append (x ∷ xs) ys e = cc
 
 pub one_right : {X : Type 0} (x e : X) (xs ys : List X) → xs ++ ys ≡ e ∷ [] → Among x ys → xs ≡ []
-one_right x e [] ys is a = refl
-one_right x e (y ∷ xs) ys is a = (let none : xs ++ ys ≡ [] = cc in absurd (subst (Among x) (no_append xs ys none).1 a))
+one_right x e [] ys fact a = refl
+one_right x e (y ∷ xs) ys fact a = (let none : xs ++ ys ≡ [] = cc in absurd (subst (Among x) (no_append xs ys none).1 a))
 
 -- the errand of a mail is among theirs
 pub errand_there : (name : Draw) (e : Errand) (m : Mail) (ms : List Mail) → Among m ms → errand_by m.from m.to m.body ≡ Some (name, e) → Among e (errands_for name ms)
-errand_there name e m [] a is = absurd a
-errand_there name e m (x ∷ ms) (inl same) is =
+errand_there name e m [] a fact = absurd a
+errand_there name e m (x ∷ ms) (inl same) fact =
     among-left e (errand_for name (errand_by x.from x.to x.body)) (errands_for name ms)
-    (subst (λ o. Among e (errand_for name o)) (sym (ap (λ (y : Mail). errand_by y.from y.to y.body) same ∙ is))
+    (subst (λ o. Among e (errand_for name o)) (sym (ap (λ (y : Mail). errand_by y.from y.to y.body) same ∙ fact))
     (subst (Among e) (sym (Rattle.std.proofs.lemmas.Bool.cond-true (same_draw name name) (e ∷ []) [] (Rattle.sc_base.proofs.NameLemmas.same_name name name refl))) (inl refl)))
-errand_there name e m (x ∷ ms) (inr more) is = among-right e (errand_for name (errand_by x.from x.to x.body)) (errands_for name ms) (errand_there name e m ms more is)
+errand_there name e m (x ∷ ms) (inr more) fact = among-right e (errand_for name (errand_by x.from x.to x.body)) (errands_for name ms) (errand_there name e m ms more fact)
 
 -- one mail that has this errand for the group
 pub own_errand : (name : Draw) (e : Errand) (o : Option (Draw × Errand)) → errand_for name o ≡ e ∷ [] → o ≡ Some (name, e)
-own_errand name e None = λ is. cc
+own_errand name e None = λ fact. cc
 own_errand name e (Some entry) = by (same_draw entry.0 name) refl
   where
     by : (b : Bool) → same_draw entry.0 name ≡ b → cond b (entry.1 ∷ []) [] ≡ e ∷ [] → Some entry ≡ Some (name, e)
-    by true t is = (let n = draw_is entry.0 name t in let k : entry.1 ≡ e = cc in ap (λ x. Some (x, entry.1)) n ∙ ap (λ x. Some (name, x)) k)
-    by false f is = cc
+    by true t fact = (let n = draw_is entry.0 name t in let k : entry.1 ≡ e = cc in ap (λ x. Some (x, entry.1)) n ∙ ap (λ x. Some (name, x)) k)
+    by false f fact = cc
 
 -- what mails are by their errands
 abbrev is_on : Option (Draw × Errand) → Bool
@@ -111,7 +111,7 @@ module _ (r : ReplicaState) (command : Command) (asked tx coord : Draw) (watch :
   same_node : (asked2 tx2 coord2 : Draw) (watch2 : Bool) (by2 least : ℕ) → IsOnly [] ((asked2, Question tx2 coord2 watch2 by2 least ∷ []) ∷ []) (λ name. errands_for name (went_on r.me (applied r.group command).0 (before_of r.group.core) (applied r.group command).1 command []))
       → (asked ≡ asked2) × (node ≡ least)
   same_node asked2 tx2 coord2 watch2 by2 least o = elim (cases-draw asked asked2) [
-    | inl is ↦ (is, only_each (IsTo least) ((asked2, Question tx2 coord2 watch2 by2 least ∷ []) ∷ []) f o ((refl, tt), tt) asked (Question tx coord watch by node) its)
+    | inl fact ↦ (fact, only_each (IsTo least) ((asked2, Question tx2 coord2 watch2 by2 least ∷ []) ∷ []) f o ((refl, tt), tt) asked (Question tx coord watch by node) its)
     | inr ne ↦ absurd (subst (Among (Question tx coord watch by node)) (o.1 asked (ne, tt)) its)
   ]
 

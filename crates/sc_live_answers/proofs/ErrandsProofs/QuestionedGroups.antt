@@ -10,7 +10,7 @@ use Rattle.sc_scenario.specs.declared.scenario.scenarios.Scenario.{Scenario}
 use Rattle.sc_meaning.specs.sound.Definitions.{Player, as_nodes, births, player_table}
 use Rattle.sc_live_steps.specs.calm.Definitions.{StandsQuiet, Rows}
 use Rattle.sc_live_steps.specs.orders.Definitions.{works, Answers, Asking, Bound, Elsewhere, Ends, Errand, First, Here, IsNone, Lone, Next, Question, Records, Reply, Result, Scene, Turn, Unbound, Work, free, is_watch, Asks, Closes, ClosesBoth, Deal, Filed, IsAt, Leg, Mailed, Ordered, Recorded, Replied, SentOn, Stage, Still, Weighs, bound_by, closing, heard, parties_of}
-use Rattle.sc_live_steps.proofs.OrdersProofs.Lemmas.{cases-draw, found, no-work, work_of}
+use Rattle.sc_live_steps.proofs.OrderStepsProofs.Lemmas.{cases-draw, found, no-work, work_of}
 use Rattle.sc_live_journals.specs.rows.Definitions.{view_at, with_event}
 use Rattle.sc_live_journals.proofs.RowsProofs.Lemmas.{view_others}
 use Rattle.sc_live_journals.specs.scenes.Definitions.{BesideFinds, AreUntouched, IsDelivered, IsFresh, IsThere, ComesTo, StageAfter, is_running, scene_at, IsTaking, Creates, LeadsAlone}
@@ -75,7 +75,7 @@ stage_waits (ClosesBoth tx one two) = (closing_waits [] tx one.leg one.host, (cl
 parties_wait : (names : List Draw) (now : Scene) (group : Draw) (named : List (Draw × Here)) → Each (λ party. now.at party.0 ≡ party.1) named → Each (λ party. WaitsFor names party.1) named → (IsNone group named → now.at group ≡ free) → WaitsFor names (now.at group)
 parties_wait names now group [] are fit none = subst (WaitsFor names) (sym (none tt)) (free_waits names [] [])
 parties_wait names now group (party ∷ named) are fit none = elim (cases-draw group party.0) [
-  | inl is ↦ subst (WaitsFor names) (sym (ap now.at is ∙ are.0)) fit.0
+  | inl fact ↦ subst (WaitsFor names) (sym (ap now.at fact ∙ are.0)) fit.0
   | inr apart ↦ parties_wait names now group named are.1 fit.1 (λ more. none (apart, more))
 ]
 
@@ -89,7 +89,7 @@ question_idle now deal to a group work there = no-work deal.tx deal.turn (group,
 
 each_at : (P : Draw → Type 0) (name : Draw) (names : List Draw) → Each P names → Among name names → P name
 each_at P name [] e a = absurd a
-each_at P name (x ∷ names) e (inl is) = subst P is e.0
+each_at P name (x ∷ names) e (inl fact) = subst P fact e.0
 each_at P name (x ∷ names) e (inr a) = each_at P name names e.1 a
 
 module _ (tells : ReplicasAreRecorded) (words : ℕ → ℕ → ℕ × ℕ) (scenario : Scenario) (first : Base) (journal quiet rows : Rows) (seat : Seat Player) (number : ℕ) (stage : Stage) (g : ContinuesSince words scenario first journal quiet rows seat number stage) where
@@ -111,26 +111,26 @@ module _ (tells : ReplicasAreRecorded) (words : ℕ → ℕ → ℕ × ℕ) (sce
       (λ other node host e weighs. absurd (question_idle after deal to stands other.asked _ (subst (Among (Answers other.tx other.coord (is_watch other.turn) other.chief)) (sym (ap (λ (h : Here). h.work) weighs.parties.0.1.0)) (inl refl)))) found.0 found.1 found.2 in
       let asked = has_asked tells words scenario first journal quiet rows seat number stage g found.0 found.1 found.2 done in
       let own = each_at (StandsQuiet (replicas_after scenario quiet)) deal.asked (asked_of found.0) asked (asks_one after found.0 found.1 deal.coord deal.tx deal.asked deal.turn (ap (λ (h : Here). h.bond) stands.parties.0.0)) in
-      (own, stands_there scenario quiet _ _ g.rests.is.quiet g.rests.known g.seen deal.asked own)
+      (own, stands_there scenario quiet _ _ g.rests.fact.quiet g.rests.known g.seen deal.asked own)
 
   -- ---- one that takes a question
 
-  module _ (d : IsDelivered words (births as_nodes scenario) quiet rows seat number) (deal : Deal) (node host : ℕ) (is : stage ≡ Asks deal node) (weighs : IsAt (Weighs deal host) after) where
+  module _ (d : IsDelivered words (births as_nodes scenario) quiet rows seat number) (deal : Deal) (node host : ℕ) (fact : stage ≡ Asks deal node) (weighs : IsAt (Weighs deal host) after) where
     untouched : AreUntouched words (births as_nodes scenario) quiet rows (Asks deal node)
-    untouched = subst (AreUntouched words all quiet rows) is g.untouched
+    untouched = subst (AreUntouched words all quiet rows) fact g.untouched
 
     there : IsThere (births as_nodes scenario) quiet deal.asked
-    there = stands_there scenario quiet _ _ g.rests.is.quiet g.rests.known g.seen deal.asked (subst (λ x. Each (StandsQuiet (replicas_after scenario quiet)) (asked_of x)) is g.true_since.asked).0
+    there = stands_there scenario quiet _ _ g.rests.fact.quiet g.rests.known g.seen deal.asked (subst (λ x. Each (StandsQuiet (replicas_after scenario quiet)) (asked_of x)) fact g.true_since.asked).0
 
     fresh : IsFresh stage deal.asked
-    fresh = subst (λ x. IsFresh x deal.asked) (sym is) (asked_fresh (scene_at all rows) deal node untouched.stands)
+    fresh = subst (λ x. IsFresh x deal.asked) (sym fact) (asked_fresh (scene_at all rows) deal node untouched.stands)
 
     was : (who : ℕ) → view_at (births as_nodes scenario) rows deal.asked who ≡ view_at (births as_nodes scenario) quiet deal.asked who
     was who = g.untouched.views deal.asked fresh there who
 
     -- in the quiet it had no work
     idle_was : (who : ℕ) (r : ReplicaState) → view_at (births as_nodes scenario) rows deal.asked who ≡ Some r → works r ≡ []
-    idle_was who r has = rests_idle r (g.rests.is.quiet.at_rest deal.asked who r (sym (g.seen deal.asked who) ∙ (sym (was who) ∙ has)))
+    idle_was who r has = rests_idle r (g.rests.fact.quiet.at_rest deal.asked who r (sym (g.seen deal.asked who) ∙ (sym (was who) ∙ has)))
 
     abbrev Has : Type 0
     Has = HasDone (births as_nodes scenario) quiet next (doer deal.asked host [])
@@ -159,7 +159,7 @@ module _ (tells : ReplicasAreRecorded) (words : ℕ → ℕ → ℕ × ℕ) (sce
           was = ap (view_at all quiet deal.asked) here ∙ (sym (was seat.who) ∙ leads.is_there);
           led = leads.running;
           now = made;
-          is = ap (view_at all next deal.asked) here ∙ e;
+          fact = ap (view_at all next deal.asked) here ∙ e;
           entries = [];
           did = tt;
           group_is = same;
@@ -171,7 +171,7 @@ module _ (tells : ReplicasAreRecorded) (words : ℕ → ℕ → ℕ × ℕ) (sce
             let rows_of = row_of_comes words all rows seat number mail deal.asked x c in
             let among = errand_among words all rows seat number mail deal.asked own.0 own.1 c.node c.taking rows_of.0 in
             let q = asks_it mail.from mail.to mail.body own.0 own.1 (fresh_errand (scene_at all rows) stage deal.asked own.0.1 g.untouched.stands fresh among) in
-            idle_there (rows_of.1.is ∙ (ap (λ (p : Place). Some p.0) (aside_is mail x mail.body q f).2 ∙ sym rows_of.1.was))
+            idle_there (rows_of.1.fact ∙ (ap (λ (p : Place). Some p.0) (aside_is mail x mail.body q f).2 ∙ sym rows_of.1.was))
 
         missed : (mail : Mail) (at : NodeState) → IsTaking words (births as_nodes scenario) rows seat number mail deal.asked at → replica_of deal.asked at.replicas ≡ None → Has
         missed mail at t none =
@@ -183,7 +183,7 @@ module _ (tells : ReplicasAreRecorded) (words : ℕ → ℕ → ℕ × ℕ) (sce
 
         by_fate : Fate words (births as_nodes scenario) rows seat number g.goes.seated g.goes.timely g.finds (stage, g.untouched.stands) deal.asked → Has
         by_fate (Same e) = idle_there e
-        by_fate (Leading x made leads row acts) = led x made.0 leads row.is (steps_of x made acts)
+        by_fate (Leading x made leads row acts) = led x made.0 leads row.fact (steps_of x made acts)
         by_fate (Aside mail x c beside f) = aside mail x c f
         by_fate (Missed mail at t none) = missed mail at t none
         by_fate (New b) = born_now b
@@ -206,7 +206,7 @@ asked_groups_stood tells words scenario first journal quiet rows seat number sta
 
 pub true_goes_on : ReplicasAreRecorded → TrueOrdersGoOn
 true_goes_on tells words scenario first journal quiet rows seat number stage later g d u goes =
-    let done = has_done tells words scenario first journal quiet rows seat number stage g (λ deal node host is weighs. taken_fresh tells words scenario first journal quiet rows seat number stage g d deal node host is weighs) later u.stands goes in
+    let done = has_done tells words scenario first journal quiet rows seat number stage g (λ deal node host fact weighs. taken_fresh tells words scenario first journal quiet rows seat number stage g d deal node host fact weighs) later u.stands goes in
     record {
       new = has_new tells words scenario first journal quiet rows seat number stage g later goes;
       done = done;

@@ -9,7 +9,7 @@ use Rattle.sc_live_orderly.proofs.Lemmas.{last_in_time}
 use Rattle.sc_meaning.specs.sound.Definitions.{as_nodes, births, player_table}
 use Rattle.sc_live_steps.specs.calm.Definitions.{players}
 use Rattle.sc_live_steps.specs.orders.Definitions.{errand_by, Elsewhere, Here, Unbound, Asks, IsAt, SentOn, Stage, Still}
-use Rattle.sc_live_steps.proofs.OrdersProofs.Lemmas.{among-right}
+use Rattle.sc_live_steps.proofs.OrderStepsProofs.Lemmas.{among-right}
 use Rattle.sc_live_journals.specs.rows.Definitions.{with_event}
 use Rattle.sc_live_journals.specs.scenes.Definitions.{StageAfter, left_after, scene_at}
 use Rattle.sc_live_journals.proofs.ScenesProofs.Lemmas.{found_step, takes_one, calm_is}
@@ -48,5 +48,5 @@ coordinators_hinted words scenario first journal quiet rows seat number mail gro
     let same : one.mail ≡ mail = same_Some one.mail mail (sym one.sent ∙ t.taking.sent) in
     let there : Among mail (left_after rows) = subst (λ m. Among m (left_after rows)) same (subst (Among one.mail) (sym one.takes.had_is) (among-right one.mail one.takes.before (one.mail ∷ one.takes.behind) (inl refl))) in
     let w = elsewhere_at (scene_at all rows) stage t.untouched.stands coord tx mail.to (errand_there coord (Elsewhere tx mail.to) mail (left_after rows) there (ap (errand_by mail.from mail.to) body)) in
-    let h = (subst (IsHinted scenario quiet rows) w.is hinted) mail there tx coord hint body in
+    let h = (subst (IsHinted scenario quiet rows) w.fact hinted) mail there tx coord hint body in
     (h.0, h.1)

@@ -57,7 +57,7 @@ module _ (scenario : Scenario) where
   client_sends client None = tt
   client_sends client (Some input) = Each-weaker (IsRequestOf client.me) (GoesToNode scenario) (request_home client.me) (table client input).1 (clients_ask client.me client input refl).1
 
-module _ (nodes_law : NodesStayCalm) (words : ℕ → ℕ → ℕ × ℕ) (scenario : Scenario) (begins : IsStage scenario) (set : Setting) (is : IsSetting set) (rows : Rows) (t : IsTidy rows) (room : AreFarFromLast scenario set rows) (j : IsAsking words scenario set begins.first rows) where
+module _ (nodes_law : NodesStayCalm) (words : ℕ → ℕ → ℕ × ℕ) (scenario : Scenario) (begins : IsStage scenario) (set : Setting) (fact : IsSetting set) (rows : Rows) (t : IsTidy rows) (room : AreFarFromLast scenario set rows) (j : IsAsking words scenario set begins.first rows) where
   abbrev nseat : ℕ → Seat Player
   nseat me = node_seat as_nodes scenario.groups scenario.policy me
 
@@ -70,19 +70,19 @@ module _ (nodes_law : NodesStayCalm) (words : ℕ → ℕ → ℕ × ℕ) (scena
   module _ (me : ℕ) (one : 1 ≤ me) (most : me ≤ scenario.nodes) (born : find (λ (other : Seat Player). eqb other.who me) (births as_nodes scenario) ≡ Some (node_seat as_nodes scenario.groups scenario.policy me)) where
     node_turn : (number : ℕ) → IsInOrder (system_of as_nodes words scenario) rows me (Deliver number) → Home (row_of player_table (nseat me) rows (Deliver number)).sent
     node_turn number fine =
-        let n = turns_of.n words scenario begins set is rows t j room me one most born in
-        let first = turns_of.first words scenario begins set is rows t j room me one most born number fine in
-        subst Home (sym (turns_of.sends words scenario begins set is rows t j room me one most born number fine))
+        let n = turns_of.n words scenario begins set fact rows t j room me one most born in
+        let first = turns_of.first words scenario begins set fact rows t j room me one most born number fine in
+        subst Home (sym (turns_of.sends words scenario begins set fact rows t j room me one most born number fine))
         (Each-weaker (IsCalmMail (IsBegun scenario rows) set) (GoesToNode scenario) (calm_home scenario (IsBegun scenario rows) set) (node_table n.node (Got first.mail)).1
-        (nodes_law scenario rows set n.node first.mail is n.calm
-        (turns_of.is_calm words scenario begins set is rows t j room me one most born number fine)
-        (turns_of.to_me words scenario begins set is rows t j room me one most born number fine)
-        (turns_of.not_client words scenario begins set is rows t j room me one most born)
-        (turns_of.in_time words scenario begins set is rows t j room me one most born number fine)).1)
+        (nodes_law scenario rows set n.node first.mail fact n.calm
+        (turns_of.is_calm words scenario begins set fact rows t j room me one most born number fine)
+        (turns_of.to_me words scenario begins set fact rows t j room me one most born number fine)
+        (turns_of.not_client words scenario begins set fact rows t j room me one most born)
+        (turns_of.in_time words scenario begins set fact rows t j room me one most born number fine)).1)
 
     node_sends : (event : Event OrderLine) → IsInOrder (system_of as_nodes words scenario) rows me event → Home (row_of player_table (nseat me) rows event).sent
     node_sends (Deliver number) fine = node_turn number fine
-    node_sends Go fine = subst (λ (p : Player). Home (acted player_table p (Some GoInput)).1) (sym (j.nodes me one most).is) tt
+    node_sends Go fine = subst (λ (p : Player). Home (acted player_table p (Some GoInput)).1) (sym (j.nodes me one most).fact) tt
     node_sends _ fine = absurd fine
 
   row_sends : (row : Row Mail OrderLine) → IsOrderly (system_of as_nodes words scenario) rows row → Home row.sent
@@ -94,7 +94,7 @@ module _ (nodes_law : NodesStayCalm) (words : ℕ → ℕ → ℕ × ℕ) (scena
     | inr d ↦ (
         let row_is : row ≡ row_of player_table (cseat d.asks) rows o.event = o.row_is ∙ ap (λ (seat : Seat Player). row_of player_table seat rows o.event) d.seat_is in
         let c = j.clients d.asks d.is_asks in
-        subst (λ (r : Row Mail OrderLine). Home r.sent) (sym row_is) (subst (λ (p : Player). Home (acted player_table p (input_of (mails rows) o.event)).1) (sym c.is) (client_sends scenario c.client (input_of (mails rows) o.event))))
+        subst (λ (r : Row Mail OrderLine). Home r.sent) (sym row_is) (subst (λ (p : Player). Home (acted player_table p (input_of (mails rows) o.event)).1) (sym c.fact) (client_sends scenario c.client (input_of (mails rows) o.event))))
   ]
 
 pub requests_send_no_errands : ValidScenariosAreBounded → QuietJournalsHaveFrames → ChartHintsRise → QuietJournalsAsk → QuietGroupsHaveCuts → StandingGroupsAreRound → QuietSettingsAreLinked → NodesStayCalm → RequestsSendNoErrands

@@ -48,10 +48,10 @@ module _ (words : ℕ → ℕ → ℕ × ℕ) (births : List (Seat Player)) (row
     abbrev Silent : Type 0
     Silent = Each (IsErrandFor name) (row_of player_table seat rows (Deliver number)).sent
 
-    module _ (node : NodeState) (is : value player_table seat rows ≡ Node node) where
+    module _ (node : NodeState) (fact : value player_table seat rows ≡ Node node) where
       says : (step : NodeState × List Mail) → on_mail mail.from mail.body node ≡ step → Each (IsErrandFor name) step.1 → Silent
       says step e silent =
-          subst (Each (IsErrandFor name)) (sym (all_sent births rows seat (Deliver number) node born is step (Some (Got mail)) (ap (option_map Got) delivered.sent) (ap (λ (x : NodeState × List Mail). (Node x.0, x.1)) e))) silent
+          subst (Each (IsErrandFor name)) (sym (all_sent births rows seat (Deliver number) node born fact step (Some (Got mail)) (ap (option_map Got) delivered.sent) (ap (λ (x : NodeState × List Mail). (Node x.0, x.1)) e))) silent
 
       module _ (group : Draw) (named : group_of_mail mail.body ≡ Some group) (comes : may_come mail.from mail.body ≡ true) where
         ne : name ≡ group → ⊥
@@ -72,10 +72,10 @@ module _ (words : ℕ → ℕ → ℕ × ℕ) (births : List (Seat Player)) (row
       by_mail true comes (Some group) e = by_replica group e comes (replica_of group node.replicas) refl
 
     by_player : (player : Player) → value player_table seat rows ≡ player → Silent
-    by_player (Client client) is =
-        (client_leaves words births rows seat (Deliver number) born timely client is name (Got mail) (ap (option_map Got) delivered.sent)
+    by_player (Client client) fact =
+        (client_leaves words births rows seat (Deliver number) born timely client fact name (Got mail) (ap (option_map Got) delivered.sent)
         (got_nothing mail.from mail.body client (λ group seq answer. unanswered mail group seq answer delivered.sent))).silent
-    by_player (Node node) is = by_mail node is (may_come mail.from mail.body) refl (group_of_mail mail.body) refl
+    by_player (Node node) fact = by_mail node fact (may_come mail.from mail.body) refl (group_of_mail mail.body) refl
 
     -- only errands are sent of a group whose mail is not the one that is delivered
     pub silent_others : Silent
@@ -114,19 +114,19 @@ module _ (words : ℕ → ℕ → ℕ × ℕ) (scenario : Scenario) (journal qui
   ]
 
   sent_known : (mail : Mail) → Among mail row.sent → IsOfJournal scenario journal mail
-  sent_known mail a name is = elim (own_or (group_of_mail taken_mail.mail.body) refl name) [
+  sent_known mail a name fact = elim (own_or (group_of_mail taken_mail.mail.body) refl name) [
     | inl own ↦ own_known name own
     | inr other ↦ elim (there_or all quiet name) [
       | inl there ↦ named name there
-      | inr nowhere ↦ absurd (Each-among (IsNoneFor name) row.sent mail (sends_none words all quiet rows seat (Deliver number) later born timely name nowhere u (silent_others words all rows seat number born timely unanswered name other)) a is)
+      | inr nowhere ↦ absurd (Each-among (IsNoneFor name) row.sent mail (sends_none words all quiet rows seat (Deliver number) later born timely name nowhere u (silent_others words all rows seat number born timely unanswered name other)) a fact)
     ]
   ]
 
   pub known_after : (who : ℕ) → is_born sys who ≡ true → Each (IsOfJournal scenario journal) (rest sys (with_event rows seat (Deliver number)) who)
-  known_after who is =
+  known_after who fact =
       let before = in_time_before sys rows row timely in
       subst (Each (IsOfJournal scenario journal)) (sym (rest-calm sys rows row who (in_time_tidy sys rows before) (last_in_time sys rows row timely).0))
-      (Each-append (IsOfJournal scenario journal) (drop (taken who row) (rest sys rows who)) (mail_for sys who row.sent) (Each-drop (IsOfJournal scenario journal) (taken who row) (rest sys rows who) (known who is))
+      (Each-append (IsOfJournal scenario journal) (drop (taken who row) (rest sys rows who)) (mail_for sys who row.sent) (Each-drop (IsOfJournal scenario journal) (taken who row) (rest sys rows who) (known who fact))
       (each_filter (IsOfJournal scenario journal) (λ (m : Mail). eqb (sys.receiver m) who) row.sent (Each-from (IsOfJournal scenario journal) row.sent sent_known)))
 
 -- ---- an order
@@ -151,33 +151,33 @@ module _ (words : ℕ → ℕ → ℕ × ℕ) (scenario : Scenario) (journal qui
     Quiet = Each (IsErrandFor name) row_of_entry.sent
 
     node_tells : (node : NodeState) → value player_table seat quiet ≡ Node node → (o : Option ReplicaState) → replica_of told node.replicas ≡ o → Quiet
-    node_tells node is None here =
+    node_tells node fact None here =
         let step : NodeState × List Mail = (node, result_sent node.me line.number (Refused (NotLeader None)) []) in
-        subst (Each (IsErrandFor name)) (sym (all_sent births_ quiet seat (Told line) node born is step (Some (ToldInput line)) refl (ap (λ (x : NodeState × List Mail). (Node x.0, x.1)) (ap (λ o. ordered_of o line node) here)))) ((λ n. (let bad : None ≡ Some name = n in cc)), tt)
-    node_tells node is (Some r) here =
+        subst (Each (IsErrandFor name)) (sym (all_sent births_ quiet seat (Told line) node born fact step (Some (ToldInput line)) refl (ap (λ (x : NodeState × List Mail). (Node x.0, x.1)) (ap (λ o. ordered_of o line node) here)))) ((λ n. (let bad : None ≡ Some name = n in cc)), tt)
+    node_tells node fact (Some r) here =
         let own = found_name told node.replicas r here in
-        let ne : name ≡ told → ⊥ = λ i. none-some r (sym (nowhere seat.who) ∙ (view_was births_ quiet seat (Told line) name born (Node node) is ∙ (ap (λ n. replica_of n node.replicas) i ∙ here))) in
+        let ne : name ≡ told → ⊥ = λ i. none-some r (sym (nowhere seat.who) ∙ (view_was births_ quiet seat (Told line) name born (Node node) fact ∙ (ap (λ n. replica_of n node.replicas) i ∙ here))) in
         let step : NodeState × List Mail = ordered_of (Some r) line node in
-        subst (Each (IsErrandFor name)) (sym (all_sent births_ quiet seat (Told line) node born is step (Some (ToldInput line)) refl (ap (λ (x : NodeState × List Mail). (Node x.0, x.1)) (ap (λ o. ordered_of o line node) here))))
+        subst (Each (IsErrandFor name)) (sym (all_sent births_ quiet seat (Told line) node born fact step (Some (ToldInput line)) refl (ap (λ (x : NodeState × List Mail). (Node x.0, x.1)) (ap (λ o. ordered_of o line node) here))))
         (quiet_errands (name_of r) name (ordered_row node.draws line (r, [])).1 (λ i. ne (sym i ∙ own)) (order_keeps (name_of r) node.draws line (r, []) (refl, tt)).1)
 
     player_tells : (player : Player) → value player_table seat quiet ≡ player → Quiet
-    player_tells (Client client) is = (client_leaves words births_ quiet seat (Told line) born timely client is name (ToldInput line) refl refl).silent
-    player_tells (Node node) is = node_tells node is (replica_of told node.replicas) refl
+    player_tells (Client client) fact = (client_leaves words births_ quiet seat (Told line) born timely client fact name (ToldInput line) refl refl).silent
+    player_tells (Node node) fact = node_tells node fact (replica_of told node.replicas) refl
 
   told_known : (mail : Mail) → Among mail row_of_entry.sent → IsOfJournal scenario journal mail
-  told_known mail a name is = elim (there_or births_ quiet name) [
+  told_known mail a name fact = elim (there_or births_ quiet name) [
     | inl there ↦ named name there
-    | inr nowhere ↦ absurd (Each-among (IsNoneFor name) row_of_entry.sent mail (sends_none words births_ quiet quiet seat (Told line) stage born timely name nowhere u (player_tells name nowhere (value player_table seat quiet) refl)) a is)
+    | inr nowhere ↦ absurd (Each-among (IsNoneFor name) row_of_entry.sent mail (sends_none words births_ quiet quiet seat (Told line) stage born timely name nowhere u (player_tells name nowhere (value player_table seat quiet) refl)) a fact)
   ]
 
   pub known_told : (who : ℕ) → is_born system who ≡ true → Each (IsOfJournal scenario journal) (rest system (with_event quiet seat (Told line)) who)
-  known_told who is =
+  known_told who fact =
       let before = in_time_before system quiet row_of_entry timely in
       let tidy = in_time_tidy system quiet before in
       subst (Each (IsOfJournal scenario journal)) (sym (rest-calm system quiet row_of_entry who tidy (last_in_time system quiet row_of_entry timely).0))
       (Each-append (IsOfJournal scenario journal) (drop (taken who row_of_entry) (rest system quiet who)) (mail_for system who row_of_entry.sent)
-      (subst (λ l. Each (IsOfJournal scenario journal) (drop (taken who row_of_entry) l)) (sym (quiet-empty system quiet who tidy is calm)) (nothing (taken who row_of_entry)))
+      (subst (λ l. Each (IsOfJournal scenario journal) (drop (taken who row_of_entry) l)) (sym (quiet-empty system quiet who tidy fact calm)) (nothing (taken who row_of_entry)))
       (each_filter (IsOfJournal scenario journal) (λ (m : Mail). eqb (system.receiver m) who) row_of_entry.sent (Each-from (IsOfJournal scenario journal) row_of_entry.sent told_known)))
     where
       nothing : (n : ℕ) → Each (IsOfJournal scenario journal) (drop n [])

@@ -51,7 +51,7 @@ module _ (words : ℕ → ℕ → ℕ × ℕ) (scenario : Scenario) (rows : Rows
   told_none : (order : ℕ) (result : OrderResult) → mail.body ≡ ToldMail order result → ⊥
   told_none order result e =
       let posted = Each-among (IsPosted all) (mails rows) mail (mail_posted words scenario rows before) (number_among (mails rows) number mail sent) in
-      let zero_ : seat.who ≡ 0 = sym to_seat ∙ told_zero posted.seat.who posted.seat.actor mail order result e posted.is in
+      let zero_ : seat.who ≡ 0 = sym to_seat ∙ told_zero posted.seat.who posted.seat.actor mail order result e posted.fact in
       let found : find (λ (other : Seat Player). eqb other.who 0) all ≡ Some seat = subst (λ n. find (λ (other : Seat Player). eqb other.who n) all ≡ Some seat) zero_ born in
       let bad : None ≡ Some seat = sym (desks_apart scenario) ∙ found in
       cc
@@ -68,14 +68,14 @@ module _ (words : ℕ → ℕ → ℕ × ℕ) (scenario : Scenario) (rows : Rows
     strays body e = delivered body e tt
 
   pub for_node : (node : NodeState) → value player_table seat rows ≡ Node node → mail.to ≡ node.me
-  for_node node is =
-      let plays : Plays seat.who (Node node) = subst (Plays seat.who) is (replay_well seat.who seat.who rows seat.actor [] (plays_of seat.who seat.actor ((scenarios_well_born scenario).well seat born))) in
+  for_node node fact =
+      let plays : Plays seat.who (Node node) = subst (Plays seat.who) fact (replay_well seat.who seat.who rows seat.actor [] (plays_of seat.who seat.actor ((scenarios_well_born scenario).well seat born))) in
       to_seat ∙ sym plays.0
 
 -- Mail of no group finds it too: answers come to clients, and what came of orders to the desk.
 pub stray_mail_finds : StrayMailFinds
-stray_mail_finds ways groups elsewhere words scenario rows seat number mail node timely born is sent none = strays words scenario rows seat number mail timely born sent ways groups elsewhere node none mail.body refl
+stray_mail_finds ways groups elsewhere words scenario rows seat number mail node timely born fact sent none = strays words scenario rows seat number mail timely born sent ways groups elsewhere node none mail.body refl
 
 -- And mail that is delivered to a node is for it.
 pub mail_is_for_its_node : MailIsForItsNode
-mail_is_for_its_node words scenario rows seat number mail node timely born is sent = for_node words scenario rows seat number mail timely born sent node is
+mail_is_for_its_node words scenario rows seat number mail node timely born fact sent = for_node words scenario rows seat number mail timely born sent node fact

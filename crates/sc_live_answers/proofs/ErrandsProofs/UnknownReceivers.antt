@@ -26,7 +26,7 @@ use Rattle.sc_live_journals.specs.logs.Definitions.{logged_sets}
 use Rattle.sc_live_answers.specs.Definitions.{IsCalmJournal, IsPrefixOf, AreSent, PrefixesAreFound, MembersAreHome, NoMailForStrangers}
 use Rattle.sc_live_answers.proofs.QuietProofs.QuietPrefixes.{seat_in}
 use Rattle.sc_live_answers.proofs.RequestsProofs.UnmarkedMail.{none_first}
-use Rattle.sc_live_answers.proofs.GroupsProofs.JournalGroups.{calm_group}
+use Rattle.sc_live_answers.proofs.LedGroupsProofs.JournalGroups.{calm_group}
 
 find_nothing : {X : Type 0} (p : X → Bool) (xs : List X) (x : X) → find p xs ≡ None → Among x xs → p x ≡ false
 find_nothing p [] x e a = absurd a
@@ -52,7 +52,7 @@ module _ (finds : PrefixesAreFound) (home : MembersAreHome) (words : ℕ → ℕ
   first_born : (base : Base) → Among base (groups_at as_nodes scenario.groups journal) → (who : ℕ) → is_member base.core.members who ≡ true → is_born (players words (births as_nodes scenario)) who ≡ true
   first_born base a who m = node_born who (home.first as_nodes words scenario journal base (calm_group words scenario journal calm base a) who m)
 
-  module _ (prefix : Rows) (is : IsPrefixOf journal prefix) where
+  module _ (prefix : Rows) (fact : IsPrefixOf journal prefix) where
     -- ---- a group of the journal
 
     of_group : AreSent words scenario journal prefix → (base : Base) → Among base (groups_at as_nodes scenario.groups journal) → (who : ℕ) → is_born (players words (births as_nodes scenario)) who ≡ false
@@ -83,7 +83,7 @@ module _ (finds : PrefixesAreFound) (home : MembersAreHome) (words : ℕ → ℕ
         -- a node has no replica of it
         no_replica : (node : NodeState) → value player_table seat rows ≡ Node node → (r : ReplicaState) → replica_of dummy.core.id node.replicas ≡ Some r → ⊥
         no_replica node at r e =
-            let prefix_is : IsPrefixOf journal rows = record { more = more ++ is.more; is = is.is ∙ (ap (λ rs. rs ++ is.more) begins ∙ append_assoc rows more is.more) } in
+            let prefix_is : IsPrefixOf journal rows = record { more = more ++ fact.more; fact = fact.fact ∙ (ap (λ rs. rs ++ fact.more) begins ∙ append_assoc rows more fact.more) } in
             let f = finds words scenario journal rows calm prefix_is in
             let seen = view_was all rows seat Go name born (Node node) at ∙ e in
             let of = f.replicas name seat.who r (f.views name seat.who ∙ seen) in
@@ -183,7 +183,7 @@ module _ (finds : PrefixesAreFound) (home : MembersAreHome) (words : ℕ → ℕ
     -- ---- any name
 
     prefix_timely : AreInTime (players words (births as_nodes scenario)) prefix
-    prefix_timely = λ before row after e. calm.timely before row (after ++ is.more) (is.is ∙ (ap (λ rows. rows ++ is.more) e ∙ append_assoc before (row ∷ after) is.more))
+    prefix_timely = λ before row after e. calm.timely before row (after ++ fact.more) (fact.fact ∙ (ap (λ rows. rows ++ fact.more) e ∙ append_assoc before (row ∷ after) fact.more))
 
     no_mail : Base → AreSent words scenario journal prefix → (name : Draw) (who : ℕ) → is_born (players words (births as_nodes scenario)) who ≡ false → marks_at (players words (births as_nodes scenario)) prefix name who ≡ []
     no_mail any sent name who unborn = by (find (λ (b : Base). same_draw b.core.id name) (groups_at as_nodes scenario.groups journal)) refl
@@ -198,7 +198,7 @@ module _ (finds : PrefixesAreFound) (home : MembersAreHome) (words : ℕ → ℕ
 
 pub no_mail_for_strangers : ((scenario : Scenario) → Base) → PrefixesAreFound → MembersAreHome → NoMailForStrangers
 no_mail_for_strangers any finds home = record {
-  strangers = λ words scenario journal prefix calm is sent name who unborn. no_mail finds home words scenario journal calm prefix is (any scenario) sent name who unborn;
+  strangers = λ words scenario journal prefix calm fact sent name who unborn. no_mail finds home words scenario journal calm prefix fact (any scenario) sent name who unborn;
   born = λ words scenario journal calm base a who m. first_born finds home words scenario journal calm base a who m;
 }
 

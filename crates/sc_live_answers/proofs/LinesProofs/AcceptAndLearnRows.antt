@@ -3,12 +3,12 @@ use Rattle.std.proofs.Common.{◌≡◌, ℕ, ◌≤◌, [], sym, subst}
 use Rattle.sc_node_table.specs.Values.{Op, Call}
 use Rattle.sc_node_table.specs.Definitions.{ReplicaState, Place, next, last_slot, learn_row}
 use Rattle.sc_live_plain.specs.Definitions.{Frame, IsFrame, Requests, IsPlainCall, IsPlainFollower, IsPlainReplica}
-use Rattle.sc_live_plain.proofs.RowsProofs.AcceptAndLearnRows.{learnt_state}
+use Rattle.sc_live_plain.proofs.PlainRowsProofs.PlainAcceptAndLearnRows.{learnt_state}
 use Rattle.sc_live_plain.proofs.Lemmas.{learn_is}
 use Rattle.sc_live_answers.proofs.LinesProofs.CallEffects.{Leaves, leaves_itself, leaves_entry}
 
-pub learn_leaves : (begun : Requests) (frame : Frame) (is : IsFrame frame) (me : ℕ) (r : ReplicaState) (p : IsPlainReplica begun frame me r) (f : IsPlainFollower r) (client seq : ℕ) (op : Op) (call : IsPlainCall begun frame client seq op)
+pub learn_leaves : (begun : Requests) (frame : Frame) (fact : IsFrame frame) (me : ℕ) (r : ReplicaState) (p : IsPlainReplica begun frame me r) (f : IsPlainFollower r) (client seq : ℕ) (op : Op) (call : IsPlainCall begun frame client seq op)
     → (from slot : ℕ) → next r ≤ last_slot → slot ≡ next r → Leaves r (learn_row from slot (Call client seq op) (r, [])).0.0
 unfolding learnt_state
-learn_leaves begun frame is me r p f client seq op call from slot room e =
-    subst (λ (place : Place). Leaves r place.0) (sym (learn_is begun frame is me r p f is.leads client seq op call room from slot e)) (leaves_entry r r [] (Call client seq op) (leaves_itself r))
+learn_leaves begun frame fact me r p f client seq op call from slot room e =
+    subst (λ (place : Place). Leaves r place.0) (sym (learn_is begun frame fact me r p f fact.leads client seq op call room from slot e)) (leaves_entry r r [] (Call client seq op) (leaves_itself r))

@@ -118,7 +118,7 @@ leaves_entry first r mails command l = record {
 
 -- ---- a leader that executes calls
 
-module _ (begun : Requests) (frame : Frame) (is : IsFrame frame) (first : ReplicaState) where
+module _ (begun : Requests) (frame : Frame) (fact : IsFrame frame) (first : ReplicaState) where
   -- one that leads, where calls alone are ready
   pub record Goes (r : ReplicaState) : Type 0 where
     pub group : IsPlainGroup begun frame r.group
@@ -151,10 +151,10 @@ module _ (begun : Requests) (frame : Frame) (is : IsFrame frame) (first : Replic
   pub entry_goes : (r : ReplicaState) (mails : List Mail) (client seq : ℕ) (op : Op) → IsPlainCall begun frame client seq op → Goes r → F (executed_one true (Call client seq op) (r, mails))
   unfolding entered forgotten
   entry_goes r mails client seq op call g =
-      let serves = call_plain begun frame is client seq op r.group call g.group in
+      let serves = call_plain begun frame fact client seq op r.group call g.group in
       let core = entered_frame begun frame client seq op r serves in
-      subst F (sym (counted_call client seq op serves.answer r mails serves.answer_is (ap (λ (c : Core). c.members) (core ∙ sym g.group.core_is)) ((entered_keeps (Call client seq op) r).0 ∙ g.running) (ap (λ (c : Core). c.gone) core ∙ is.stands)
-      (ap (λ (c : Core). is_member c.members (entered (Call client seq op) r).me) core ∙ ap (is_member frame.core.members) ((entered_keeps (Call client seq op) r).3 ∙ g.me_is) ∙ is.leads)))
+      subst F (sym (counted_call client seq op serves.answer r mails serves.answer_is (ap (λ (c : Core). c.members) (core ∙ sym g.group.core_is)) ((entered_keeps (Call client seq op) r).0 ∙ g.running) (ap (λ (c : Core). c.gone) core ∙ fact.stands)
+      (ap (λ (c : Core). is_member c.members (entered (Call client seq op) r).me) core ∙ ap (is_member frame.core.members) ((entered_keeps (Call client seq op) r).3 ∙ g.me_is) ∙ fact.leads)))
       (goes_after serves (recorded_after r (entered (Call client seq op) r) client seq op serves.answer mails))
     where
       goes_after : IsServed begun frame client seq op (applied r.group (Call client seq op)) → (sent : List Mail) → F (cleared (next r) (entered (Call client seq op) r, sent))
@@ -169,7 +169,7 @@ module _ (begun : Requests) (frame : Frame) (is : IsFrame frame) (first : Replic
   entries_go : (command : Command) (place : Place) → O (Some command) → F place → F (executed_one true command place)
   entries_go command (r, mails) o g =
       let plain = o command refl in
-      let c = call_is begun frame is 0 0 [] 0 (λ x y. ⊥) command plain in
+      let c = call_is begun frame fact 0 0 [] 0 (λ x y. ⊥) command plain in
       subst (λ (x : Command). F (executed_one true x (r, mails))) (sym c.3) (entry_goes r mails c.0 c.1 c.2 (subst (IsPlainCommand begun frame) c.3 plain) g)
 
   -- all that is executed at once, with what is offered then

@@ -49,8 +49,8 @@ module _ (scenario : Scenario) (rows : Journal) (apart : (one other : Base) → 
       same_state a.base b.base r s base a.run b.run same
     where
       same_state : (one other : Base) (r s : ReplicaState) → one ≡ other → HasRun as_nodes one rows r → HasRun as_nodes other rows s → next r ≡ next s → r.group ≡ s.group
-      same_state one other r s is x y nexts =
-          let z : HasRun as_nodes one rows s = subst (λ (b : Base). HasRun as_nodes b rows s) (sym is) y in
+      same_state one other r s fact x y nexts =
+          let z : HasRun as_nodes one rows s = subst (λ (b : Base). HasRun as_nodes b rows s) (sym fact) y in
           same_count one r s x z (let p = x.next_is in let q = z.next_is in omega (arith, p, q, nexts))
         where
           same_count : (base : Base) (r s : ReplicaState) (x : HasRun as_nodes base rows r) (z : HasRun as_nodes base rows s) → x.count ≡ z.count → r.group ≡ s.group

@@ -48,7 +48,7 @@ module _ (named : LawfulReplicasAreNamedOnce) (words : ℕ → ℕ → ℕ × �
   -- a replica that is seen is one of its node's
   pub seen : (group : Draw) (node : ℕ) (r : ReplicaState) → at group node ≡ Some r → Among r (replicas_of (player node))
   seen group node r e = elim (cases_Bool (is_node node)) [
-    | inl is ↦ (find_found (λ (x : ReplicaState). same_draw (name_of x) group) (replicas_of (player node)) r (sym (ap (λ b. cond b (replica_of group (replicas_of (player node))) None) is) ∙ e)).0
+    | inl fact ↦ (find_found (λ (x : ReplicaState). same_draw (name_of x) group) (replicas_of (player node)) r (sym (ap (λ b. cond b (replica_of group (replicas_of (player node))) None) fact) ∙ e)).0
     | inr none ↦ absurd (none-some r (sym (ap (λ b. cond b (replica_of group (replicas_of (player node))) None) none) ∙ e))
   ]
 

@@ -70,14 +70,14 @@ idle_once all_bounded words scenario set first others rows c valid groups j idle
           let low = bounds.0 in
           let high = bounds.1 in
           let n = j_.nodes from.0 low (omega (arith, high)) in
-          let zero_ = idle from.0 n.node low (omega (arith, high)) n.is in
-          let here = ap (player_token c) n.is in
+          let zero_ = idle from.0 n.node low (omega (arith, high)) n.fact in
+          let here = ap (player_token c) n.fact in
           let there = ap f (sym from.2) in
           omega (arith, zero_, here, there))
       | inr b ↦ (
           let from = from_map (λ (asks : Asks). client_seat (route_of begins.first) asks) scenario.clients seat b in
           let k = j_.clients from.0 from.1 in
-          let here = ap (player_token c) k.is in
+          let here = ap (player_token c) k.fact in
           let there = ap f (sym from.2) in
           let most = slack_most (eqb k.client.me c) (waiting_one k.client.waiting) in
           let who : seat.who ≡ client_actor from.0.client = ap (λ (x : Seat Player). x.who) (sym from.2) in

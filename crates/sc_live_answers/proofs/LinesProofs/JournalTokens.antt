@@ -31,10 +31,10 @@ module _ {A M O : Type 0} (s : System A M O) (apart : are_apart s.births ≡ tru
   mail_after rows row =
       let test : M → Bool = λ mail. is_born s (s.receiver mail) in
       let left = mail_with test (mails rows) (counts_at (copies rows) row.event) in
-      let is = ap (sum_by owing.mail) (after-row s test rows row) in
+      let fact = ap (sum_by owing.mail) (after-row s test rows row) in
       let split = sum_by-append owing.mail left (filter test row.sent) in
       let le = filter_sum test owing.mail row.sent in
-      omega (arith, is, split, le)
+      omega (arith, fact, split, le)
 
   actors_after : (rows : List (Row M O)) (seat : Seat A) (event : Event O) → find (λ other. eqb other.who seat.who) s.births ≡ Some seat
       → sum_by (λ other. owing.actor (value s.table other (rows ++ row_of s.table seat rows event ∷ []))) s.births + owing.actor (value s.table seat rows)
@@ -81,19 +81,19 @@ put_sum f group new r (x ∷ xs) e = by (same_draw (name_of x) group) e (put_sum
   where
     by : (b : Bool) → cond b (Some x) (replica_of group xs) ≡ Some r → (replica_of group xs ≡ Some r → sum_by f (with_replica group new xs) + f r ≡ sum_by f xs + f new)
         → sum_by f (cond b (new ∷ xs) (x ∷ with_replica group new xs)) + f r ≡ sum_by f (x ∷ xs) + f new
-    by true is more =
+    by true fact more =
         let same : x ≡ r = cc in
         let a = sum_by-cons f x xs in
         let b = sum_by-cons f new xs in
         let d = ap f same in
         omega (arith, a, b, d)
-    by false is more =
-        let le = more is in
+    by false fact more =
+        let le = more fact in
         let a = sum_by-cons f x xs in
         let b = sum_by-cons f x (with_replica group new xs) in
         omega (arith, le, a, b)
 
-module _ (c : ℕ) (begun : Requests) (scenario : Scenario) (rows : Journal) (set : Setting) (is : IsSetting set) (node : NodeState) (n : IsCalmNode (IsBegun scenario rows) set node) (mail : Mail) (to : mail.to ≡ node.me)
+module _ (c : ℕ) (begun : Requests) (scenario : Scenario) (rows : Journal) (set : Setting) (fact : IsSetting set) (node : NodeState) (n : IsCalmNode (IsBegun scenario rows) set node) (mail : Mail) (to : mail.to ≡ node.me)
     (not_client : (client seq : ℕ) (op : Op) → IsBegun scenario rows client seq op → node.me ≡ client_actor client → ⊥) (due : ComesInTime (IsBegun scenario rows) set node mail) where
   abbrev b : Requests
   b = IsBegun scenario rows
@@ -101,24 +101,24 @@ module _ (c : ℕ) (begun : Requests) (scenario : Scenario) (rows : Journal) (se
   abbrev Paid : NodeState × List Mail → Type 0
   Paid step = sum_by (replica_tokens c) step.0.replicas + sum_by (mail_token c) step.1 ≤ sum_by (replica_tokens c) node.replicas + mail_token c mail
 
-  plain_paid : NodeRow (IsBegun scenario rows) set.frames is.are is.apart node mail (node_table node (Got mail)) → Paid (node_table node (Got mail))
+  plain_paid : NodeRow (IsBegun scenario rows) set.frames fact.are fact.apart node mail (node_table node (Got mail)) → Paid (node_table node (Got mail))
   plain_paid k =
       let says : IsPlainBody (IsBegun scenario rows) k.frame mail.from node.me mail.body = subst (λ who. IsPlainBody (IsBegun scenario rows) k.frame mail.from who mail.body) to k.says in
       let in_time = due k.frame k.r k.is_frame k.says k.found in
       let at = n.plain.replicas k.frame k.r k.is_frame k.found in
-      let none = (replica_row (IsBegun scenario rows) k.frame (is.are k.frame k.is_frame) k.r mail.from in_time.1 node.me mail.body at says in_time.0 not_client).1 in
-      let for : IsFor (IsBegun scenario rows) set.frames is.are is.apart k.frame mail.from mail.to mail.body = for_node (IsBegun scenario rows) set.frames is.are is.apart k.frame (is.are k.frame k.is_frame) mail.from mail.to mail.body k.says (λ x s o q e. not_client x s o q (sym to ∙ e)) in
-      let step = mail_is (IsBegun scenario rows) set.frames is.are is.apart k.frame.core.id mail.from mail.body node k.r for.may for.group k.found none in
-      let stay = stay_row c (IsBegun scenario rows) k.frame (is.are k.frame k.is_frame) node.me mail.from k.r in_time.1 mail.body at says in_time.0 not_client in
+      let none = (replica_row (IsBegun scenario rows) k.frame (fact.are k.frame k.is_frame) k.r mail.from in_time.1 node.me mail.body at says in_time.0 not_client).1 in
+      let for : IsFor (IsBegun scenario rows) set.frames fact.are fact.apart k.frame mail.from mail.to mail.body = for_node (IsBegun scenario rows) set.frames fact.are fact.apart k.frame (fact.are k.frame k.is_frame) mail.from mail.to mail.body k.says (λ x s o q e. not_client x s o q (sym to ∙ e)) in
+      let step = mail_is (IsBegun scenario rows) set.frames fact.are fact.apart k.frame.core.id mail.from mail.body node k.r for.may for.group k.found none in
+      let stay = stay_row c (IsBegun scenario rows) k.frame (fact.are k.frame k.is_frame) node.me mail.from k.r in_time.1 mail.body at says in_time.0 not_client in
       let put = put_sum (replica_tokens c) k.frame.core.id (mailed mail.from mail.body (k.r, [])).0.0 k.r node.replicas k.found in
       let token = ap (λ who. body_token c who mail.body) to in
       subst Paid (sym step) (omega (arith, stay, put, token))
 
-  paid : Turns (IsBegun scenario rows) set is node n mail to not_client due → Paid (node_table node (Got mail))
+  paid : Turns (IsBegun scenario rows) set fact node n mail to not_client due → Paid (node_table node (Got mail))
   paid (inl k) = plain_paid k
   paid (inr a) =
-      let step = step_is (IsBegun scenario rows) set is node n mail to not_client due a in
-      let sent = ap (mail_token c) (aside_is (IsBegun scenario rows) set is node n mail to not_client due a) in
+      let step = step_is (IsBegun scenario rows) set fact node n mail to not_client due a in
+      let sent = ap (mail_token c) (aside_is (IsBegun scenario rows) set fact node n mail to not_client due a) in
       let same = answer_token c a.client (name_of a.r) a.seq (aside_answer a.r.group.core.gone a.r.hint) in
       let asked = ap (body_token c mail.to) a.body_is in
       let after = ap (λ (x : NodeState × List Mail). sum_by (replica_tokens c) x.0.replicas + sum_by (mail_token c) x.1) step in
@@ -127,7 +127,7 @@ module _ (c : ℕ) (begun : Requests) (scenario : Scenario) (rows : Journal) (se
 
 -- ---- each row
 
-module _ (c : ℕ) (words : ℕ → ℕ → ℕ × ℕ) (scenario : Scenario) (begins : IsStage scenario) (set : Setting) (is : IsSetting set) (linked : IsLinkedSetting set) (rows : Journal) (t : IsTidy rows) (j : IsAsking words scenario set begins.first rows) (room : AreFarFromLast scenario set rows) where
+module _ (c : ℕ) (words : ℕ → ℕ → ℕ × ℕ) (scenario : Scenario) (begins : IsStage scenario) (set : Setting) (fact : IsSetting set) (linked : IsLinkedSetting set) (rows : Journal) (t : IsTidy rows) (j : IsAsking words scenario set begins.first rows) (room : AreFarFromLast scenario set rows) where
   abbrev sys : System Player Mail OrderLine
   sys = system_of as_nodes words scenario
 
@@ -143,33 +143,33 @@ module _ (c : ℕ) (words : ℕ → ℕ → ℕ × ℕ) (scenario : Scenario) (b
   module _ (me : ℕ) (one : 1 ≤ me) (most : me ≤ scenario.nodes) (born : find (λ (other : Seat Player). eqb other.who me) (births as_nodes scenario) ≡ Some (node_seat as_nodes scenario.groups scenario.policy me)) where
     node_falls : (event : Event OrderLine) → IsInOrder (system_of as_nodes words scenario) rows me event → Falls (row_of player_table (node_seat as_nodes scenario.groups scenario.policy me) rows event)
     node_falls (Deliver number) fine =
-        let n = turns_of.n words scenario begins set is rows t j room me one most born in
-        let first = turns_of.first words scenario begins set is rows t j room me one most born number fine in
-        let pays = paid c (IsBegun scenario rows) scenario rows set is n.node n.calm first.mail (turns_of.to_me words scenario begins set is rows t j room me one most born number fine) (turns_of.not_client words scenario begins set is rows t j room me one most born)
-        (turns_of.in_time words scenario begins set is rows t j room me one most born number fine) (turns_of.turn words scenario begins set is rows t j room me one most born number fine) in
+        let n = turns_of.n words scenario begins set fact rows t j room me one most born in
+        let first = turns_of.first words scenario begins set fact rows t j room me one most born number fine in
+        let pays = paid c (IsBegun scenario rows) scenario rows set fact n.node n.calm first.mail (turns_of.to_me words scenario begins set fact rows t j room me one most born number fine) (turns_of.not_client words scenario begins set fact rows t j room me one most born)
+        (turns_of.in_time words scenario begins set fact rows t j room me one most born number fine) (turns_of.turn words scenario begins set fact rows t j room me one most born number fine) in
         delivery_after sys begins.seats_apart (token_owing c) rows (nseat me) number born fine
-        (λ mail e. subst (λ (p : Player). owed_by (token_owing c) (player_table p (Got mail)) ≤ player_token c p + mail_token c mail) (sym n.is)
+        (λ mail e. subst (λ (p : Player). owed_by (token_owing c) (player_table p (Got mail)) ≤ player_token c p + mail_token c mail) (sym n.fact)
         (subst (λ (m : Mail). owed_by (token_owing c) (player_table (Node n.node) (Got m)) ≤ player_token c (Node n.node) + mail_token c m) (some_is (sym first.sent ∙ e)) pays))
     node_falls Go fine =
-        let n = turns_of.n words scenario begins set is rows t j room me one most born in
-        go_after sys begins.seats_apart (token_owing c) rows (nseat me) born (subst (λ (p : Player). owed_by (token_owing c) (player_table p GoInput) ≤ player_token c p) (sym n.is) (omega arith))
+        let n = turns_of.n words scenario begins set fact rows t j room me one most born in
+        go_after sys begins.seats_apart (token_owing c) rows (nseat me) born (subst (λ (p : Player). owed_by (token_owing c) (player_table p GoInput) ≤ player_token c p) (sym n.fact) (omega arith))
     node_falls Tick fine = absurd fine
     node_falls _ fine = absurd fine
 
   module _ (asks : Asks) (a : Among asks scenario.clients) (born : find (λ (other : Seat Player). eqb other.who (client_actor asks.client)) (births as_nodes scenario) ≡ Some (client_seat (route_of begins.first) asks)) where
     client_falls : (event : Event OrderLine) → IsInOrder (system_of as_nodes words scenario) rows (client_actor asks.client) event → Falls (row_of player_table (client_seat (route_of begins.first) asks) rows event)
     client_falls (Deliver number) fine =
-        let k = clients_of.c words scenario begins set is linked rows t j asks a born in
-        let first = clients_of.first words scenario begins set is linked rows t j asks a born number fine in
+        let k = clients_of.c words scenario begins set fact linked rows t j asks a born in
+        let first = clients_of.first words scenario begins set fact linked rows t j asks a born number fine in
         let pays = got_tokens c k.client first.mail.from first.mail.to first.mail.body (first.receiver ∙ ap client_actor (sym k.calm.me_is)) in
         delivery_after sys begins.seats_apart (token_owing c) rows (cseat asks) number born fine
-        (λ mail e. subst (λ (p : Player). owed_by (token_owing c) (player_table p (Got mail)) ≤ player_token c p + mail_token c mail) (sym k.is)
+        (λ mail e. subst (λ (p : Player). owed_by (token_owing c) (player_table p (Got mail)) ≤ player_token c p + mail_token c mail) (sym k.fact)
         (subst (λ (m : Mail). owed_by (token_owing c) (player_table (Client k.client) (Got m)) ≤ player_token c (Client k.client) + mail_token c m) (some_is (sym first.sent ∙ e)) pays))
     client_falls Go fine =
-        let k = clients_of.c words scenario begins set is linked rows t j asks a born in
-        let fresh = clients_of.fresh words scenario begins set is linked rows t j asks a born fine in
+        let k = clients_of.c words scenario begins set fact linked rows t j asks a born in
+        let fresh = clients_of.fresh words scenario begins set fact linked rows t j asks a born fine in
         go_after sys begins.seats_apart (token_owing c) rows (cseat asks) born
-        (subst (λ (p : Player). owed_by (token_owing c) (player_table p GoInput) ≤ player_token c p) (sym k.is) (go_tokens c k.client (unasked set asks k.client fresh.state).0))
+        (subst (λ (p : Player). owed_by (token_owing c) (player_table p GoInput) ≤ player_token c p) (sym k.fact) (go_tokens c k.client (unasked k.client fresh.state).0))
     client_falls Tick fine = absurd fine
     client_falls _ fine = absurd fine
 

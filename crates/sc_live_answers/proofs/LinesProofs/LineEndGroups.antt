@@ -13,19 +13,19 @@ use Rattle.sc_live_plain.specs.Definitions.{IsAsking, AreSeated, Asks as AsksFor
 use Rattle.sc_live_plain.proofs.Lemmas.{one_if, one_yes, in_range, range_yes, IsStage, node_born, node_number, Journal, replica_is, IsHeld, some_is, call_is, leader_idle, leading_at}
 use Rattle.sc_live_answers.proofs.RequestsProofs.RequestLineReplicas.{HasServed, HaveServed}
 
-module _ (words : ℕ → ℕ → ℕ × ℕ) (scenario : Scenario) (begins : IsStage scenario) (set : Setting) (is : IsSetting set) (seated : AreSeated scenario set) (rows : Journal) (j : IsAsking words scenario set begins.first rows) (served : HaveServed scenario set rows)
+module _ (words : ℕ → ℕ → ℕ × ℕ) (scenario : Scenario) (begins : IsStage scenario) (set : Setting) (fact : IsSetting set) (seated : AreSeated scenario set) (rows : Journal) (j : IsAsking words scenario set begins.first rows) (served : HaveServed scenario set rows)
     (none : (who : ℕ) → is_born (system_of as_nodes words scenario) who ≡ true → rest (system_of as_nodes words scenario) rows who ≡ []) where
   -- ---- each replica of a group that stands
 
   module _ (frame : Frame) (a : Among frame set.frames) where
     frame_is : IsFrame frame
-    frame_is = is.are frame a
+    frame_is = fact.are frame a
 
     seat_of : (node : ℕ) (r : ReplicaState) → replica_at scenario rows frame.core.id node ≡ Some r → (1 ≤ node) × (node ≤ scenario.nodes)
     seat_of node r e = seated.homes frame.core.id node (served.homes frame.core.id node r e)
 
     pub found : (node : ℕ) (at : (1 ≤ node) × (node ≤ scenario.nodes)) → replica_at scenario rows frame.core.id node ≡ replica_of frame.core.id (j.nodes node at.0 at.1).node.replicas
-    found node at = (let n = j.nodes node at.0 at.1 in replica_is words scenario rows frame.core.id node (Node n.node) (node_number words scenario begins node at.0 at.1) n.is)
+    found node at = (let n = j.nodes node at.0 at.1 in replica_is words scenario rows frame.core.id node (Node n.node) (node_number words scenario begins node at.0 at.1) n.fact)
 
     pub plain_at : (node : ℕ) (r : ReplicaState) → replica_at scenario rows frame.core.id node ≡ Some r → IsPlainAt (IsBegun scenario rows) frame node r
     plain_at node r e = (let at = seat_of node r e in

@@ -25,7 +25,7 @@ few_of [] e = tt
 few_of (set ∷ sets) e = (e.0.roster.most, few_of sets e.1)
 
 module _ (words : ℕ → ℕ → ℕ × ℕ) (scenario : Scenario) (begins : IsStage scenario) (before : Journal) (q : IsQuietJournal words scenario begins.first before) (frames : List Frame) (ways : Ways) (s : AreFramesOf (replicas_after scenario before) frames)
-    (is : IsSetting (setting_at (replicas_after scenario before) frames ways)) (seated : AreSeated scenario (setting_at (replicas_after scenario before) frames ways)) (rows : Journal)
+    (fact : IsSetting (setting_at (replicas_after scenario before) frames ways)) (seated : AreSeated scenario (setting_at (replicas_after scenario before) frames ways)) (rows : Journal)
     (j : IsAsking words scenario (setting_at (replicas_after scenario before) frames ways) begins.first rows) (served : HaveServed scenario (setting_at (replicas_after scenario before) frames ways) rows)
     (none : (who : ℕ) → is_born (system_of as_nodes words scenario) who ≡ true → rest (system_of as_nodes words scenario) rows who ≡ []) (one_before : HaveOneLog (replicas_after scenario before)) (one_log : HaveOneLog (replicas_after scenario rows)) where
   -- ---- groups that are gone
@@ -46,7 +46,7 @@ module _ (words : ℕ → ℕ → ℕ × ℕ) (scenario : Scenario) (begins : Is
 
   pub home_still : (group : Draw) (node : ℕ) → HasReplica (replicas_after scenario before) group node → HasReplica (replicas_after scenario rows) group node
   home_still group node h = elim (q.quiet.groups group node h) [
-    | inl stands ↦ (let n = ends.now words scenario begins before q frames ways s is seated rows j served none one_log group stands node h.0 h.1 in (n.r, n.there))
+    | inl stands ↦ (let n = ends.now words scenario begins before q frames ways s fact seated rows j served none one_log group stands node h.0 h.1 in (n.r, n.there))
     | inr gone ↦ (h.0, same group gone node ∙ h.1)
   ]
 
@@ -70,10 +70,10 @@ module _ (words : ℕ → ℕ → ℕ × ℕ) (scenario : Scenario) (begins : Is
 
   module _ (group : Draw) (stands : StandsQuiet (replicas_after scenario before) group) where
     abbrev lead : ReplicaState
-    lead = ends.lead words scenario begins before q frames ways s is seated rows j served none one_log group stands
+    lead = ends.lead words scenario begins before q frames ways s fact seated rows j served none one_log group stands
 
     core_is : lead.group.core ≡ stands.lead.group.core
-    core_is = ends.core_is words scenario begins before q frames ways s is seated rows j served none one_log group stands
+    core_is = ends.core_is words scenario begins before q frames ways s fact seated rows j served none one_log group stands
 
     abbrev succ : Draw
     succ = stands.lead.group.core.succ.group
@@ -105,9 +105,9 @@ module _ (words : ℕ → ℕ → ℕ × ℕ) (scenario : Scenario) (begins : Is
 
     linked_by : (b : Behind) → IsLinked (replicas_after scenario rows) lead
     linked_by b =
-        let there : ReplicaState = ends.lead words scenario begins before q frames ways s is seated rows j served none one_log succ b.is_stands in
-        let core : there.group.core ≡ stands.linked.behind.group.core = ends.core_is words scenario begins before q frames ways s is seated rows j served none one_log succ b.is_stands ∙ ap (λ (x : Group). x.core) b.group_is in
-        let new : IsNewest (replicas_after scenario rows) succ there = ends.newest words scenario begins before q frames ways s is seated rows j served none one_log succ b.is_stands in
+        let there : ReplicaState = ends.lead words scenario begins before q frames ways s fact seated rows j served none one_log succ b.is_stands in
+        let core : there.group.core ≡ stands.linked.behind.group.core = ends.core_is words scenario begins before q frames ways s fact seated rows j served none one_log succ b.is_stands ∙ ap (λ (x : Group). x.core) b.group_is in
+        let new : IsNewest (replicas_after scenario rows) succ there = ends.newest words scenario begins before q frames ways s fact seated rows j served none one_log succ b.is_stands in
         record {
           behind = there;
           newest = subst (λ (c : Core). IsNewest (replicas_after scenario rows) c.succ.group there) (sym core_is) new;
@@ -118,29 +118,29 @@ module _ (words : ℕ → ℕ → ℕ × ℕ) (scenario : Scenario) (begins : Is
         }
 
     pub stands_then : StandsQuiet (replicas_after scenario rows) group
-    stands_then = ends.stands_then words scenario begins before q frames ways s is seated rows j served none one_log group stands (linked_by behind)
+    stands_then = ends.stands_then words scenario begins before q frames ways s fact seated rows j served none one_log group stands (linked_by behind)
 
     -- ---- each of its replicas
 
     module _ (node : ℕ) (r : ReplicaState) (e : replica_at scenario rows group node ≡ Some r) where
-      w : ends.WasHere words scenario begins before q frames ways s is seated rows j served none one_log group stands node r
-      w = ends.was words scenario begins before q frames ways s is seated rows j served none one_log group stands node r e
+      w : ends.WasHere words scenario begins before q frames ways s fact seated rows j served none one_log group stands node r
+      w = ends.was words scenario begins before q frames ways s fact seated rows j served none one_log group stands node r e
 
       plain : IsPlainAt (IsBegun scenario rows) (frame_at_rest stands.lead) node r
-      plain = ends.plain_at words scenario begins before q frames ways s is seated rows j served none one_log group stands node r e
+      plain = ends.plain_at words scenario begins before q frames ways s fact seated rows j served none one_log group stands node r e
 
       kept_first : IsKept group node w.first
       kept_first = q.kept group node w.first w.there
 
       pub rests_then : IsAtRest r
       rests_then =
-          end_of_line.rests_at words scenario begins (setting_at (replicas_after scenario before) frames ways) is seated rows j served none (frame_at_rest stands.lead)
-          (ends.a words scenario begins before q frames ways s is seated rows j served none one_log group stands) node r (ends.by_id words scenario begins before q frames ways s is seated rows j served none one_log group stands node r e) w.first
+          end_of_line.rests_at words scenario begins (setting_at (replicas_after scenario before) frames ways) fact seated rows j served none (frame_at_rest stands.lead)
+          (ends.a words scenario begins before q frames ways s fact seated rows j served none one_log group stands) node r (ends.by_id words scenario begins before q frames ways s fact seated rows j served none one_log group stands node r e) w.first
           (q.quiet.at_rest group node w.first w.there) w.is_served plain
 
       -- hints rise
       frame_is : IsFrame (frame_at_rest stands.lead)
-      frame_is = ends.frame_is words scenario begins before q frames ways s is seated rows j served none one_log group stands
+      frame_is = ends.frame_is words scenario begins before q frames ways s fact seated rows j served none one_log group stands
 
       to_lead : r.top ≡ stands.lead.leader.ballot → r.hint ≡ Some stands.lead.me → RisesAt (replicas_after scenario rows) group r
       to_lead top hint =
@@ -149,16 +149,16 @@ module _ (words : ℕ → ℕ → ℕ × ℕ) (scenario : Scenario) (begins : Is
           record {
             hint_is = hint ∙ ap Some (sym own);
             there = lead;
-            is_there = ap (replica_at scenario rows group) own ∙ ends.lead_now words scenario begins before q frames ways s is seated rows j served none one_log group stands;
+            is_there = ap (replica_at scenario rows group) own ∙ ends.lead_now words scenario begins before q frames ways s fact seated rows j served none one_log group stands;
             nearer = inl lead_runs;
           }
         where
           lead_runs : lead.running ≡ true
-          lead_runs = (ends.leads words scenario begins before q frames ways s is seated rows j served none one_log group stands).1.leader.running
+          lead_runs = (ends.leads words scenario begins before q frames ways s fact seated rows j served none one_log group stands).1.leader.running
 
       still_by : r.top ≡ w.first.top → RisesAt (replicas_after scenario before) group w.first → RisesAt (replicas_after scenario rows) group r
       still_by top up =
-          let n = ends.now words scenario begins before q frames ways s is seated rows j served none one_log group stands w.first.top.node up.there up.is_there in
+          let n = ends.now words scenario begins before q frames ways s fact seated rows j served none one_log group stands w.first.top.node up.there up.is_there in
           let node_is : r.top.node ≡ w.first.top.node = ap (λ (b : Ballot). b.node) top in
           let round_is : r.top.round ≡ w.first.top.round = ap (λ (b : Ballot). b.round) top in
           record {
@@ -208,7 +208,7 @@ module _ (words : ℕ → ℕ → ℕ × ℕ) (scenario : Scenario) (begins : Is
 
       kept_by : IsPlainAt (IsBegun scenario rows) (frame_at_rest stands.lead) node r → IsKept group node r
       kept_by (inl p) = record {
-        me_is = ends.me_at words scenario begins before q frames ways s is seated rows j served none one_log group stands node r e;
+        me_is = ends.me_at words scenario begins before q frames ways s fact seated rows j served none one_log group stands node r e;
         name_is = ap (λ (c : Core). c.id) w.is_served.core_is ∙ kept_first.name_is;
         own = λ runs. ap (λ (l : LeaderState Command). l.ballot.node) w.is_served.leader ∙ kept_first.own (sym w.is_served.running_is ∙ runs);
         floor_low = p.0.floor_low;
@@ -219,7 +219,7 @@ module _ (words : ℕ → ℕ → ℕ × ℕ) (scenario : Scenario) (begins : Is
       kept_by (inr left) = elim (w.is_served.rest) [
         | inr member ↦ absurd (both_ways (is_member stands.lead.group.core.members node) left.left member)
         | inl still ↦ record {
-          me_is = ends.me_at words scenario begins before q frames ways s is seated rows j served none one_log group stands node r e;
+          me_is = ends.me_at words scenario begins before q frames ways s fact seated rows j served none one_log group stands node r e;
           name_is = ap (λ (c : Core). c.id) w.is_served.core_is ∙ kept_first.name_is;
           own = λ runs. ap (λ (l : LeaderState Command). l.ballot.node) w.is_served.leader ∙ kept_first.own (sym w.is_served.running_is ∙ runs);
           floor_low = (let low = kept_first.floor_low in let f = still.floor_is in let n = still.next_is in omega (arith, low, f, n));

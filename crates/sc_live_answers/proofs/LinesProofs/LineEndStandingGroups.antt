@@ -12,7 +12,7 @@ use Rattle.sc_scenario.specs.declared.scenario.scenarios.Scenario.{Scenario}
 use Rattle.sc_meaning.specs.sound.Definitions.{system_of, as_nodes}
 use Rattle.sc_live_orderly.specs.Definitions.{rest, is_born}
 use Rattle.sc_live_steps.specs.calm.Definitions.{Ways, IsNewest, LeadsAtRest, IsBelow, MayVote, IsUpToDate, IsLinked, StandsQuiet}
-use Rattle.sc_live_plain.specs.Definitions.{IsAsking, AreSeated, replicas_after, setting_at, AreFramesOf, IsQuietJournal, IsKept, frame_at_rest, told, replica_at, next_in, IsGroupAt, Setting, IsSetting, Frame, IsFrame, IsBegun, AreTaken, IsPlainReplica, IsLeading, IsPlainAt}
+use Rattle.sc_live_plain.specs.Definitions.{IsAsking, AreSeated, replicas_after, setting_at, AreFramesOf, IsQuietJournal, IsKept, frame_at_rest, taught_slots, replica_at, next_in, IsGroupAt, Setting, IsSetting, Frame, IsFrame, IsBegun, AreTaken, IsPlainReplica, IsLeading, IsPlainAt}
 use Rattle.sc_live_plain.proofs.Lemmas.{IsStage, Journal, some_is}
 use Rattle.sc_live_answers.specs.Definitions.{HaveOneLog}
 use Rattle.sc_live_answers.proofs.LinesProofs.LineEndGroups as end_of_line
@@ -28,7 +28,7 @@ no_left from zero e = refl
 no_left from (suc left) e = cc
 
 module _ (words : ℕ → ℕ → ℕ × ℕ) (scenario : Scenario) (begins : IsStage scenario) (before : Journal) (q : IsQuietJournal words scenario begins.first before) (frames : List Frame) (ways : Ways) (s : AreFramesOf (replicas_after scenario before) frames)
-    (is : IsSetting (setting_at (replicas_after scenario before) frames ways)) (seated : AreSeated scenario (setting_at (replicas_after scenario before) frames ways)) (rows : Journal)
+    (fact : IsSetting (setting_at (replicas_after scenario before) frames ways)) (seated : AreSeated scenario (setting_at (replicas_after scenario before) frames ways)) (rows : Journal)
     (j : IsAsking words scenario (setting_at (replicas_after scenario before) frames ways) begins.first rows) (served : HaveServed scenario (setting_at (replicas_after scenario before) frames ways) rows)
     (none : (who : ℕ) → is_born (system_of as_nodes words scenario) who ≡ true → rest (system_of as_nodes words scenario) rows who ≡ []) (one_log : HaveOneLog (replicas_after scenario rows)) where
   abbrev set : Setting
@@ -44,7 +44,7 @@ module _ (words : ℕ → ℕ → ℕ × ℕ) (scenario : Scenario) (begins : Is
     a = s.stand group stands
 
     pub frame_is : IsFrame (frame_at_rest stands.lead)
-    frame_is = is.are (frame_at_rest stands.lead) a
+    frame_is = fact.are (frame_at_rest stands.lead) a
 
     pub lead_there : replica_at scenario before group stands.lead.me ≡ Some stands.lead
     lead_there = stands.newest.is_there
@@ -62,10 +62,10 @@ module _ (words : ℕ → ℕ → ℕ × ℕ) (scenario : Scenario) (begins : Is
     by_group node r e = sym (ap (λ d. replica_at scenario rows d node) name) ∙ e
 
     pub plain_at : (node : ℕ) (r : ReplicaState) → replica_at scenario rows group node ≡ Some r → IsPlainAt (IsBegun scenario rows) (frame_at_rest stands.lead) node r
-    plain_at node r e = end_of_line.plain_at words scenario begins set is seated rows j served none (frame_at_rest stands.lead) a node r (by_id node r e)
+    plain_at node r e = end_of_line.plain_at words scenario begins set fact seated rows j served none (frame_at_rest stands.lead) a node r (by_id node r e)
 
     pub me_at : (node : ℕ) (r : ReplicaState) → replica_at scenario rows group node ≡ Some r → r.me ≡ node
-    me_at node r e = end_of_line.me_at words scenario begins set is seated rows j served none (frame_at_rest stands.lead) a node r (by_id node r e)
+    me_at node r e = end_of_line.me_at words scenario begins set fact seated rows j served none (frame_at_rest stands.lead) a node r (by_id node r e)
 
     -- what a replica was
     pub record WasHere (node : ℕ) (r : ReplicaState) : Type 0 where
@@ -75,7 +75,7 @@ module _ (words : ℕ → ℕ → ℕ × ℕ) (scenario : Scenario) (begins : Is
 
     pub was : (node : ℕ) (r : ReplicaState) → replica_at scenario rows group node ≡ Some r → WasHere node r
     was node r e =
-        let w = end_of_line.was_at words scenario begins set is seated rows j served none (frame_at_rest stands.lead) a node r (by_id node r e) in
+        let w = end_of_line.was_at words scenario begins set fact seated rows j served none (frame_at_rest stands.lead) a node r (by_id node r e) in
         record { first = w.first; there = sym (ap (λ d. replica_at scenario before d node) name) ∙ w.there; is_served = w.served_is }
 
     -- what a replica that was there is now
@@ -109,7 +109,7 @@ module _ (words : ℕ → ℕ → ℕ × ℕ) (scenario : Scenario) (begins : Is
 
     pub leads : IsPlainReplica (IsBegun scenario rows) (frame_at_rest stands.lead) stands.lead.me lead × IsLeading (IsBegun scenario rows) (frame_at_rest stands.lead) lead
     unfolding lead g
-    leads = end_of_line.leads words scenario begins set is seated rows j served none (frame_at_rest stands.lead) a
+    leads = end_of_line.leads words scenario begins set fact seated rows j served none (frame_at_rest stands.lead) a
 
     lead_was : HasServed scenario rows (frame_at_rest stands.lead) stands.lead.me stands.lead lead
     lead_was = (let w = was stands.lead.me lead lead_now in subst (λ (x : ReplicaState). HasServed scenario rows (frame_at_rest stands.lead) stands.lead.me x lead) (some_is (sym w.there ∙ lead_there)) w.is_served)
@@ -126,7 +126,7 @@ module _ (words : ℕ → ℕ → ℕ × ℕ) (scenario : Scenario) (begins : Is
 
     taken_none : g.taken ≡ 0
     unfolding g
-    taken_none = end_of_line.taken_none words scenario begins set is seated rows j served none (frame_at_rest stands.lead) a
+    taken_none = end_of_line.taken_none words scenario begins set fact seated rows j served none (frame_at_rest stands.lead) a
 
     pub newest : IsNewest (replicas_after scenario rows) group lead
     newest = record {
@@ -186,8 +186,8 @@ module _ (words : ℕ → ℕ → ℕ × ℕ) (scenario : Scenario) (begins : Is
       | inr ne ↦ (
           let l = g.between.learners node m ne in
           let at = seated.homes (name_of stands.lead) node (served.homes (name_of stands.lead) node r (by_id node r e)) in
-          let marks = end_of_line.none_at words scenario begins set is seated rows j served none (frame_at_rest stands.lead) a node at in
-          let zero_ = no_left _ l.left (sym (ap told marks) ∙ l.tells) in
+          let marks = end_of_line.none_at words scenario begins set fact seated rows j served none (frame_at_rest stands.lead) a node at in
+          let zero_ = no_left _ l.left (sym (ap taught_slots marks) ∙ l.tells) in
           let reach = l.reaches in
           let here = ap next_in (by_id node r e) in
           let there = ap next_in lead_id in

@@ -9,7 +9,7 @@ use Rattle.sc_live_steps.specs.calm.Definitions.{Rows}
 use Rattle.sc_live_journals.specs.rows.Definitions.{view_at}
 use Rattle.sc_live_journals.specs.scenes.Definitions.{LeadsAlone}
 use Rattle.sc_live_answers.specs.Definitions.{LawfulReplicasAreNamedOnce, WellLedLeadAlone, IsCalmJournal, IsPrefixOf, AreSent, AllLeadAlone, PrefixesAreFound, ViewsAgree}
-use Rattle.sc_live_answers.proofs.GroupsProofs.GuidedGroups.{named_there}
+use Rattle.sc_live_answers.proofs.LedGroupsProofs.GuidedGroups.{named_there}
 use Rattle.sc_live_answers.proofs.ReplicasProofs.PlayerReplicas.{place_of}
 
 module _ (all_bounded : ValidScenariosAreBounded) (found_law : PrefixesAreFound) (alone_law : WellLedLeadAlone) (once_law : LawfulReplicasAreNamedOnce) (agree_law : ViewsAgree)

@@ -10,7 +10,7 @@ use Rattle.sc_words.specs.declared.paxos.answers.Must.TheVariants.{Free as Open}
 use Rattle.sc_words.specs.paxos.Definitions.{must, flight_at, without_flight, with_voters}
 use Rattle.sc_node_table.specs.Definitions.{sent, sent_all, sent_others, answered, Found, is_act, waits, turned_down, next_queued, from_backlog, from_acts, from_queues, found_for, offered, pumped_from, pumped, queued_number, is_request_of, without_request, ReplicaState, Place, name_of, next, settled, may_offer, taken_at, under_way, is_idle, last_slot, refused_at, queued, requested, request_row, at_slot, with_slot, without_slot}
 use Rattle.sc_live_answers.specs.Definitions.{command_token, body_token, mail_token, flight_tokens, ready_tokens, place_tokens}
-use Rattle.sc_live_steps.proofs.CalmProofs.PumpPotential.{queues_leader, offering_must}
+use Rattle.sc_live_steps.proofs.CalmStepsProofs.PumpPotential.{queues_leader, offering_must}
 use Rattle.sc_live_steps.proofs.PumpProofs.Pumping.{open_found as found_is}
 
 -- no report binds the leader from the next slot on
@@ -71,13 +71,13 @@ module _ (c : ℕ) where
     where
       by : (b : Bool) → cond b (Some f) (flight_at slot fs) ≡ Some flight → (flight_at slot fs ≡ Some flight → flight_tokens c (without_flight slot fs) + command_token c flight.value ≡ flight_tokens c fs) →
           flight_tokens c (cond b fs (f ∷ without_flight slot fs)) + command_token c flight.value ≡ flight_tokens c (f ∷ fs)
-      by true is more =
+      by true fact more =
           let same : f ≡ flight = cc in
           let s = sum_by-cons (λ (x : Flight Command). command_token c x.value) f fs in
           let t = ap (λ (x : Flight Command). command_token c x.value) same in
           omega (arith, s, t)
-      by false is more =
-          let le = more is in
+      by false fact more =
+          let le = more fact in
           let s = sum_by-cons (λ (x : Flight Command). command_token c x.value) f fs in
           let t = sum_by-cons (λ (x : Flight Command). command_token c x.value) f (without_flight slot fs) in
           omega (arith, le, s, t)
@@ -103,13 +103,13 @@ module _ (c : ℕ) where
     where
       by : (b : Bool) → cond b (Some e.1) (at_slot es slot) ≡ Some command → (at_slot es slot ≡ Some command → ready_tokens c (without_slot es slot) + command_token c command ≡ ready_tokens c es) →
           ready_tokens c (cond b es (e ∷ without_slot es slot)) + command_token c command ≡ ready_tokens c (e ∷ es)
-      by true is more =
+      by true fact more =
           let same : e.1 ≡ command = cc in
           let s = sum_by-cons (λ (x : ℕ × Command). command_token c x.1) e es in
           let t = ap (command_token c) same in
           omega (arith, s, t)
-      by false is more =
-          let le = more is in
+      by false fact more =
+          let le = more fact in
           let s = sum_by-cons (λ (x : ℕ × Command). command_token c x.1) e es in
           let t = sum_by-cons (λ (x : ℕ × Command). command_token c x.1) e (without_slot es slot) in
           omega (arith, le, s, t)
@@ -236,7 +236,7 @@ module _ (c : ℕ) where
           omega (arith, rec, one, le)
 
       found : IsRest (slot + 1) sets → (from f : Found) → f ≡ from → found_tokens from ≤ place_tokens c (r, mails) → from.1.0.leader ≡ r.leader → place_tokens c (goes f) ≤ place_tokens c (r, mails)
-      found rest from f is le same = subst (λ (x : Found). place_tokens c (goes x) ≤ place_tokens c (r, mails)) (sym is) (by_option rest from.0 from.1 le same)
+      found rest from f fact le same = subst (λ (x : Found). place_tokens c (goes x) ≤ place_tokens c (r, mails)) (sym fact) (by_option rest from.0 from.1 le same)
 
       by : (b d : Bool) → place_tokens c (pumped_from (slot + 1) sets (r, mails)) ≤ place_tokens c (r, mails) → place_tokens c (goes (found_for slot (r, mails))) ≤ place_tokens c (r, mails) →
           place_tokens c (cond b (pumped_from (slot + 1) sets (r, mails)) (cond d (goes (found_for slot (r, mails))) (r, mails))) ≤ place_tokens c (r, mails)

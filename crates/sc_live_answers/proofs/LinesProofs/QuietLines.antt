@@ -46,7 +46,7 @@ module _ (words : ℕ → ℕ → ℕ × ℕ) (scenario : Scenario) (begins : Is
 
   -- ---- at the end
 
-  module _ (before : Journal) (q : IsQuietJournal words scenario begins.first before) (frames : List Frame) (ways : Ways) (s : AreFramesOf (replicas_after scenario before) frames) (is : IsSetting (setting_at (replicas_after scenario before) frames ways))
+  module _ (before : Journal) (q : IsQuietJournal words scenario begins.first before) (frames : List Frame) (ways : Ways) (s : AreFramesOf (replicas_after scenario before) frames) (fact : IsSetting (setting_at (replicas_after scenario before) frames ways))
       (seated : AreSeated scenario (setting_at (replicas_after scenario before) frames ways)) (rows : Journal) (j : IsAsking words scenario (setting_at (replicas_after scenario before) frames ways) begins.first rows)
       (served : HaveServed scenario (setting_at (replicas_after scenario before) frames ways) rows) (none : (who : ℕ) → is_born (system_of as_nodes words scenario) who ≡ true → rest (system_of as_nodes words scenario) rows who ≡ [])
       (one_before : HaveOneLog (replicas_after scenario before)) (one_log : HaveOneLog (replicas_after scenario rows)) (nobody : NobodyWaits scenario begins.first rows) (all : HaveAllReplies scenario begins.first rows)
@@ -56,41 +56,41 @@ module _ (words : ℕ → ℕ → ℕ × ℕ) (scenario : Scenario) (begins : Is
     told asks = (has_started rows (client_actor asks.client), client_in (value player_table (client_seat (route_of begins.first) asks) rows))
 
     answered_by : (asks : Asks) (a : Among asks scenario.clients) (gone : Bool) → has_started rows (client_actor asks.client) ≡ gone → IsAnswered gone (route_of begins.first) (j.clients asks a).client
-    answered_by asks a false e = fresh asks (j.clients asks a).client a e (j.clients asks a).is
-    answered_by asks a true e = (let c = j.clients asks a in (nobody asks c.client a c.is, all asks c.client a c.is e ∙ sym (ap length c.calm.requests_are)))
+    answered_by asks a false e = fresh asks (j.clients asks a).client a e (j.clients asks a).fact
+    answered_by asks a true e = (let c = j.clients asks a in (nobody asks c.client a c.fact, all asks c.client a c.fact e ∙ sym (ap length c.calm.requests_are)))
 
     told_is : (asks : Asks) (a : Among asks scenario.clients) → told asks ≡ (has_started rows (client_actor asks.client), (j.clients asks a).client)
     unfolding told client_in
-    told_is asks a = ap (λ (p : Player). (has_started rows (client_actor asks.client), client_in p)) (j.clients asks a).is
+    told_is asks a = ap (λ (p : Player). (has_started rows (client_actor asks.client), client_in p)) (j.clients asks a).fact
 
     answered : Each (λ client. IsAnswered client.0 (route_of begins.first) client.1) (map told scenario.clients)
     answered = each_map told (λ (client : Bool × ClientState). IsAnswered client.0 (route_of begins.first) client.1) scenario.clients
         (λ asks a. subst (λ (client : Bool × ClientState). IsAnswered client.0 (route_of begins.first) client.1) (sym (told_is asks a)) (answered_by asks a (has_started rows (client_actor asks.client)) refl))
 
     quiet : AreReplicasQuiet (replicas_after scenario before) (replicas_after scenario rows)
-    quiet = all_of.all_quiet words scenario begins before q frames ways s is seated rows j served none one_before one_log
+    quiet = all_of.all_quiet words scenario begins before q frames ways s fact seated rows j served none one_before one_log
 
     -- what the executed state notes is begun
     noted_by : (group : Draw) (stood : StandsQuiet (replicas_after scenario rows) group) → StandsQuiet (replicas_after scenario before) group ⊎ IsGoneQuiet (replicas_after scenario before) group
         → IsPlainGroup (IsBegun scenario rows) (frame_at_rest stood.lead) stood.lead.group
-    noted_by group stood (inl stands) = by (ends.plain_at words scenario begins before q frames ways s is seated rows j served none one_log group stands stood.lead.me stood.lead stood.newest.is_there)
+    noted_by group stood (inl stands) = by (ends.plain_at words scenario begins before q frames ways s fact seated rows j served none one_log group stands stood.lead.me stood.lead stood.newest.is_there)
       where
         by : IsPlainAt (IsBegun scenario rows) (frame_at_rest stands.lead) stood.lead.me stood.lead → IsPlainGroup (IsBegun scenario rows) (frame_at_rest stood.lead) stood.lead.group
         by (inl p) = record { core_is = refl; noted = p.0.group.noted; replied = p.0.group.replied; stored = p.0.group.stored }
         by (inr left) = absurd (both_ways stood.lead.running left.follower.stopped stood.leads.running)
     noted_by group stood (inr gone) =
-        absurd (both_ways stood.lead.running (gone.stopped stood.lead.me stood.lead (sym (all_of.same words scenario begins before q frames ways s is seated rows j served none one_before one_log group gone stood.lead.me) ∙ stood.newest.is_there)) stood.leads.running)
+        absurd (both_ways stood.lead.running (gone.stopped stood.lead.me stood.lead (sym (all_of.same words scenario begins before q frames ways s fact seated rows j served none one_before one_log group gone stood.lead.me) ∙ stood.newest.is_there)) stood.leads.running)
 
     pub quiet_journal : IsQuietJournal words scenario begins.first rows
     quiet_journal = record {
       clients = map told scenario.clients;
       quiet = record { groups = quiet.groups; at_rest = quiet.at_rest; rises = quiet.rises; answered = answered };
       kept = quiet.kept;
-      noted = λ group stood. noted_by group stood (all_of.which words scenario begins before q frames ways s is seated rows j served none one_before one_log group stood.lead.me stood.lead stood.newest.is_there);
-      nodes = λ me one most. (let n = j.nodes me one most in (n.node, n.is, n.me_is));
+      noted = λ group stood. noted_by group stood (all_of.which words scenario begins before q frames ways s fact seated rows j served none one_before one_log group stood.lead.me stood.lead stood.newest.is_there);
+      nodes = λ me one most. (let n = j.nodes me one most in (n.node, n.fact, n.me_is));
       players = λ asks a. (let c = j.clients asks a in
-          (c.client, c.is, c.calm.me_is, c.calm.requests_are, subst (λ (x : Bool × ClientState). Among x (map told scenario.clients)) (told_is asks a) (map_among told scenario.clients asks a)));
-      reached = all_of.home_still words scenario begins before q frames ways s is seated rows j served none one_before one_log (route_of begins.first).group (least_of (route_of begins.first).members) q.reached;
+          (c.client, c.fact, c.calm.me_is, c.calm.requests_are, subst (λ (x : Bool × ClientState). Among x (map told scenario.clients)) (told_is asks a) (map_among told scenario.clients asks a)));
+      reached = all_of.home_still words scenario begins before q frames ways s fact seated rows j served none one_before one_log (route_of begins.first).group (least_of (route_of begins.first).members) q.reached;
       none = none;
       desk = desk;
     }

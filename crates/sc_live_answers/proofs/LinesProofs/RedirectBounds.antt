@@ -18,11 +18,11 @@ use Rattle.sc_live_answers.proofs.LinesProofs.Setting as quiet_of
 
 -- ---- one that has not started knows one group still
 
-module _ (words : ℕ → ℕ → ℕ × ℕ) (scenario : Scenario) (begins : IsStage scenario) (set : Setting) (is : IsSetting set) (linked : IsLinkedSetting set) (seated : AreSeated scenario set) where
+module _ (words : ℕ → ℕ → ℕ × ℕ) (scenario : Scenario) (begins : IsStage scenario) (set : Setting) (fact : IsSetting set) (linked : IsLinkedSetting set) (seated : AreSeated scenario set) where
   knows_still : (before after : Journal) → AreRequests words scenario set before after → IsAsking words scenario set begins.first before → KnowOne scenario begins.first before → KnowOne scenario begins.first (before ++ after)
   knows_still before after requests j fresh =
-      (line_keeps words scenario begins set is linked (KnowOne scenario begins.first)
-      (λ rows t k room row o h. fresh_row words scenario begins set is linked seated rows t k room (λ asks client. (entry : Draw × Way) × (client.known ≡ entry ∷ [])) row o h) before after requests [] after refl
+      (line_keeps words scenario begins set fact linked (KnowOne scenario begins.first)
+      (λ rows t k room row o h. fresh_row words scenario begins set fact linked seated rows t k room (λ asks client. (entry : Draw × Way) × (client.known ≡ entry ∷ [])) row o h) before after requests [] after refl
       (subst (λ (l : Journal). IsAsking words scenario set begins.first l × KnowOne scenario begins.first l) (sym (append-nil before)) (j, fresh))).1
 
 module _ (all_bounded : ValidScenariosAreBounded) (named_law : LawfulReplicasAreNamedOnce) (led_once : LedStandOnce) (found_law : PrefixesAreFound) (frames_law : QuietJournalsHaveFrames) (rise_law : ChartHintsRise) (ask_law : QuietJournalsAsk) (cuts_law : QuietGroupsHaveCuts) (round_law : StandingGroupsAreRound)
@@ -52,7 +52,7 @@ module _ (all_bounded : ValidScenariosAreBounded) (named_law : LawfulReplicasAre
       (quiet_of.seated all_bounded frames_law rise_law ask_law cuts_law round_law linked_law words scenario first others far sent journal quiet calm groups rests known)
       quiet after asked.requests
       (subst (λ (f : Base). IsAsking words scenario set f quiet) same (quiet_of.asking all_bounded frames_law rise_law ask_law cuts_law round_law linked_law words scenario first others far sent journal quiet calm groups rests known))
-      (subst (λ (f : Base). KnowOne scenario f quiet) same (know_one words scenario first quiet rests.is)))
+      (subst (λ (f : Base). KnowOne scenario f quiet) same (know_one words scenario first quiet rests.fact)))
 
   is_quiet_prefix : IsQuietPrefix words scenario journal quiet
   is_quiet_prefix = record { calm = calm; begins = rests.prefix; quiet = rests.calm; sent = rests.sent }
@@ -61,8 +61,8 @@ module _ (all_bounded : ValidScenariosAreBounded) (named_law : LawfulReplicasAre
   one_near entry = (let low = sent_few names all rests.turn rests.turns (gone_named all_bounded named_law led_once found_law words scenario journal quiet is_quiet_prefix) sent entry in omega (arith, low, few))
 
   near : AreNear scenario chart first (quiet ++ after)
-  near asks client a is gone =
-      let one = knows asks client a gone is in
+  near asks client a fact gone =
+      let one = knows asks client a gone fact in
       subst (λ q. sent_on (reach_in sent (names_at (births as_nodes scenario) q) (all_replicas (births as_nodes scenario) q)) client.known ≤ sent) (sym own)
       (subst (λ k. sent_on (reach_in sent names all) k ≤ sent) (sym one.1) (one_near one.0))
 

@@ -12,17 +12,17 @@ use Rattle.sc_live_plain.proofs.Lemmas.{learn_is, learnt_plain, learnt_follower,
 use Rattle.sc_live_answers.specs.Definitions.{command_token, body_token, flight_tokens, ready_tokens, replica_tokens, place_tokens}
 use Rattle.sc_live_answers.proofs.LinesProofs.CallEffects.{Goes, pumps, pump_kept, entry_goes, leaves_itself}
 use Rattle.sc_live_plain.proofs.Lemmas.{accept_is}
-use Rattle.sc_live_plain.proofs.RowsProofs.AcceptAndLearnRows.{accepted_state}
+use Rattle.sc_live_plain.proofs.PlainRowsProofs.PlainAcceptAndLearnRows.{accepted_state}
 use Rattle.sc_live_answers.proofs.LinesProofs.PumpTokens.{IsFree, sent_token, others_token, answer_token, without_flight_tokens, taken_flight_tokens, with_voters_tokens, taken_slot_tokens, with_slot_tokens, pump_tokens, request_tokens}
 use Rattle.sc_live_answers.proofs.RequestsProofs.RequestRowEffects.{voter_at}
-use Rattle.sc_live_steps.proofs.CalmProofs.Lemmas.{ready_is}
+use Rattle.sc_live_steps.proofs.FollowingProofs.Lemmas.{ready_of}
 
-module _ (c : ℕ) (begun : Requests) (frame : Frame) (is : IsFrame frame) (first : ReplicaState) (free : IsFree first) (bound : ℕ) where
+module _ (c : ℕ) (begun : Requests) (frame : Frame) (fact : IsFrame frame) (first : ReplicaState) (free : IsFree first) (bound : ℕ) where
   -- ---- entries of a leader
 
   -- it goes on, with at most this number of tokens
   record Holds (place : Place) : Type 0 where
-    goes : Goes begun frame is first place.0
+    goes : Goes begun frame fact first place.0
     low : next first ≤ next place.0
     most : place_tokens c place ≤ bound
 
@@ -35,7 +35,7 @@ module _ (c : ℕ) (begun : Requests) (frame : Frame) (is : IsFrame frame) (firs
       let same : next (pumped place).0 ≡ next place.0 = ap next (pump_kept place) in
       let low = h.low in
       let most = h.most in
-      record { goes = pumps begun frame is first place h.goes; low = omega (arith, low, same); most = omega (arith, le, most) }
+      record { goes = pumps begun frame fact first place h.goes; low = omega (arith, low, same); most = omega (arith, le, most) }
 
   abbrev later : ReplicaState → ℕ → ℕ → Op → ReplicaState
   later r client seq op = entered (Call client seq op) r
@@ -60,22 +60,22 @@ module _ (c : ℕ) (begun : Requests) (frame : Frame) (is : IsFrame frame) (firs
   unfolding entered forgotten
   one_call r mails client seq op call at h =
       let g = h.goes in
-      let serves = call_plain begun frame is client seq op r.group call g.group in
+      let serves = call_plain begun frame fact client seq op r.group call g.group in
       let core = entered_frame begun frame client seq op r serves in
       let e : ReplicaState = entered (Call client seq op) r in
-      let is_ = counted_call client seq op serves.answer r mails serves.answer_is (ap (λ (x : Core). x.members) (core ∙ sym g.group.core_is)) g.running (ap (λ (x : Core). x.gone) core ∙ is.stands)
-      (ap (λ (x : Core). is_member x.members r.me) core ∙ ap (is_member frame.core.members) g.me_is ∙ is.leads) in
+      let is_ = counted_call client seq op serves.answer r mails serves.answer_is (ap (λ (x : Core). x.members) (core ∙ sym g.group.core_is)) g.running (ap (λ (x : Core). x.gone) core ∙ fact.stands)
+      (ap (λ (x : Core). is_member x.members r.me) core ∙ ap (is_member frame.core.members) g.me_is ∙ fact.leads) in
       let tokens = entry_tokens r mails client seq op serves.answer at in
       let up = entered_next (Call client seq op) r in
       let low = h.low in
       let most = h.most in
       let next_is : next (executed_one true (Call client seq op) (r, mails)).0 ≡ next (entered (Call client seq op) r) = ap (λ (p : Place). next p.0) is_ in
       let same = ap (place_tokens c) is_ in
-      record { goes = entry_goes begun frame is first r mails client seq op call g; low = omega (arith, low, up, next_is); most = omega (arith, tokens, same, most) }
+      record { goes = entry_goes begun frame fact first r mails client seq op call g; low = omega (arith, low, up, next_is); most = omega (arith, tokens, same, most) }
 
   one_on : (command : Command) (place : Place) → IsPlainCommand begun frame command → at_slot place.0.ready (next place.0) ≡ Some command → Holds place → Holds (executed_one true command place)
   one_on command (r, mails) plain at h =
-      let k = call_is begun frame is 0 0 [] 0 (λ x y. ⊥) command plain in
+      let k = call_is begun frame fact 0 0 [] 0 (λ x y. ⊥) command plain in
       subst (λ (x : Command). Holds (executed_one true x (r, mails))) (sym k.3) (one_call r mails k.0 k.1 k.2 (subst (IsPlainCommand begun frame) k.3 plain) (at ∙ ap Some k.3) h)
 
   plain_at : (place : Place) (command : Command) → Holds place → at_slot place.0.ready (next place.0) ≡ Some command → IsPlainCommand begun frame command
@@ -93,7 +93,7 @@ module _ (c : ℕ) (begun : Requests) (frame : Frame) (is : IsFrame frame) (firs
           → HoldsAfter (elim o [ None ↦ childless place | Some command ↦ ending (next_child command place.0) (executed_ready es (executed_one true command place)) ])
       by None is_ more = h
       by (Some command) is_ more =
-          let at = ready_is place.0 command is_ in
+          let at = ready_of command place.0 is_ in
           pumps_on (executed_ready es (executed_one true command place)).0 (more (executed_one true command place) (one_on command place (plain_at place command h at) at h))
 
   executes_on : (command : Command) (place : Place) → at_slot place.0.ready (next place.0) ≡ Some command → Holds place → Holds (executed true command place).0
@@ -170,7 +170,7 @@ module _ (c : ℕ) (begun : Requests) (frame : Frame) (is : IsFrame frame) (firs
 
 -- ---- each mail
 
-module _ (c : ℕ) (begun : Requests) (frame : Frame) (is : IsFrame frame) (me from : ℕ) (r : ReplicaState) (room : next r + slots_ahead ≤ last_slot) where
+module _ (c : ℕ) (begun : Requests) (frame : Frame) (fact : IsFrame frame) (me from : ℕ) (r : ReplicaState) (room : next r + slots_ahead ≤ last_slot) where
   abbrev Stay : MailBody → Type 0
   Stay body = place_tokens c (mailed from body (r, [])).0 ≤ replica_tokens c r + body_token c me body
 
@@ -181,23 +181,23 @@ module _ (c : ℕ) (begun : Requests) (frame : Frame) (is : IsFrame frame) (me f
   by_vote : (group : Draw) (ballot : Ballot) (slot taken : ℕ) → IsPlainReplica begun frame frame.lead r → IsPlainLeader begun frame taken r → Stay (Accepted group ballot slot)
   unfolding mailed
   by_vote group ballot slot taken p l =
-      let held = vote_holds c begun frame is r l.open_ (replica_tokens c r) r (record { goes = record { group = p.group; me_is = p.me_is; running = l.running; ready = l.ready; leaves = leaves_itself r }; low = omega arith; most = omega arith }) l.flights from ballot slot in
+      let held = vote_holds c begun frame fact r l.open_ (replica_tokens c r) r (record { goes = record { group = p.group; me_is = p.me_is; running = l.running; ready = l.ready; leaves = leaves_itself r }; low = omega arith; most = omega arith }) l.flights from ballot slot in
       let most = held.most in
       omega (arith, most)
 
   by_accept : (group : Draw) (slot : ℕ) (command : Command) → IsPlainAt begun frame me r → is_member (frame.at slot) me ≡ true → next r ≤ slot → Stay (Accept group frame.ballot slot command)
   unfolding mailed accepted_state
   by_accept group slot command k m low =
-      let same = ap (place_tokens c) (accept_is frame is me r (voter_at begun frame is me r slot m k) from slot command low (none_stops begun frame is me r k)) in
+      let same = ap (place_tokens c) (accept_is frame fact me r (voter_at begun frame fact me r slot m k) from slot command low (none_stops begun frame fact me r k)) in
       omega (arith, same)
 
   by_learn : (group : Draw) (slot client seq : ℕ) (op : Op) → IsPlainReplica begun frame me r → IsPlainFollower r → IsPlainCall begun frame client seq op → slot ≡ next r → Stay (Learn group slot (Call client seq op))
   unfolding mailed
   by_learn group slot client seq op p f call at =
       let low : next r ≤ last_slot = omega (arith, room) in
-      let after = learnt_plain begun frame is me r p f is.leads client seq op call low in
-      let stopped = learnt_follower begun frame is me r p f is.leads client seq op call low in
-      let same = ap (place_tokens c) (learn_is begun frame is me r p f is.leads client seq op call low from slot at) in
+      let after = learnt_plain begun frame fact me r p f fact.leads client seq op call low in
+      let stopped = learnt_follower begun frame fact me r p f fact.leads client seq op call low in
+      let same = ap (place_tokens c) (learn_is begun frame fact me r p f fact.leads client seq op call low from slot at) in
       let acts = ap (sum_by (command_token c)) after.acts in
       let backlog = ap (sum_by (command_token c)) stopped.backlog in
       let flights = ap (flight_tokens c) stopped.flights in
@@ -205,13 +205,13 @@ module _ (c : ℕ) (begun : Requests) (frame : Frame) (is : IsFrame frame) (me f
       omega (arith, same, acts, backlog, flights, ready)
 
   pub stay_row : (body : MailBody) → IsPlainAt begun frame me r → IsPlainBody begun frame from me body → IsDue r body → ((client seq : ℕ) (op : Op) → begun client seq op → me ≡ client_actor client → ⊥) → place_tokens c (mailed from body (r, [])).0 ≤ replica_tokens c r + body_token c me body
-  stay_row (Request group client seq op) k b due n = (let leads_ = leading_at begun frame is me r b.1.to_is k in by_request group client seq op leads_.1.taken leads_.1.leader)
-  stay_row (Accepted group ballot slot) k b due n = (let leads_ = leading_at begun frame is me r b.2 k in by_vote group ballot slot leads_.1.taken leads_.0 leads_.1.leader)
+  stay_row (Request group client seq op) k b due n = (let leads_ = leading_at begun frame fact me r b.1.to_is k in by_request group client seq op leads_.1.taken leads_.1.leader)
+  stay_row (Accepted group ballot slot) k b due n = (let leads_ = leading_at begun frame fact me r b.2 k in by_vote group ballot slot leads_.1.taken leads_.0 leads_.1.leader)
   stay_row (Accept group ballot slot command) k b due n = subst (λ (x : Ballot). Stay (Accept group x slot command)) (sym b.1) (by_accept group slot command k b.2.to_in due)
   stay_row (Learn group slot command) k b due n =
-      let x = call_is begun frame is 0 0 [] 0 (λ x y. ⊥) command b.1.is_call in
+      let x = call_is begun frame fact 0 0 [] 0 (λ x y. ⊥) command b.1.is_call in
       let plain : IsPlainCall begun frame x.0 x.1 x.2 = subst (IsPlainCommand begun frame) x.3 b.1.is_call in
-      let follows = following_at begun frame is me r b.1.to_in b.1.other k in
+      let follows = following_at begun frame fact me r b.1.to_in b.1.other k in
       subst (λ (y : Command). Stay (Learn group slot y)) (sym x.3) (by_learn group slot x.0 x.1 x.2 follows.0 follows.1 plain due)
   stay_row (Answer group seq answer) k b due n = absurd (n b.1.client seq b.1.op b.1.is_begun b.1.to_is)
   stay_row _ k b due n = absurd b

@@ -18,7 +18,7 @@ use Rattle.sc_paxos_law.proofs.Lemmas.{place_among}
 
 -- the first rows of a lawful journal are one
 pub prefix_lawful : (words : ℕ → ℕ → ℕ × ℕ) (scenario : Scenario) (journal rows : Rows) → Lawful as_nodes words scenario journal → IsPrefixOf journal rows → Lawful as_nodes words scenario rows
-prefix_lawful words scenario journal rows lawful prefix = lawful-prefix (system_of as_nodes words scenario) (schedule scenario) rows prefix.more (subst (Lawful as_nodes words scenario) prefix.is lawful)
+prefix_lawful words scenario journal rows lawful prefix = lawful-prefix (system_of as_nodes words scenario) (schedule scenario) rows prefix.more (subst (Lawful as_nodes words scenario) prefix.fact lawful)
 
 -- a quiet prefix is its own last quiet prefix
 pub own_prefix : (words : ℕ → ℕ → ℕ × ℕ) (scenario : Scenario) (quiet : Rows) → is_quiet (players words (births as_nodes scenario)) quiet ≡ true → quiet_prefix (players words (births as_nodes scenario)) quiet ≡ quiet
@@ -39,7 +39,7 @@ module _ (all_bounded : ValidScenariosAreBounded) (frames_law : QuietJournalsHav
   homes = known.homes quiet rests.prefix
 
   pub frames : AreFramesOf at (frames_after scenario quiet)
-  frames = frames_law words scenario first quiet calm.valid lawful rests.is homes
+  frames = frames_law words scenario first quiet calm.valid lawful rests.fact homes
 
   abbrev prefix_own : quiet_prefix (players words (births as_nodes scenario)) quiet ≡ quiet
   prefix_own = own_prefix words scenario quiet rests.calm
@@ -54,7 +54,7 @@ module _ (all_bounded : ValidScenariosAreBounded) (frames_law : QuietJournalsHav
   reached = risen.1
 
   asks : IsSetting set × IsAsking words scenario set first quiet × NobodyWaits scenario first quiet
-  asks = ask_law words scenario first others quiet (frames_after scenario quiet) set.ways calm.valid groups rests.is frames rise
+  asks = ask_law words scenario first others quiet (frames_after scenario quiet) set.ways calm.valid groups rests.fact frames rise
 
   pub is_setting : IsSetting set
   is_setting = asks.0
@@ -66,11 +66,11 @@ module _ (all_bounded : ValidScenariosAreBounded) (frames_law : QuietJournalsHav
   waits = asks.2
 
   cuts : AreOfCuts (world_at as_nodes scenario.groups quiet) (frames_after scenario quiet)
-  cuts = cuts_law words scenario first quiet (frames_after scenario quiet) known.one known.logs rests.known rests.is frames
+  cuts = cuts_law words scenario first quiet (frames_after scenario quiet) known.one known.logs rests.known rests.fact frames
 
   pub linked : IsLinkedSetting set
   linked =
-      linked_law at (frames_after scenario quiet) set.ways frames rests.reach (λ group q. (rests.is.kept group q.lead.me q.lead q.newest.is_there).name_is)
+      linked_law at (frames_after scenario quiet) set.ways frames rests.reach (λ group q. (rests.fact.kept group q.lead.me q.lead q.newest.is_there).name_is)
       (λ frame a. round_law (world_at as_nodes scenario.groups quiet) set known.one.covers known.one.placed cuts frame a)
 
   pub seated : AreSeated scenario set

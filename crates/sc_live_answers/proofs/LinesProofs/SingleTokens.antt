@@ -61,7 +61,7 @@ held_one c seq r h = elim (h.where_) [
   | inr (inr e) ↦ (let le = one_of_sum (λ (x : ℕ × Command). command_token c x.1) r.ready (e.0, Call c h.number h.op) e.1 in let one = call_one c h.number h.op in omega (arith, le, one))
 ]
 
-module _ (words : ℕ → ℕ → ℕ × ℕ) (scenario : Scenario) (begins : IsStage scenario) (set : Setting) (is : IsSetting set) (linked : IsLinkedSetting set) (seated : AreSeated scenario set) where
+module _ (words : ℕ → ℕ → ℕ × ℕ) (scenario : Scenario) (begins : IsStage scenario) (set : Setting) (fact : IsSetting set) (linked : IsLinkedSetting set) (seated : AreSeated scenario set) where
   abbrev sys : System Player Mail OrderLine
   sys = system_of as_nodes words scenario
 
@@ -72,21 +72,21 @@ module _ (words : ℕ → ℕ → ℕ × ℕ) (scenario : Scenario) (begins : Is
   nseat me = node_seat as_nodes scenario.groups scenario.policy me
 
   abbrev Keeps : ℕ → Journal → Type 0
-  Keeps who rows = AreSought words scenario begins set is linked rows × (owed (system_of as_nodes words scenario) (token_owing who) rows ≤ 1)
+  Keeps who rows = AreSought words scenario begins set fact linked rows × (owed (system_of as_nodes words scenario) (token_owing who) rows ≤ 1)
 
   pub sought_on : (rows : Journal) (t : IsTidy rows) (j : IsAsking words scenario set begins.first rows) (room : AreFarFromLast scenario set rows) (row : Row Mail OrderLine) → IsOrderly (system_of as_nodes words scenario) rows row
-      → AreSought words scenario begins set is linked rows → AreSought words scenario begins set is linked (rows ++ row ∷ [])
+      → AreSought words scenario begins set fact linked rows → AreSought words scenario begins set fact linked (rows ++ row ∷ [])
   sought_on rows t j room row o h =
-      let then_ = clients_of.asking_row words scenario begins set is linked rows t j room row o in
-      sought_row words scenario begins set is linked rows t j h room row o (λ asks client a v w. (let n = asked_node words scenario begins set is linked seated (rows ++ row ∷ []) then_ asks client a v w in node_number words scenario begins w.target n.0 n.1))
+      let then_ = clients_of.asking_row words scenario begins set fact linked rows t j room row o in
+      sought_row words scenario begins set fact linked rows t j h room row o (λ asks client a v w. (let n = asked_node words scenario begins set fact linked seated (rows ++ row ∷ []) then_ asks client a v w in node_number words scenario begins w.target n.0 n.1))
 
   keeps : (who : ℕ) (rows : Journal) (t : IsTidy rows) (j : IsAsking words scenario set begins.first rows) (room : AreFarFromLast scenario set rows) (row : Row Mail OrderLine) → IsOrderly (system_of as_nodes words scenario) rows row → Keeps who rows → Keeps who (rows ++ row ∷ [])
   keeps who rows t j room row o h =
       let le = h.1 in
-      let fall = falls who words scenario begins set is linked rows t j room row o in
+      let fall = falls who words scenario begins set fact linked rows t j room row o in
       (sought_on rows t j room row o h.0, omega (arith, le, fall))
 
-  module _ (rows : Journal) (t : IsTidy rows) (j : IsAsking words scenario set begins.first rows) (sought : AreSought words scenario begins set is linked rows) (asks : Asks) (a : Among asks scenario.clients)
+  module _ (rows : Journal) (t : IsTidy rows) (j : IsAsking words scenario set begins.first rows) (sought : AreSought words scenario begins set fact linked rows) (asks : Asks) (a : Among asks scenario.clients)
       (few : owed (system_of as_nodes words scenario) (token_owing asks.client) rows ≤ 1) (number : ℕ) (fine : kth (waiting (system_of as_nodes words scenario) rows (Some (client_actor asks.client))) 1 ≡ Some number) where
     among_births : Among (client_seat (route_of begins.first) asks) (births as_nodes scenario)
     among_births = subst (Among (cseat asks)) (sym begins.seats) (Among-right (cseat asks) (map nseat (numbers_from 1 scenario.nodes)) (map cseat scenario.clients) (map_among cseat scenario.clients asks a))
@@ -95,7 +95,7 @@ module _ (words : ℕ → ℕ → ℕ × ℕ) (scenario : Scenario) (begins : Is
     born = seat_found (births as_nodes scenario) (cseat asks) begins.seats_apart among_births
 
     abbrev first : TakesFirst (system_of as_nodes words scenario) rows (client_actor asks.client) number
-    first = clients_of.first words scenario begins set is linked rows t j asks a born number fine
+    first = clients_of.first words scenario begins set fact linked rows t j asks a born number fine
 
     not_node : (to : ℕ) → to ≡ client_actor asks.client → (1 ≤ to) × (to ≤ scenario.nodes) → ⊥
     not_node to e n = both_ways (is_node (client_actor asks.client)) (client_number words scenario begins asks a) (ap is_node (sym e) ∙ node_number words scenario begins to n.0 n.1)
@@ -107,11 +107,11 @@ module _ (words : ℕ → ℕ → ℕ × ℕ) (scenario : Scenario) (begins : Is
 
     plain_answers : (begun : Requests) (frame : Frame) → Among frame set.frames → (from to : ℕ) (body : MailBody) → to ≡ client_actor asks.client → IsPlainBody begun frame from to body → Answers body
     plain_answers begun frame f from to (Answer group seq answer) e b = (group, seq, answer, refl)
-    plain_answers begun frame f from to (Request group client seq op) e b = absurd (not_node to e (subst (λ x. (1 ≤ x) × (x ≤ scenario.nodes)) (sym b.1.to_is) (seated.homes frame.core.id frame.lead (is.leads frame f))))
+    plain_answers begun frame f from to (Request group client seq op) e b = absurd (not_node to e (subst (λ x. (1 ≤ x) × (x ≤ scenario.nodes)) (sym b.1.to_is) (seated.homes frame.core.id frame.lead (fact.leads frame f))))
     plain_answers begun frame f from to (Accept group ballot slot command) e b = absurd (not_node to e (seated.voters frame slot to f b.2.to_in))
-    plain_answers begun frame f from to (Accepted group ballot slot) e b = absurd (not_node to e (subst (λ x. (1 ≤ x) × (x ≤ scenario.nodes)) (sym b.2) (seated.homes frame.core.id frame.lead (is.leads frame f))))
+    plain_answers begun frame f from to (Accepted group ballot slot) e b = absurd (not_node to e (subst (λ x. (1 ≤ x) × (x ≤ scenario.nodes)) (sym b.2) (seated.homes frame.core.id frame.lead (fact.leads frame f))))
     plain_answers begun frame f from to (Learn group slot command) e b =
-        absurd (not_node to e (seated.voters frame (frame.from + slots_ahead) to f (ap (λ ms. is_member ms to) ((is.are frame f).later (frame.from + slots_ahead) (omega arith)) ∙ b.1.to_in)))
+        absurd (not_node to e (seated.voters frame (frame.from + slots_ahead) to f (ap (λ ms. is_member ms to) ((fact.are frame f).later (frame.from + slots_ahead) (omega arith)) ∙ b.1.to_in)))
     plain_answers begun frame f from to (Prepare group ballot from_slot) e b = absurd b
     plain_answers begun frame f from to _ e b = absurd b
 
@@ -129,7 +129,7 @@ module _ (words : ℕ → ℕ → ℕ × ℕ) (scenario : Scenario) (begins : Is
 
     first_one : mail_token asks.client first.mail ≡ 1
     first_one =
-        let is_ = mail_answers first.mail first.receiver (clients_of.is_calm words scenario begins set is linked rows t j asks a born number fine) in
+        let is_ = mail_answers first.mail first.receiver (clients_of.is_calm words scenario begins set fact linked rows t j asks a born number fine) in
         ap (body_token asks.client first.mail.to) is_.3 ∙ answer_one first.mail.to is_.0 is_.1 is_.2 first.receiver
 
     -- ---- what is counted
@@ -172,9 +172,9 @@ module _ (words : ℕ → ℕ → ℕ × ℕ) (scenario : Scenario) (begins : Is
         let one = rest_is in
         omega (arith, le, now, free, mail, one, few)
 
-    by_sought : (client : ClientState) → value player_table (client_seat (route_of begins.first) asks) rows ≡ Client client → client.me ≡ asks.client → (w : IsWaiting client) → IsSought words scenario begins set is linked rows client w.group w.target w.seq → IsAnswerTo client first.mail
+    by_sought : (client : ClientState) → value player_table (client_seat (route_of begins.first) asks) rows ≡ Client client → client.me ≡ asks.client → (w : IsWaiting client) → IsSought words scenario begins set fact linked rows client w.group w.target w.seq → IsAnswerTo client first.mail
     by_sought client v me w (inl x) =
-        let n = asked_node words scenario begins set is linked seated rows j asks client a v w in
+        let n = asked_node words scenario begins set fact linked seated rows j asks client a v w in
         let request : Mail = asking client.me w.target w.group w.seq x.0 in
         let token : mail_token asks.client request ≡ 1 = cond-true (eqb client.me asks.client) 1 0 (eq-eqb client.me asks.client me) in
         let there = one_of_sum (mail_token asks.client) (rest sys rows w.target) request x.1 in
@@ -193,14 +193,14 @@ module _ (words : ℕ → ℕ → ℕ × ℕ) (scenario : Scenario) (begins : Is
               absurd (omega (arith, there, token, mail, one, few)))
         ]
     by_sought client v me w (inr (inr h)) =
-        let n = asked_node words scenario begins set is linked seated rows j asks client a v w in
+        let n = asked_node words scenario begins set fact linked seated rows j asks client a v w in
         let node = j.nodes w.target n.0 n.1 in
-        let found : replica_of w.group node.node.replicas ≡ Some h.r = sym (replica_is words scenario rows w.group w.target (Node node.node) (node_number words scenario begins w.target n.0 n.1) node.is) ∙ h.there in
+        let found : replica_of w.group node.node.replicas ≡ Some h.r = sym (replica_is words scenario rows w.group w.target (Node node.node) (node_number words scenario begins w.target n.0 n.1) node.fact) ∙ h.there in
         let among = (find_found (λ (x : ReplicaState). same_draw (name_of x) w.group) node.node.replicas h.r found).0 in
         let here = one_of_sum (replica_tokens asks.client) node.node.replicas h.r among in
         let held = held_one asks.client w.seq h.r (subst (λ who. IsHeld h.r who w.seq) me h.held) in
         let le = seats_in (nseat w.target) (node_born words scenario begins w.target n.0 n.1) in
-        let now = ap (player_token asks.client) node.is in
+        let now = ap (player_token asks.client) node.fact in
         let mail = mail_in in
         let one = rest_is in
         absurd (omega (arith, here, held, le, now, mail, one, few))
@@ -208,21 +208,21 @@ module _ (words : ℕ → ℕ → ℕ × ℕ) (scenario : Scenario) (begins : Is
     pub first_is : (client : ClientState) → value player_table (client_seat (route_of begins.first) asks) rows ≡ Client client → (mail : Mail) → numbered (mails rows) number ≡ Some mail → IsAnswerTo client mail
     first_is client v mail e =
         let c = j.clients asks a in
-        let same : c.client ≡ client = client_is (sym c.is ∙ v) in
+        let same : c.client ≡ client = client_is (sym c.fact ∙ v) in
         let answer : IsAnswerTo c.client first.mail = elim (c.calm.state) [
-          | inl rests ↦ absurd (resting_none c.client c.is c.calm.me_is rests.waits)
-          | inr w ↦ by_sought c.client c.is c.calm.me_is w.1 (sought asks c.client a c.is w.1)
+          | inl rests ↦ absurd (resting_none c.client c.fact c.calm.me_is rests.waits)
+          | inr w ↦ by_sought c.client c.fact c.calm.me_is w.1 (sought asks c.client a c.fact w.1)
         ] in
         subst (λ (x : ClientState). IsAnswerTo x mail) same (subst (IsAnswerTo c.client) (some_is (sym first.sent ∙ e)) answer)
 
 pub expected : ValidScenariosAreBounded → AnswersAreExpected
-expected all_bounded words scenario set first others before after asks client number mail valid groups is linked seated j still requests few a tidy v fine sent =
+expected all_bounded words scenario set first others before after asks client number mail valid groups fact linked seated j still requests few a tidy v fine sent =
     let begins = stage scenario (all_bounded scenario valid) in
     let same : first ≡ begins.first = (let e : first ∷ others ≡ begins.first ∷ begins.others = sym groups ∙ begins.groups_are in cc) in
     let j_ = subst (λ (f : Base). IsAsking words scenario set f before) same j in
     let still_ = subst (λ (f : Base). NobodyWaits scenario f before) same still in
-    let nothing : AreSought words scenario begins set is linked before = λ other who b e w. (let bad : None ≡ Some w.seq = sym (still_ other who b e) ∙ w.waits in cc) in
-    let R : Journal → Type 0 = λ rows. AreSought words scenario begins set is linked rows × (owed (system_of as_nodes words scenario) (token_owing asks.client) rows ≤ 1) in
-    let end = line_keeps words scenario begins set is linked R (λ rows t k room row o h. keeps words scenario begins set is linked seated asks.client rows t k room row o h) before after requests [] after refl
+    let nothing : AreSought words scenario begins set fact linked before = λ other who b e w. (let bad : None ≡ Some w.seq = sym (still_ other who b e) ∙ w.waits in cc) in
+    let R : Journal → Type 0 = λ rows. AreSought words scenario begins set fact linked rows × (owed (system_of as_nodes words scenario) (token_owing asks.client) rows ≤ 1) in
+    let end = line_keeps words scenario begins set fact linked R (λ rows t k room row o h. keeps words scenario begins set fact linked seated asks.client rows t k room row o h) before after requests [] after refl
     (subst (λ (l : Journal). IsAsking words scenario set begins.first l × R l) (sym (append-nil before)) (j_, (nothing, few))) in
-    first_is words scenario begins set is linked seated (before ++ after) tidy end.0 end.1.0 asks a end.1.1 number fine client (subst (λ (f : Base). value player_table (client_seat (route_of f) asks) (before ++ after) ≡ Client client) same v) mail sent
+    first_is words scenario begins set fact linked seated (before ++ after) tidy end.0 end.1.0 asks a end.1.1 number fine client (subst (λ (f : Base). value player_table (client_seat (route_of f) asks) (before ++ after) ≡ Client client) same v) mail sent

@@ -19,12 +19,12 @@ module _ (ahead : Ahead) (bases : List Base) (made : Base → Command → Type 0
   HasOne base replicas = Holds ahead base (made base) me (h base) replicas ⊎ Each (IsOther base.core.id) replicas
 
   others : (base : Base) (r : ReplicaState) (replicas : List ReplicaState) → name_of r ≡ base.core.id → HasOne base (r ∷ replicas) → Each (λ (other : ReplicaState). name_of other ≡ name_of r → ⊥) replicas
-  others base r replicas named (inl (inl (is, k, none))) = Each-weaker (IsOther base.core.id) (λ (other : ReplicaState). name_of other ≡ name_of r → ⊥) (λ other apart e. apart (e ∙ named)) replicas none
+  others base r replicas named (inl (inl (fact, k, none))) = Each-weaker (IsOther base.core.id) (λ (other : ReplicaState). name_of other ≡ name_of r → ⊥) (λ other apart e. apart (e ∙ named)) replicas none
   others base r replicas named (inl (inr (o, rest))) = absurd (o named)
   others base r replicas named (inr each) = absurd (each.0 named)
 
   fewer : (base : Base) (r : ReplicaState) (replicas : List ReplicaState) → HasOne base (r ∷ replicas) → HasOne base replicas
-  fewer base r replicas (inl (inl (is, k, none))) = inr none
+  fewer base r replicas (inl (inl (fact, k, none))) = inr none
   fewer base r replicas (inl (inr (o, rest))) = inl rest
   fewer base r replicas (inr each) = inr each.1
 
@@ -36,18 +36,18 @@ module _ (ahead : Ahead) (bases : List Base) (made : Base → Command → Type 0
   )
 
 pub named_once : ValidScenariosAreBounded → ValidScenariosBeginWell → TakenOrdersAreAllowed → TakenWishesAreAllowed → WishesAreAtPositions → OtherNamesAreFree → LawfulReplicasAreNamedOnce
-named_once bounded begin allowed wishes positions free words scenario rows me node valid lawful low high is =
+named_once bounded begin allowed wishes positions free words scenario rows me node valid lawful low high fact =
     let owner = owner_in as_nodes scenario rows in
     let sources : Sources = record { owner = owner; request = section_op scenario } in
     let ready = begin owner (free as_nodes scenario rows) as_nodes refl scenario valid in
     let well = ready.well in
     let orders = orders_allowed as_nodes words scenario (bounded scenario valid) allowed wishes positions rows lawful in
     let at = (holds sources as_nodes words scenario (route_of ready.first) well.place well.seats well.asks well.apart well.fresh rows orders lawful).kept.nodes me low high in
-    let found : Node at.node ≡ Node node = sym at.value_is ∙ is in
+    let found : Node at.node ≡ Node node = sym at.value_is ∙ fact in
     let same : at.node ≡ node = cc in
     subst (λ (n : NodeState). AreNamedOnce n.replicas) same
-    (once as_nodes (groups_at as_nodes scenario.groups rows) (MayQueue sources as_nodes scenario rows) me (h_of rows) at.node.replicas at.is.known (λ base a. inl (at.is.holds base a)))
+    (once as_nodes (groups_at as_nodes scenario.groups rows) (MayQueue sources as_nodes scenario rows) me (h_of rows) at.node.replicas at.fact.known (λ base a. inl (at.fact.holds base a)))
 
 pub lawful_count_once : QuietJournalsCountOnce → LawfulReplicasAreNamedOnce → LawfulQuietJournalsCountOnce
 lawful_count_once counts named words scenario set first others rows c valid groups j q lawful =
-    counts words scenario set first others rows c valid groups j q (λ me node low high is. named words scenario rows me node valid lawful low high is)
+    counts words scenario set first others rows c valid groups j q (λ me node low high fact. named words scenario rows me node valid lawful low high fact)

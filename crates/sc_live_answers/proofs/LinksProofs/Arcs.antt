@@ -16,9 +16,9 @@ use Rattle.sc_live_answers.proofs.LinksProofs.LinkLogs.{sources, well, told, fou
 
 -- in a world that allowed entries made
 arc_in_world : (owner : Draw → _) (w : StoryWorld) (k : KeptWorld owner w) (name : Draw) (u : Group) → groups_in w.store.groups name ≡ Some u → u.core.lock ≡ Free → u.core.gone ≡ None → IsArc u.core.arc × (u.core.arc.lo < 2 ^ 32)
-arc_in_world owner w k name u is free here =
+arc_in_world owner w k name u fact free here =
     let r = serving (decisions w.stories) u here (inl free) in
-    let a = k.kept.1.0.0.arcs name u.core.arc (ap arc_of (ap (eff (decisions w.stories)) is ∙ r.is) ∙ ap Some r.arc) in
+    let a = k.kept.1.0.0.arcs name u.core.arc (ap arc_of (ap (eff (decisions w.stories)) fact ∙ r.fact) ∙ ap Some r.arc) in
     (record { some = a.some; most = a.len_fits }, a.lo_fits)
 
 module _ (bounded : ValidScenariosAreBounded) (begin : ValidScenariosBeginWell) (allowed : TakenOrdersAreAllowed) (wishes : TakenWishesAreAllowed) (positions : WishesAreAtPositions) (free : OtherNamesAreFree) where

@@ -12,7 +12,7 @@ use Rattle.sc_words.specs.declared.commands.votes.Vote.TheVariants as Ballot
 use Rattle.sc_group_table.specs.machine.Definitions.{Group, decided, applied, splits_at_once, left_link, left_members, right_members, right_core, left_group, frozen_of, merged_link, merged_succ, merged_route, closing_group, giving_group, taking_group, part_gift, succ_with, migrated_group, past_of, vote_of, watch_vote_of}
 use Rattle.sc_meaning.specs.entries.Definitions.{division_in, division_of}
 use Rattle.sc_meaning.specs.declared.entries.Division.{Division}
-use Rattle.sc_law_entries.specs.ring.Definitions.{vote_in, watch_vote_in, with_answer, Sources, IsVoteCast, IsAllowed, Groups, IsCoordinating, Facts, Story, Stories, put, retold, unsigned, offer_for, new_story, vote_by, with_vote, with_watch_vote, with_decision, with_asked, stories_after}
+use Rattle.sc_law_entries.specs.ring.Definitions.{vote_in, watch_vote_in, with_answer, Sources, IsVoteCast, IsAllowed, Groups, IsCoordinating, Facts, Story, Stories, put, with_story, unsigned, offer_for, new_story, vote_by, with_vote, with_watch_vote, with_decision, with_asked, stories_after}
 use Rattle.sc_law_entries.proofs.RingProofs.Lemmas.{from_at, own_story}
 use Rattle.sc_law_entries.proofs.RingProofs.Rings.{no_division as no_child}
 use Rattle.sc_law_walks.proofs.Lemmas.{MachineWalk, machine_step, EndsIt, ChangesNothing}
@@ -27,9 +27,9 @@ module _ (Were Come : Draw → ℕ → Type 0) (come : (name : Draw) (node : ℕ
   abbrev ToldSo : Story → Type 0
   ToldSo = GivesAllowedOrder Were Come come
 
-  module _ (sources : Sources) (gs : Groups) (ys : Stories) (g : Draw) (s : Group) (facts : Facts sources.owner gs ys) (is : gs g ≡ Some s) (linked : LinkedSo s.core) (all_told : (tx : Draw) (y : Story) → ys tx ≡ Some y → ToldSo y) (now : Good Were g s.core.members) where
+  module _ (sources : Sources) (gs : Groups) (ys : Stories) (g : Draw) (s : Group) (facts : Facts sources.owner gs ys) (fact : gs g ≡ Some s) (linked : LinkedSo s.core) (all_told : (tx : Draw) (y : Story) → ys tx ≡ Some y → ToldSo y) (now : Good Were g s.core.members) where
     named : s.core.id ≡ g
-    named = (facts.group g s is).named
+    named = (facts.group g s fact).named
 
     -- what holds after an entry
     pub record Lands (command : Command) (r : Group × Effect) : Type 0 where
@@ -50,7 +50,7 @@ module _ (Were Come : Draw → ℕ → Type 0) (come : (name : Draw) (node : ℕ
     told_put : (tx : Draw) (y : Story) → ToldSo y → (t : Draw) (z : Story) → put ys tx (Some y) t ≡ Some z → ToldSo z
     told_put tx y k t z e = elim (from_at ys tx (Some y) t (Some z) e) [ inl m ↦ subst ToldSo (same_Some y z m.1) k | inr m ↦ all_told t z m.1 ]
 
-    recorded_next : (tx : Draw) (f : Story → Story) → ((y : Story) → ys tx ≡ Some y → ToldSo y → ToldSo (f y)) → (t : Draw) (z : Story) → retold ys tx f t ≡ Some z → ToldSo z
+    recorded_next : (tx : Draw) (f : Story → Story) → ((y : Story) → ys tx ≡ Some y → ToldSo y → ToldSo (f y)) → (t : Draw) (z : Story) → with_story ys tx f t ≡ Some z → ToldSo z
     recorded_next tx f k t z e = elim (from_at ys tx (option_map f (ys tx)) t (Some z) e) [ inl m ↦ by (ys tx) refl m.1 | inr m ↦ all_told t z m.1 ]
       where
         by : (o : Option Story) → ys tx ≡ o → option_map f o ≡ Some z → ToldSo z
@@ -126,7 +126,7 @@ module _ (Were Come : Draw → ℕ → Type 0) (come : (name : Draw) (node : ℕ
 
     -- where a child is born, it is the one that is named
     child_links : (at : ℕ) (child : Draw) → LinkedSo (right_core s.core at child) → (o : Option Division) → o ≡ Some (record { at = at; child = child }) → (d : Division) → o ≡ Some d → LinkedSo (right_core s.core d.at d.child)
-    child_links at child k o is d e = subst (λ (x : Division). LinkedSo (right_core s.core x.at x.child)) (same_Some (record { at = at; child = child }) d (sym is ∙ e)) k
+    child_links at child k o fact d e = subst (λ (x : Division). LinkedSo (right_core s.core x.at x.child)) (same_Some (record { at = at; child = child }) d (sym fact ∙ e)) k
 
     -- ---- votes
 
@@ -175,10 +175,10 @@ module _ (Were Come : Draw → ℕ → Type 0) (come : (name : Draw) (node : ℕ
     -- it carries out what its participant voted for
     module _ (tx : Draw) (body : Body) (order : ℕ) (lock : s.core.lock ≡ Coordinating tx body order None) (f : Frozen) (cast : IsVoteCast ys tx (Ballot.Yes f)) where
       abbrev own : IsCoordinating ys g s tx body None
-      own = own_story gs ys sources.owner g s tx body order None facts is lock
+      own = own_story gs ys sources.owner g s tx body order None facts fact lock
 
       heard : Good Come f.succ.group f.succ.members × ((offer : Offer) → own.story.offer ≡ Some offer → Good Were offer.part f.members)
-      heard = (all_told tx own.story own.is).voted f (ap (λ (z : Story). z.vote) (same_Some own.story cast.0 (sym own.is ∙ cast.1)) ∙ cast.2)
+      heard = (all_told tx own.story own.fact).voted f (ap (λ (z : Story). z.vote) (same_Some own.story cast.0 (sym own.fact ∙ cast.1)) ∙ cast.2)
 
       part_good : (offer : Offer) → offer_for s.core body ≡ Some offer → Good Were offer.part f.members
       part_good offer e = heard.1 offer (own.offer ∙ e)
@@ -237,8 +237,8 @@ module _ (Were Come : Draw → ℕ → Type 0) (come : (name : Draw) (node : ℕ
             born = child_links at child k.1 (division_in s.core.lock) born;
           });
       merges = λ tx order h lock by may a after births moves. (
-          let own = own_story gs ys sources.owner g s tx At.Merge order (Some h) facts is lock in
-          let behind = ((all_told tx own.story own.is).voted h.frozen (own.heard_vote h refl).0).0 in record {
+          let own = own_story gs ys sources.owner g s tx At.Merge order (Some h) facts fact lock in
+          let behind = ((all_told tx own.story own.fact).voted h.frozen (own.heard_vote h refl).0).0 in record {
             core = record { succ = merged_good h.frozen behind after; gone = linked.gone };
             told = recorded_next tx (with_decision (Some (Merged (merged_route s.core h.frozen)))) (λ y e t. ends_told (Merged (merged_route s.core h.frozen)) (route_good h.frozen behind after) y t);
             born = λ d e. no_child d e;

@@ -72,7 +72,7 @@ module _ (sources : Sources) (bases : List Base) (start : BeginInPlace sources b
       pub more : List LogEntry
       pub are : entries ≡ prefix ++ more
       pub group : Group
-      pub is : groups_then prefix name ≡ Some group
+      pub fact : groups_then prefix name ≡ Some group
       pub lock : group.core.lock ≡ Promised tx offer
       pub told : IsAllowed sources (stories_of bases entries) name (Finish tx (Migrated node))
 
@@ -89,11 +89,11 @@ module _ (sources : Sources) (bases : List Base) (start : BeginInPlace sources b
       same_outcome o a = (let same : a.0 ≡ told.0 = same_Some a.0 told.0 (sym a.1 ∙ told.1) in same_Some o (Migrated node) (sym a.2 ∙ (ap (λ (y : Story). y.outcome) same ∙ told.2)))
 
       walk : (more prefix : List LogEntry) → entries ≡ prefix ++ more → (p : Group) → groups_then prefix name ≡ Some p → p.core.lock ≡ Promised tx offer → Were name node
-      walk [] prefix are p is lock = absurd (free_promised p.core.lock (free p (ap (λ es. groups_then es name) (are ∙ append-nil prefix) ∙ is)) lock)
-      walk (e ∷ more) prefix are p is lock = elim (draw_cases e.group name) [
-        | inr ne ↦ walk more (prefix ++ e ∷ []) (longer prefix e more are) p (other_then prefix e name p ne is) lock
+      walk [] prefix are p fact lock = absurd (free_promised p.core.lock (free p (ap (λ es. groups_then es name) (are ∙ append-nil prefix) ∙ fact)) lock)
+      walk (e ∷ more) prefix are p fact lock = elim (draw_cases e.group name) [
+        | inr ne ↦ walk more (prefix ++ e ∷ []) (longer prefix e more are) p (other_then prefix e name p ne fact) lock
         | inl same ↦ (
-            let now : groups_then (prefix ++ e ∷ []) name ≡ Some (applied p e.command).0 = ap (groups_then (prefix ++ e ∷ [])) (sym same) ∙ own_then prefix e p (ap (groups_then prefix) same ∙ is) in
+            let now : groups_then (prefix ++ e ∷ []) name ≡ Some (applied p e.command).0 = ap (groups_then (prefix ++ e ∷ [])) (sym same) ∙ own_then prefix e p (ap (groups_then prefix) same ∙ fact) in
             elim (stays_or_ends p tx offer lock e.command) [
               | inl stays ↦ walk more (prefix ++ e ∷ []) (longer prefix e more are) (applied p e.command).0 now stays
               | inr end ↦ (
@@ -101,13 +101,13 @@ module _ (sources : Sources) (bases : List Base) (start : BeginInPlace sources b
                   let last = to_end prefix (e ∷ more) are name (Finish tx end.outcome) (subst (IsAllowed sources (at_prefix prefix).stories name) end.by may) in
                   let takes = ap (λ o. participant_after o p offer) (sym (same_outcome end.outcome last)) ∙ end.takes in
                   (were (prefix ++ e ∷ []) more (longer prefix e more are) name (applied p e.command).0 now).1 node
-                  (ap (λ (g : Group). is_member g.core.members node) end.is ∙ takes_node p tx offer lock node end.left takes))
+                  (ap (λ (g : Group). is_member g.core.members node) end.fact ∙ takes_node p tx offer lock node end.left takes))
             ])
       ]
 
     pub moved : (name : Draw) → ((u : Group) → groups_then entries name ≡ Some u → u.core.lock ≡ Free) → (node : ℕ) → Come name node → Were name node
     moved name free node (inl was) = was
-    moved name free node (inr m) = walk name free node m.tx m.offer m.told m.more m.prefix m.are m.group m.is m.lock
+    moved name free node (inr m) = walk name free node m.tx m.offer m.told m.more m.prefix m.are m.group m.fact m.lock
 
     -- ---- one more entry
 
@@ -147,7 +147,7 @@ module _ (sources : Sources) (bases : List Base) (start : BeginInPlace sources b
       here = ap gs named ∙ found
 
       new_child : (d : Division) → division ≡ Some d → gs d.child ≡ None
-      new_child d is = (fits sources (arcs_in (at_prefix prefix).store.ring) gs ys e.group s k.kept found e.command may).births d is
+      new_child d fact = (fits sources (arcs_in (at_prefix prefix).store.ring) gs ys e.group s k.kept found e.command may).births d fact
 
       new_base : (o : Option Division) → ((d : Division) → o ≡ Some d → gs d.child ≡ None) → (base : Base) → option_map (λ (d : Division). child_of s d.at d.child) o ≡ Some base → put gs s.core.id (Some r.0) base.core.id ≡ None
       new_base None fresh base q = absurd (none-some base q)
@@ -162,8 +162,8 @@ module _ (sources : Sources) (bases : List Base) (start : BeginInPlace sources b
           ∙ groups_are s r.0 (birth_of s e.command r.1) (at_prefix prefix).store.groups (applied_same s e.command).0 here (new_base division new_child) h)
 
       child_now : (d : Division) → division ≡ Some d → groups_then (prefix ++ e ∷ []) d.child ≡ Some (group_of (child_of s d.at d.child))
-      child_now d is =
-          names_now d.child ∙ (ap (λ o. with_child (put gs s.core.id (Some r.0)) (option_map (λ (x : Division). child_of s x.at x.child) o) d.child) is
+      child_now d fact =
+          names_now d.child ∙ (ap (λ o. with_child (put gs s.core.id (Some r.0)) (option_map (λ (x : Division). child_of s x.at x.child) o) d.child) fact
           ∙ at-same (put gs s.core.id (Some r.0)) d.child (Some (group_of (child_of s d.at d.child))))
 
       -- who is there
@@ -174,9 +174,9 @@ module _ (sources : Sources) (bases : List Base) (start : BeginInPlace sources b
       put_is h u w = elim (from_at gs s.core.id (Some r.0) h (Some u) w) [ inl m ↦ inl (sym (same_Some r.0 u m.1)) | inr m ↦ inr (inl m.1) ]
 
       who_now : (o : Option Division) → division ≡ o → (h : Draw) (u : Group) → with_child (put gs s.core.id (Some r.0)) (option_map (λ (d : Division). child_of s d.at d.child) o) h ≡ Some u → IsOneOf h u
-      who_now None is h u w = put_is h u w
-      who_now (Some d) is h u w = elim (from_at (put gs s.core.id (Some r.0)) d.child (Some (group_of (child_of s d.at d.child))) h (Some u) w) [
-        | inl m ↦ inr (inr (d, is, same_Some (group_of (child_of s d.at d.child)) u m.1))
+      who_now None fact h u w = put_is h u w
+      who_now (Some d) fact h u w = elim (from_at (put gs s.core.id (Some r.0)) d.child (Some (group_of (child_of s d.at d.child))) h (Some u) w) [
+        | inl m ↦ inr (inr (d, fact, same_Some (group_of (child_of s d.at d.child)) u m.1))
         | inr m ↦ put_is h u m.1
       ]
 
@@ -193,7 +193,7 @@ module _ (sources : Sources) (bases : List Base) (start : BeginInPlace sources b
         offer : Offer
         part : offer.part ≡ s.core.succ.group
         group : Group
-        is : gs offer.part ≡ Some group
+        fact : gs offer.part ≡ Some group
         lock : group.core.lock ≡ Promised tx offer
 
       offer_part : (body : Body) (o : Offer) → offer_for s.core body ≡ Some o → o.part ≡ s.core.succ.group
@@ -207,9 +207,9 @@ module _ (sources : Sources) (bases : List Base) (start : BeginInPlace sources b
         by_vote body order h lock (Ballot.No why) cast w = absurd (no_abort node w)
         by_vote body order h lock (Ballot.Yes f) cast w =
             let own = own_story gs ys sources.owner e.group s tx body order h facts found lock in
-            let y_is : cast.0 ≡ own.story = same_Some cast.0 own.story (sym cast.1 ∙ own.is) in
-            let frozen = (facts.story tx own.story own.is).frozen own.undecided f (ap (λ (y : Story). y.vote) (sym y_is) ∙ cast.2) in
-            record { offer = frozen.offer; part = offer_part body (unsigned frozen.offer) (sym own.offer ∙ frozen.offered); group = frozen.group; is = frozen.is; lock = frozen.lock }
+            let y_is : cast.0 ≡ own.story = same_Some cast.0 own.story (sym cast.1 ∙ own.fact) in
+            let frozen = (facts.story tx own.story own.fact).frozen own.undecided f (ap (λ (y : Story). y.vote) (sym y_is) ∙ cast.2) in
+            record { offer = frozen.offer; part = offer_part body (unsigned frozen.offer) (sym own.offer ∙ frozen.offered); group = frozen.group; fact = frozen.fact; lock = frozen.lock }
 
         has_promised : (vote : Vote) → IsVoteCast ys tx vote → (l : Lock) → s.core.lock ≡ l → (vote_recorded l s tx vote by).1 ≡ Was.Decided (Migrated node) → HasPromised tx
         has_promised vote cast Free lock w = absurd (none_decided node tx w)
@@ -222,9 +222,9 @@ module _ (sources : Sources) (bases : List Base) (start : BeginInPlace sources b
             (λ _ v. absurd (none_decided node tx v)) w
 
       moves_there : (tx : Draw) (vote : Vote) (by node : ℕ) → e.command ≡ RecordVote tx vote by → r.1 ≡ Was.Decided (Migrated node) → Come s.core.succ.group node
-      moves_there tx vote by node is w =
-          let decided : (applied s (RecordVote tx vote by)).1 ≡ Was.Decided (Migrated node) = ap (λ c. (applied s c).1) (sym is) ∙ w in
-          let has = has_promised tx by node vote (subst (IsAllowed sources ys e.group) is may) s.core.lock refl decided in
+      moves_there tx vote by node fact w =
+          let decided : (applied s (RecordVote tx vote by)).1 ≡ Was.Decided (Migrated node) = ap (λ c. (applied s c).1) (sym fact) ∙ w in
+          let has = has_promised tx by node vote (subst (IsAllowed sources ys e.group) fact may) s.core.lock refl decided in
           let there : named_group e.group (world_of bases prefix).groups ≡ Some s = ap (λ (x : StoreWorld). named_group e.group x.groups) (sym (store_after (first_recorded bases) prefix)) ∙ found in
           let makes = (groups_allow_others sources e.group s).votes tx vote by (Migrated node) decided s.core.succ.group in
           inr (record {
@@ -235,10 +235,10 @@ module _ (sources : Sources) (bases : List Base) (start : BeginInPlace sources b
             more = e ∷ more;
             are = are;
             group = has.group;
-            is = ap gs (sym has.part) ∙ has.is;
+            fact = ap gs (sym has.part) ∙ has.fact;
             lock = has.lock;
             told = subst (λ es. IsAllowed sources (stories_of bases es) s.core.succ.group (Finish tx (Migrated node))) (sym are)
-                (allows sources bases start prefix e s there s.core.succ.group (Finish tx (Migrated node)) (subst (λ c. MakesAllowed sources e.group s c s.core.succ.group (Finish tx (Migrated node))) (sym is) makes) more (subst (AreAllowed sources (first_recorded bases)) are all_allowed));
+                (allows sources bases start prefix e s there s.core.succ.group (Finish tx (Migrated node)) (subst (λ c. MakesAllowed sources e.group s c s.core.succ.group (Finish tx (Migrated node))) (sym fact) makes) more (subst (AreAllowed sources (first_recorded bases)) are all_allowed));
           })
 
       module _ (linked : AreLinkedSo gs ys) where
@@ -246,10 +246,10 @@ module _ (sources : Sources) (bases : List Base) (start : BeginInPlace sources b
         landed =
             lands Were Come come sources gs ys e.group s facts found (linked.0 e.group s found) linked.1 (were prefix (e ∷ more) are e.group s found) e.command may
             (were (prefix ++ e ∷ []) more (longer prefix e more are) e.group r.0 (own_then prefix e s found))
-            (λ d is. were (prefix ++ e ∷ []) more (longer prefix e more are) d.child (group_of (child_of s d.at d.child)) (child_now d is)) moves_there
+            (λ d fact. were (prefix ++ e ∷ []) more (longer prefix e more are) d.child (group_of (child_of s d.at d.child)) (child_now d fact)) moves_there
 
         linked_group : (h : Draw) (u : Group) → IsOneOf h u → IsLinkedSo Were Come come u.core
-        linked_group h u (inl is) = subst (λ (g : Group). IsLinkedSo Were Come come g.core) (sym is) landed.core
+        linked_group h u (inl fact) = subst (λ (g : Group). IsLinkedSo Were Come come g.core) (sym fact) landed.core
         linked_group h u (inr (inl was)) = linked.0 h u was
         linked_group h u (inr (inr c)) = subst (λ (g : Group). IsLinkedSo Were Come come g.core) c.2 (landed.born c.0 c.1)
 

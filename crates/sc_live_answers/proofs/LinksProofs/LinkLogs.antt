@@ -22,7 +22,7 @@ use Rattle.sc_law_groups.proofs.WholeProofs.Lemmas.{holds, members_stay_rosters,
 use Rattle.sc_live_answers.specs.Definitions.{WasMember, WereMembers, AreAllFree, LinksWereMembers}
 use Rattle.sc_live_answers.proofs.LinksProofs.LinkOutcomes.{Good, IsLinkedSo}
 use Rattle.sc_live_answers.proofs.LinksProofs.LinkEntries.{groups_then, Come, all_linked, moved}
-use Rattle.sc_live_steps.proofs.OrdersProofs.Lemmas.{right_none}
+use Rattle.sc_live_steps.proofs.OrderStepsProofs.Lemmas.{right_none}
 pub use Rattle.sc_law_groups.proofs.WholeProofs.LineGroups.{of_up_to}
 use Rattle.sc_law_groups.proofs.WholeProofs.LineGroups.{in_up_to, right_in}
 
@@ -30,25 +30,25 @@ use Rattle.sc_law_groups.proofs.WholeProofs.LineGroups.{in_up_to, right_in}
 
 record IsAhead {X : Type 0} (prefix more first rest : List X) : Type 0 where
   mid : List X
-  is : prefix ≡ first ++ mid
+  fact : prefix ≡ first ++ mid
   left : rest ≡ mid ++ more
 
 record IsBehind {X : Type 0} (prefix more first rest : List X) : Type 0 where
   mid : List X
-  is : first ≡ prefix ++ mid
+  fact : first ≡ prefix ++ mid
   left : more ≡ mid ++ rest
 
 head_is : {X : Type 0} (x y : X) (xs ys : List X) → x ∷ xs ≡ y ∷ ys → (x ≡ y) × (xs ≡ ys)
 head_is x y xs ys e = (cc, cc)
 
 two_prefixes : {X : Type 0} (prefix more first rest : List X) → prefix ++ more ≡ first ++ rest → IsAhead prefix more first rest ⊎ IsBehind prefix more first rest
-two_prefixes prefix more [] rest e = inl (record { mid = prefix; is = refl; left = sym e })
-two_prefixes [] more (y ∷ first) rest e = inr (record { mid = y ∷ first; is = refl; left = e })
+two_prefixes prefix more [] rest e = inl (record { mid = prefix; fact = refl; left = sym e })
+two_prefixes [] more (y ∷ first) rest e = inr (record { mid = y ∷ first; fact = refl; left = e })
 two_prefixes (x ∷ prefix) more (y ∷ first) rest e =
     let h = head_is x y (prefix ++ more) (first ++ rest) e in
     elim (two_prefixes prefix more first rest h.1) [
-      | inl a ↦ inl (record { mid = a.mid; is = ap (λ z. z ∷ prefix) h.0 ∙ ap (λ l. y ∷ l) a.is; left = a.left })
-      | inr b ↦ inr (record { mid = b.mid; is = ap (λ z. z ∷ first) (sym h.0) ∙ ap (λ l. x ∷ l) b.is; left = b.left })
+      | inl a ↦ inl (record { mid = a.mid; fact = ap (λ z. z ∷ prefix) h.0 ∙ ap (λ l. y ∷ l) a.fact; left = a.left })
+      | inr b ↦ inr (record { mid = b.mid; fact = ap (λ z. z ∷ first) (sym h.0) ∙ ap (λ l. x ∷ l) b.fact; left = b.left })
     ]
 
 take_prefix : {X : Type 0} (xs ys : List X) → take (length xs) (xs ++ ys) ≡ xs
@@ -94,7 +94,7 @@ module _ (bounded : ValidScenariosAreBounded) (begin : ValidScenariosBeginWell) 
     record IsAfter (base : Base) (u : Group) : Type 0 where
       after : ℕ
       within : after ≤ length (decided_log as_nodes base rows)
-      is : u ≡ state_after (group_of base) (take after (decided_log as_nodes base rows))
+      fact : u ≡ state_after (group_of base) (take after (decided_log as_nodes base rows))
 
     after_prefix : (base : Base) (b : IsBorn scenario.groups entries base (decided_log as_nodes base rows)) (prefix more : List LogEntry) → entries ≡ prefix ++ more → (u : Group) → named_group base.core.id (world_of scenario.groups prefix).groups ≡ Some u → IsAfter base u
     after_prefix base b prefix more are u found_ = elim (two_prefixes prefix more b.first b.rest (sym are ∙ b.are)) [
@@ -102,22 +102,22 @@ module _ (bounded : ValidScenariosAreBounded) (begin : ValidScenariosBeginWell) 
           let log : List Command = log_in base.core.id a.mid in
           let whole : decided_log as_nodes base rows ≡ log ++ log_in base.core.id more = sym b.log_is ∙ (ap (log_in base.core.id) a.left ∙ log_append base.core.id a.mid more) in
           let there : named_group base.core.id (world_of scenario.groups prefix).groups ≡ Some (state_after (group_of base) log) =
-          ap (λ es. named_group base.core.id (world_of scenario.groups es).groups) a.is
+          ap (λ es. named_group base.core.id (world_of scenario.groups es).groups) a.fact
           ∙ (ap (λ (w : StoreWorld). named_group base.core.id w.groups) (world_append (first_world scenario.groups) b.first a.mid) ∙ logs_make_states (world_of scenario.groups b.first) base.core.id (group_of base) b.there a.mid) in
           let len = ap length whole in
           let both = length-append log (log_in base.core.id more) in
           record {
             after = length log;
             within = omega (arith, len, both);
-            is = same_Some u (state_after (group_of base) log) (sym found_ ∙ there) ∙ ap (state_after (group_of base)) (sym (ap (take (length log)) whole ∙ take_prefix log (log_in base.core.id more)));
+            fact = same_Some u (state_after (group_of base) log) (sym found_ ∙ there) ∙ ap (state_after (group_of base)) (sym (ap (take (length log)) whole ∙ take_prefix log (log_in base.core.id more)));
           })
       | inr h ↦ (
-          let none : log_in base.core.id h.mid ≡ [] = right_none (log_in base.core.id prefix) (log_in base.core.id h.mid) (sym (log_append base.core.id prefix h.mid) ∙ (ap (log_in base.core.id) (sym h.is) ∙ b.silent)) in
+          let none : log_in base.core.id h.mid ≡ [] = right_none (log_in base.core.id prefix) (log_in base.core.id h.mid) (sym (log_append base.core.id prefix h.mid) ∙ (ap (log_in base.core.id) (sym h.fact) ∙ b.silent)) in
           let there : named_group base.core.id (world_of scenario.groups b.first).groups ≡ Some u =
-          ap (λ es. named_group base.core.id (world_of scenario.groups es).groups) h.is
+          ap (λ es. named_group base.core.id (world_of scenario.groups es).groups) h.fact
           ∙ (ap (λ (w : StoreWorld). named_group base.core.id w.groups) (world_append (first_world scenario.groups) prefix h.mid)
           ∙ (logs_make_states (world_of scenario.groups prefix) base.core.id u found_ h.mid ∙ ap (λ cs. Some (state_after u cs)) none)) in
-          record { after = 0; within = omega arith; is = same_Some u (group_of base) (sym there ∙ b.there) })
+          record { after = 0; within = omega arith; fact = same_Some u (group_of base) (sym there ∙ b.there) })
     ]
 
     were : (prefix more : List LogEntry) → entries ≡ prefix ++ more → (name : Draw) (u : Group) → groups_then sources scenario.groups well.place entries told.allowed prefix name ≡ Some u → Good Were name u.core.members
@@ -129,8 +129,8 @@ module _ (bounded : ValidScenariosAreBounded) (begin : ValidScenariosBeginWell) 
         let who = told.who name last.0 whole in
         let a = after_prefix who.0 (told.born who.0 who.1) prefix more are u (ap (λ n. named_group n (world_of scenario.groups prefix).groups) who.2 ∙ there) in
         let roster = members_stay_rosters (group_of who.0) (take a.after (decided_log as_nodes who.0 rows)) (roster_of who.0 (found.all who.0 who.1)) in (
-          subst (λ (g : Group). 1 ≤ length g.core.members) (sym a.is) roster.some,
-          λ node m. record { base = who.0; among = found.all who.0 who.1; named = who.2; after = a.after; within = a.within; member = ap (λ (g : Group). is_member g.core.members node) (sym a.is) ∙ m },
+          subst (λ (g : Group). 1 ≤ length g.core.members) (sym a.fact) roster.some,
+          λ node m. record { base = who.0; among = found.all who.0 who.1; named = who.2; after = a.after; within = a.within; member = ap (λ (g : Group). is_member g.core.members node) (sym a.fact) ∙ m },
         )
 
     begins : (base : Base) → Among base scenario.groups → Good Were base.core.succ.group base.core.succ.members

@@ -36,11 +36,11 @@ any_filter p q (x ∷ xs) = cond_both (q x) (x ∷ filter q xs) (filter q xs) (�
 with_any_member : (nodes : List ℕ) (node who : ℕ) → is_member (united nodes (node ∷ [])) who ≡ true → (is_member nodes who ≡ true) ⊎ (who ≡ node)
 with_any_member nodes node who = cond_both (is_member nodes node) nodes (with_member nodes node) (λ l. is_member l who ≡ true → (is_member nodes who ≡ true) ⊎ (who ≡ node))
     (λ _ e. inl e)
-    (λ _ e. (let is = λ (m : ℕ). eqb m who in
-    let parts = sym (any_append is (filter (λ m. nat_lt m node) nodes) (node ∷ filter (λ m. nat_lt node m) nodes)) ∙ e in
-    elim (or_true (list_any is (filter (λ m. nat_lt m node) nodes)) (eqb node who || list_any is (filter (λ m. nat_lt node m) nodes)) parts) [
-      | inl low ↦ inl (any_filter is (λ m. nat_lt m node) nodes low)
-      | inr more ↦ elim (or_true (eqb node who) (list_any is (filter (λ m. nat_lt node m) nodes)) more) [ inl same ↦ inr (sym (eqb-true node who same)) | inr high ↦ inl (any_filter is (λ m. nat_lt node m) nodes high) ]
+    (λ _ e. (let fact = λ (m : ℕ). eqb m who in
+    let parts = sym (any_append fact (filter (λ m. nat_lt m node) nodes) (node ∷ filter (λ m. nat_lt node m) nodes)) ∙ e in
+    elim (or_true (list_any fact (filter (λ m. nat_lt m node) nodes)) (eqb node who || list_any fact (filter (λ m. nat_lt node m) nodes)) parts) [
+      | inl low ↦ inl (any_filter fact (λ m. nat_lt m node) nodes low)
+      | inr more ↦ elim (or_true (eqb node who) (list_any fact (filter (λ m. nat_lt node m) nodes)) more) [ inl same ↦ inr (sym (eqb-true node who same)) | inr high ↦ inl (any_filter fact (λ m. nat_lt node m) nodes high) ]
     ]))
 
 any_appended : (p : ℕ → Bool) (xs ys : List ℕ) → list_any p ys ≡ true → list_any p (xs ++ ys) ≡ true
@@ -71,7 +71,7 @@ module _ (Were Come : Draw → ℕ → Type 0) (come : (name : Draw) (node : ℕ
   pub more_good : (name : Draw) (nodes : List ℕ) (node : ℕ) → Good Come name nodes → Come name node → Good Come name (united nodes (node ∷ []))
   more_good name nodes node g c = (
     (let up = grows nodes (node ∷ []) in let low = g.0 in omega (arith, up, low)),
-    λ who m. elim (with_any_member nodes node who m) [ inl was ↦ g.1 who was | inr is ↦ subst (Come name) (sym is) c ],
+    λ who m. elim (with_any_member nodes node who m) [ inl was ↦ g.1 who was | inr fact ↦ subst (Come name) (sym fact) c ],
   )
 
   module _ (sources : Sources) (ys : Stories) (g : Draw) (s : Group) (linked : IsLinkedSo s.core) (all_told : (tx : Draw) (y : Story) → ys tx ≡ Some y → GivesAllowedOrder y) where

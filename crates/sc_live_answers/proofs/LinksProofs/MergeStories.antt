@@ -15,7 +15,7 @@ use Rattle.sc_group_table.specs.machine.Definitions.{Group, applied, begin_refus
 use Rattle.sc_law_entries.specs.ring.Definitions.{AreAllowed, IsAllowed, Sources, StoryWorld, first_recorded, recorded_stories, recorded_after, recorded_next, Groups, IsCoordinating, LockOk, BeginInPlace, stories_of, Stories, Story, new_story, put, stories_after, vote_in, watch_vote_in, with_answer, with_asked, with_decision, with_vote, with_watch_vote}
 use Rattle.sc_law_entries.proofs.RingProofs.Lemmas.{arcs_in, at_start, Kept, groups_in, Ring, KeptWorld, kept_on}
 use Rattle.sc_law_groups.proofs.WholeProofs.Lemmas.{comes, dull_same}
-use Rattle.sc_law_groups.proofs.WholeProofs.Fitting.{put_so, retold_so}
+use Rattle.sc_law_groups.proofs.WholeProofs.Fitting.{put_so, with_story_so}
 use Rattle.sc_live_answers.proofs.LinksProofs.FittingGroups.{none_of}
 use Rattle.sc_law_walks.proofs.Lemmas.{MachineWalk, machine_step, EndsIt, ChangesNothing}
 
@@ -91,18 +91,18 @@ begins_apart : (s : Group) (tx : Draw) (body : Body) (order : ℕ) → is_change
 begins_apart s tx body order changed same =
     comes s (λ d x. d ≡ Begin tx body order → is_changed x.1 ≡ true → ⊥)
     (record {
-      same = λ d effect dull is e. dull_same effect dull e;
-      served = λ client seq op after effect core is e. cc;
-      joined = λ node order_ is e. cc;
-      left = λ node order_ is e. cc;
-      parted = λ at child order_ free is e. cc;
-      split = λ at child order_ free is e. cc;
-      begun = λ t b o may is e. (let one : b ≡ body = cc in true≢false (sym (same_name s.core.succ.group s.core.id same) ∙ (none_of (is_alone s.core) _ _ (free_refused (locked_in s.core.lock) s.core t b o may)).0));
-      offered = λ t offer new is e. cc;
-      asked = λ t watch new is e. cc;
-      heard = λ t order_ got lock frozen from is e. cc;
-      ended = λ d t ends free after outcome r is e. cc;
-      finished = λ t binds after outcome r is e. cc;
+      same = λ d effect dull fact e. dull_same effect dull e;
+      served = λ client seq op after effect core fact e. cc;
+      joined = λ node order_ fact e. cc;
+      left = λ node order_ fact e. cc;
+      parted = λ at child order_ free fact e. cc;
+      split = λ at child order_ free fact e. cc;
+      begun = λ t b o may fact e. (let one : b ≡ body = cc in true≢false (sym (same_name s.core.succ.group s.core.id same) ∙ (none_of (is_alone s.core) _ _ (free_refused (locked_in s.core.lock) s.core t b o may)).0));
+      offered = λ t offer new fact e. cc;
+      asked = λ t watch new fact e. cc;
+      heard = λ t order_ got lock frozen from fact e. cc;
+      ended = λ d t ends free after outcome r fact e. cc;
+      finished = λ t binds after outcome r fact e. cc;
     }) (Begin tx body order) refl changed
 
 -- ---- stories
@@ -136,7 +136,7 @@ module _ (owner : Draw → Option Draw) where
 
   -- one that begins
   new_home : (o : Option Draw) (s : Group) (body : Body) → o ≡ Some s.core.id → (s.core.succ.group ≡ s.core.id → ⊥) → IsHomeStory o (new_story s body)
-  new_home o s body is apart = record { drawn = is; apart = asked body; home = λ into e. no_outcome (Is.Merged into) _ e }
+  new_home o s body fact apart = record { drawn = fact; apart = asked body; home = λ into e. no_outcome (Is.Merged into) _ e }
     where
       asked : (b : Body) (offer : Offer) → (new_story s b).offer ≡ Some offer → offer.part ≡ s.core.id → ⊥
       asked At.Merge offer e same = apart (ap (λ (x : Offer). x.part) (same_Some _ offer e) ∙ same)
@@ -146,20 +146,20 @@ module _ (owner : Draw → Option Draw) where
 
   -- a split asks none
   split_home : (o : Option Draw) (s : Group) (at : ℕ) (child : Draw) → o ≡ Some s.core.id → IsHomeStory o (new_story s (At.Split at child))
-  split_home o s at child is = record { drawn = is; apart = λ offer e same. (let bad : None ≡ Some offer = e in cc); home = λ into e. no_outcome (Is.Merged into) _ e }
+  split_home o s at child fact = record { drawn = fact; apart = λ offer e same. (let bad : None ≡ Some offer = e in cc); home = λ into e. no_outcome (Is.Merged into) _ e }
 
 -- ---- entries
 
-module _ (sources : Sources) (ring : Ring) (gs : Groups) (ys : Stories) (g : Draw) (s : Group) (k : Kept sources.owner ring gs ys) (is : gs g ≡ Some s) (old : AllHome sources.owner ys) where
+module _ (sources : Sources) (ring : Ring) (gs : Groups) (ys : Stories) (g : Draw) (s : Group) (k : Kept sources.owner ring gs ys) (fact : gs g ≡ Some s) (old : AllHome sources.owner ys) where
   named : s.core.id ≡ g
-  named = (k.0.group g s is).named
+  named = (k.0.group g s fact).named
 
   -- who decides is the coordinator
   decider : (tx : Draw) (y : Story) → ys tx ≡ Some y → (r : Group × Effect) → Leads s tx r → (into : Route) → decided_in r.1 ≡ Some (Is.Merged into) → into.group ≡ y.coordinator
   decider tx y e r leads into d =
       let l = leads into d in
-      let own : IsCoordinating ys g s tx l.1 l.3 = subst (LockOk ys g s) l.4 (k.0.group g s is).lock_ok in
-      l.0 ∙ (named ∙ (sym own.coordinator ∙ ap (λ (z : Story). z.coordinator) (same_Some own.story y (sym own.is ∙ e))))
+      let own : IsCoordinating ys g s tx l.1 l.3 = subst (LockOk ys g s) l.4 (k.0.group g s fact).lock_ok in
+      l.0 ∙ (named ∙ (sym own.coordinator ∙ ap (λ (z : Story). z.coordinator) (same_Some own.story y (sym own.fact ∙ e))))
 
   answer_home : (tx : Draw) (vote : Vote) (by : ℕ) (y : Story) → ys tx ≡ Some y → IsHomeStory (sources.owner tx) (with_answer s.core vote (applied s (RecordVote tx vote by)).1 y)
   answer_home tx vote by y e =
@@ -188,12 +188,12 @@ module _ (sources : Sources) (ring : Ring) (gs : Groups) (ys : Stories) (g : Dra
   entry_home (Finish tx outcome) a = old
   entry_home (Split at child order) a = split_so at child order a.0
   entry_home (Begin tx body order) a = begun_home tx body order a.0
-  entry_home (Prepared tx offer) a = retold_so (λ n. IsHomeStory (sources.owner n)) ys tx _ (λ y e. voted_home sources.owner (sources.owner tx) (vote_in s (applied s (Prepared tx offer)).1) y (old tx y e)) old
-  entry_home (Watched tx watch) a = retold_so (λ n. IsHomeStory (sources.owner n)) ys tx _ (λ y e. watch_home sources.owner (sources.owner tx) (watch_vote_in (applied s (Watched tx watch)).1) y (old tx y e)) old
-  entry_home (RecordVote tx vote by) a = retold_so (λ n. IsHomeStory (sources.owner n)) ys tx _ (answer_home tx vote by) old
-  entry_home (RecordWatch tx vote by) a = retold_so (λ n. IsHomeStory (sources.owner n)) ys tx _
+  entry_home (Prepared tx offer) a = with_story_so (λ n. IsHomeStory (sources.owner n)) ys tx _ (λ y e. voted_home sources.owner (sources.owner tx) (vote_in s (applied s (Prepared tx offer)).1) y (old tx y e)) old
+  entry_home (Watched tx watch) a = with_story_so (λ n. IsHomeStory (sources.owner n)) ys tx _ (λ y e. watch_home sources.owner (sources.owner tx) (watch_vote_in (applied s (Watched tx watch)).1) y (old tx y e)) old
+  entry_home (RecordVote tx vote by) a = with_story_so (λ n. IsHomeStory (sources.owner n)) ys tx _ (answer_home tx vote by) old
+  entry_home (RecordWatch tx vote by) a = with_story_so (λ n. IsHomeStory (sources.owner n)) ys tx _
       (λ y e. decided_home sources.owner (sources.owner tx) (decided_in (applied s (RecordWatch tx vote by)).1) y (old tx y e) (decider tx y e (applied s (RecordWatch tx vote by)) (leads_so s (RecordWatch tx vote by) tx refl))) old
-  entry_home (GiveUp tx) a = retold_so (λ n. IsHomeStory (sources.owner n)) ys tx _
+  entry_home (GiveUp tx) a = with_story_so (λ n. IsHomeStory (sources.owner n)) ys tx _
       (λ y e. decided_home sources.owner (sources.owner tx) (decided_in (applied s (GiveUp tx)).1) y (old tx y e) (decider tx y e (applied s (GiveUp tx)) (leads_so s (GiveUp tx) tx refl))) old
 
 -- ---- all entries
@@ -202,8 +202,8 @@ told_home : (sources : Sources) (w : StoryWorld) (e : LogEntry) → KeptWorld so
 told_home sources w e k a old = by (named_group e.group w.store.groups) refl
   where
     by : (o : Option Group) → named_group e.group w.store.groups ≡ o → AllHome sources.owner (recorded_stories w.stories o e.command)
-    by None is = old
-    by (Some s) is = entry_home sources (arcs_in w.store.ring) (groups_in w.store.groups) w.stories e.group s k.kept is old e.command a
+    by None fact = old
+    by (Some s) fact = entry_home sources (arcs_in w.store.ring) (groups_in w.store.groups) w.stories e.group s k.kept fact old e.command a
 
 all_home : (sources : Sources) (w : StoryWorld) (list : List LogEntry) → KeptWorld sources.owner w → AreAllowed sources w list → AllHome sources.owner w.stories → AllHome sources.owner (recorded_after w list).stories
 all_home sources w [] k a old = old

@@ -23,7 +23,7 @@ record Without {X : Type 0} (x : X) (xs : List X) : Type 0 where
 
 without : {X : Type 0} (x : X) (xs : List X) → Among x xs → Without x xs
 without x [] a = absurd a
-without x (y ∷ xs) (inl same) = record { left = xs; size = refl; others = λ z b. elim b [ inl e ↦ inl (let is : z ≡ x = cc in is) | inr there ↦ inr there ] }
+without x (y ∷ xs) (inl same) = record { left = xs; size = refl; others = λ z b. elim b [ inl e ↦ inl (let fact : z ≡ x = cc in fact) | inr there ↦ inr there ] }
 without x (y ∷ xs) (inr there) =
     let w = without x xs there in
     record { left = y ∷ w.left; size = ap suc w.size; others = λ z b. elim b [ inl e ↦ inr (inl e) | inr more ↦ elim (w.others z more) [ inl e ↦ inl e | inr left ↦ inr (inr left) ] ] }
@@ -81,8 +81,8 @@ module _ {X : Type 0} (R : X → X → Type 0) (all : List X) (same : X → X �
           | inl begin ↦ is_apart y first other (sym e ∙ begin)
           | inr p ↦ (
               let there = Each-among (λ (w : X). Among w all) seen p.0 before.among.1 p.1 in
-              let is = back p.0 x y there before.among.0 here (subst (λ w. R p.0 w) e p.2) next in
-              Each-among (λ (w : X). w ≡ x → ⊥) seen p.0 before.distinct.0 p.1 is)
+              let fact = back p.0 x y there before.among.0 here (subst (λ w. R p.0 w) e p.2) next in
+              Each-among (λ (w : X). w ≡ x → ⊥) seen p.0 before.distinct.0 p.1 fact)
         ],
         none ys led.1 among.1,
       )
@@ -96,7 +96,7 @@ module _ {X : Type 0} (R : X → X → Type 0) (all : List X) (same : X → X �
   goes (suc fuel) seen x before many =
       let next = step x before.among.0 in
       elim (cases_Bool (same next.0 first)) [
-        | inl is ↦ record { rest = []; chain = tt; closes = subst (λ y. R x y) (is_same next.0 first next.1 begins is) next.2; among = tt; none = tt; distinct = tt }
+        | inl fact ↦ record { rest = []; chain = tt; closes = subst (λ y. R x y) (is_same next.0 first next.1 begins fact) next.2; among = tt; none = tt; distinct = tt }
         | inr other ↦ (
             let new = fresh seen x next.0 before next.1 next.2 other in
             let more = goes fuel (x ∷ seen) next.0 (record { among = (next.1, before.among); distinct = (new, before.distinct); led = (inr (x, inl refl, next.2), led_more seen x (x ∷ seen) before.led) }) (omega (arith, many)) in

@@ -8,8 +8,8 @@ use Rattle.sc_words.specs.paxos.Definitions.{flight_at}
 use Rattle.sc_words.proofs.PaxosProofs.Lemmas.{find_found}
 use Rattle.sc_node_table.specs.Definitions.{is_act, ReplicaState, listed, at_slot}
 use Rattle.sc_live_steps.specs.orders.Definitions.{work_by, works_in, works_flying, works_ready, works, Work}
-use Rattle.sc_live_steps.proofs.OrdersProofs.Lemmas.{among-left, among-right}
-use Rattle.sc_live_answers.proofs.GroupsProofs.JoiningMembers.{HasAct}
+use Rattle.sc_live_steps.proofs.OrderStepsProofs.Lemmas.{among-left, among-right}
+use Rattle.sc_live_answers.proofs.LedGroupsProofs.JoiningMembers.{HasAct}
 
 abbrev IsWork : Command → Type 0
 IsWork command = (work : Work) × (work_by command ≡ Some work)
@@ -24,7 +24,7 @@ listed_among work None e = cc
 listed_among work (Some other) e = inl cc
 
 flight_among : (work : Work) (flights : List (Flight Command)) (flight : Flight Command) → Among flight flights → work_by flight.value ≡ Some work → Among work (works_flying flights)
-flight_among work [] flight is e = absurd is
+flight_among work [] flight fact e = absurd fact
 flight_among work (first ∷ flights) flight (inl same) e = among-left work (listed (work_by first.value)) (works_flying flights) (listed_among work (work_by first.value) (ap (λ (f : Flight Command). work_by f.value) same ∙ e))
 flight_among work (first ∷ flights) flight (inr more) e = among-right work (listed (work_by first.value)) (works_flying flights) (flight_among work flights flight more e)
 
@@ -36,11 +36,11 @@ flies command None e = cc
 flies command (Some flight) e = (flight, refl, cc)
 
 ready_among : (work : Work) (command : Command) (slot : ℕ) (ready : List (ℕ × Command)) → at_slot ready slot ≡ Some command → work_by command ≡ Some work → Among work (works_ready ready)
-ready_among work command slot [] e is = cc
-ready_among work command slot (entry ∷ ready) e is = elim (cases_Bool (eqb entry.0 slot)) [
+ready_among work command slot [] e fact = cc
+ready_among work command slot (entry ∷ ready) e fact = elim (cases_Bool (eqb entry.0 slot)) [
   | inl t ↦ (let some : Some entry.1 ≡ Some command = sym (cond-true (eqb entry.0 slot) (Some entry.1) (at_slot ready slot) t) ∙ e in let same : entry.1 ≡ command = cc in
-      among-left work (listed (work_by entry.1)) (works_ready ready) (listed_among work (work_by entry.1) (ap work_by same ∙ is)))
-  | inr f ↦ among-right work (listed (work_by entry.1)) (works_ready ready) (ready_among work command slot ready (sym (cond-false (eqb entry.0 slot) (Some entry.1) (at_slot ready slot) f) ∙ e) is)
+      among-left work (listed (work_by entry.1)) (works_ready ready) (listed_among work (work_by entry.1) (ap work_by same ∙ fact)))
+  | inr f ↦ among-right work (listed (work_by entry.1)) (works_ready ready) (ready_among work command slot ready (sym (cond-false (eqb entry.0 slot) (Some entry.1) (at_slot ready slot) f) ∙ e) fact)
 ]
 
 -- an act is work

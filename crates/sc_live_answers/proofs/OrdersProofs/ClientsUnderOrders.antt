@@ -20,10 +20,10 @@ pub started_still : (rows : Rows) (row : Row Mail OrderLine) (who : ℕ) → is_
 started_still [] row who e = ap (λ b. (eqb row.who who && b) || false) e ∙ off (eqb row.who who)
 started_still (r ∷ rows) row who e = ap (λ b. (eqb r.who who && is_go r.event) || b) (started_still rows row who e)
 
-module _ (births : List (Seat Player)) (rows : Rows) (seat other : Seat Player) (born : IsSeat births seat) (is : IsSeat births other) where
+module _ (births : List (Seat Player)) (rows : Rows) (seat other : Seat Player) (born : IsSeat births seat) (fact : IsSeat births other) where
   -- one number has one seat
   same_seat : other.who ≡ seat.who → other ≡ seat
-  same_seat e = (let both : Some other ≡ Some seat = sym is ∙ (ap (λ who. find (λ (o : Seat Player). eqb o.who who) births) e ∙ born) in cc)
+  same_seat e = (let both : Some other ≡ Some seat = sym fact ∙ (ap (λ who. find (λ (o : Seat Player). eqb o.who who) births) e ∙ born) in cc)
 
   -- a client stays as it is where another acts
   pub other_stays : (event : Event OrderLine) (client : ClientState) → (value player_table seat rows ≡ Client client → ⊥) → value player_table other rows ≡ Client client → value player_table other (with_event rows seat event) ≡ Client client

@@ -6,7 +6,7 @@ use Rattle.sc_law_entries.proofs.NamesProofs.Lemmas.{orders_are_allowed_allowed,
 use Rattle.sc_live_answers.specs.Definitions.{MergesEndAtOwner, EndingGroupsBegin, EndingGroupsGoOn, OneGroupEnds, GroupsEndInTurn}
 use Rattle.sc_live_answers.proofs.OrdersProofs.EndingGroupsAtStart.{ending_groups_begin as ending_groups_begin_by}
 use Rattle.sc_live_answers.proofs.QuietProofs.QuietPrefixLaws.{prefixes_are_found, still_prefixes_are_free, prefixes_go_in_turn}
-use Rattle.sc_live_answers.proofs.GroupsProofs.LedGroupLaws.{ends_are_logged, replicas_run_logs, groups_begin_standing}
+use Rattle.sc_live_answers.proofs.LedGroupsProofs.LedGroupLaws.{ends_are_logged, replicas_run_logs, groups_begin_standing}
 use Rattle.sc_live_answers.proofs.OrdersProofs.EndingGroupsAfterDeliveries.{ending_groups_go_on as ending_groups_go_on_by}
 use Rattle.sc_live_answers.proofs.OrdersProofs.OrderFactLaws.{replicas_are_recorded}
 use Rattle.sc_live_answers.proofs.OrdersProofs.EndingGroups.{one_group_ends_by, groups_end_in_turn_by}

@@ -12,7 +12,7 @@ use Rattle.sc_live_journals.specs.logs.Definitions.{IsGroupOf}
 use Rattle.sc_live_steps.specs.orders.Definitions.{Stage}
 use Rattle.sc_live_plain.specs.Definitions.{replicas_after}
 use Rattle.sc_live_answers.specs.Definitions.{OneGroupEnds, GroupsEndInTurn, HasMerged, IsGoingSince, WasGone, IsCalmJournal, IsPrefixOf, StillPrefixesAreFree, PrefixesAreFound, IsFoundPrefix, IsQuietPrefix, PrefixesGoInTurn, OnlyOneEnds, MergesEndAtOwner}
-use Rattle.sc_live_answers.proofs.GroupsProofs.GuidedGroups.{named_there}
+use Rattle.sc_live_answers.proofs.LedGroupsProofs.GuidedGroups.{named_there}
 
 -- the participant of a story, if it has one
 abbrev asked_by : Option Offer → Draw → Draw
@@ -50,14 +50,14 @@ module _ (home : MergesEndAtOwner) (found_law : PrefixesAreFound) (words : ℕ �
     where
       stood : (node : ℕ) (r : ReplicaState) (into : Route) → ((who : ℕ) (s : ReplicaState) → replicas_after scenario quiet ending_group who ≡ Some s → s.group.core.gone ≡ None) → replicas_after scenario rows ending_group node ≡ Some r → r.group.core.gone ≡ Some into
           → (who : ℕ) (s : ReplicaState) → replicas_after scenario rows into.group who ≡ Some s → (o : Option Route) → s.group.core.gone ≡ o → s.group.core.gone ≡ None
-      stood node r into none e gone who s f None is = is
-      stood node r into none e gone who s f (Some route) is = elim (went ending_group node r into e gone) [
+      stood node r into none e gone who s f None fact = fact
+      stood node r into none e gone who s f (Some route) fact = elim (went ending_group node r into e gone) [
         | inl was ↦ absurd (none-some was.into (sym (none was.who was.replica was.was) ∙ was.gone))
         | inr merged ↦ (
             let named = named_there found_law words scenario journal rows calm prefix ending_group (node, r, sym (found.views ending_group node) ∙ e) in
             let group : IsGroupOf as_nodes words scenario journal named.0 = record { open_slots = refl; valid = calm.valid; lawful = calm.lawful; stands = named.1 } in
             let into_is = home words scenario journal named.0 group g.tx ending_group ending_group merged.offer into merged.offered merged.ended in
-            elim (went into.group who s route f is) [
+            elim (went into.group who s route f fact) [
               | inl was ↦ absurd (none-some was.into (sym (merged.stood into.group into_is.0 was.who was.replica was.was) ∙ was.gone))
               | inr again ↦ absurd (into_is.1 (sym (is_goer into.group route again)))
             ])

@@ -22,9 +22,9 @@ use Rattle.sc_live_answers.specs.Definitions.{Executed, HasDone, HasStepped, Res
 use Rattle.sc_live_answers.proofs.OrdersProofs.OrderDeliveries.{there_or}
 use Rattle.sc_live_answers.proofs.WorkProofs.LeaderDeeds.{lead_runs_so, lead_works, one_not_none, same_one}
 use Rattle.sc_live_answers.proofs.RestProofs.LeaderWork.{IsWorkAt, OfOrder, OfOutcome, OfQuestion, OfVote, at_stage, was_there}
-use Rattle.sc_live_answers.proofs.GroupsProofs.MergedGroups.{IsMergedBy, goes_by}
+use Rattle.sc_live_answers.proofs.LedGroupsProofs.MergedGroups.{IsMergedBy, goes_by}
 use Rattle.sc_live_answers.proofs.BallotsProofs.NewestReplicas.{no_further}
-use Rattle.sc_live_answers.proofs.GroupsProofs.GuidedGroups.{named_there}
+use Rattle.sc_live_answers.proofs.LedGroupsProofs.GuidedGroups.{named_there}
 use Rattle.sc_live_answers.proofs.WorkProofs.PartiesSinceQuiet.{base_of, flights_at, led_first, locks_at}
 use Rattle.sc_live_answers.proofs.WorkProofs.LeaderDeliveries.{Comes, goes_on}
 use Rattle.sc_live_answers.proofs.OrdersProofs.OrderFactsAfterDeliveries.{step_tx}
@@ -144,17 +144,17 @@ module _ (tells : ReplicasAreRecorded) (found_law : PrefixesAreFound) (logs_law 
   more = row_of player_table seat rows (Deliver number) ∷ g.goes.prefix.more
 
   before_is : journal ≡ rows ++ more
-  before_is = g.goes.prefix.is ∙ append_assoc rows (row_of player_table seat rows (Deliver number) ∷ []) g.goes.prefix.more
+  before_is = g.goes.prefix.fact ∙ append_assoc rows (row_of player_table seat rows (Deliver number) ∷ []) g.goes.prefix.more
 
   -- a replica's state is the log's
   module _ (base : Base) (group : IsGroupOf as_nodes words scenario journal base) where
     state_is : (xs rest : Rows) → journal ≡ xs ++ rest → (who : ℕ) (r : ReplicaState) → view_at (births as_nodes scenario) xs base.core.id who ≡ Some r → r.group ≡ state_at as_nodes base journal (next r)
-    state_is xs rest is who r e =
-        let v = views_are_replicas as_nodes words scenario journal base group xs rest is who r e in
+    state_is xs rest fact who r e =
+        let v = views_are_replicas as_nodes words scenario journal base group xs rest fact who r e in
         (logs_law as_nodes words scenario journal base group xs v.0 v.1 r v.2).1
 
     over_is : (xs rest : Rows) → journal ≡ xs ++ rest → (who : ℕ) (r : ReplicaState) (into : Route) → view_at (births as_nodes scenario) xs base.core.id who ≡ Some r → r.group.core.gone ≡ Some into → over_at as_nodes base journal (next r) ≡ true
-    over_is xs rest is who r into e gone = ap (λ (x : Group). is_some x.core.gone) (sym (state_is xs rest is who r e)) ∙ ap is_some gone
+    over_is xs rest fact who r into e gone = ap (λ (x : Group). is_some x.core.gone) (sym (state_is xs rest fact who r e)) ∙ ap is_some gone
 
   -- ---- the group that begins a transaction
 
@@ -170,9 +170,9 @@ module _ (tells : ReplicasAreRecorded) (found_law : PrefixesAreFound) (logs_law 
       by (Some into) gone =
           let b = base_of tells words scenario first journal quiet rows more before_is g.calm g.rests g.seen name (who, r, view who r e) in
           let at : (node : ℕ) (x : ReplicaState) → replicas_after scenario quiet name node ≡ Some x → view_at (births as_nodes scenario) quiet b.0.core.id node ≡ Some x = λ node x h. ap (λ n. view_at (births as_nodes scenario) quiet n node) b.2 ∙ view node x h in
-          let over = over_is b.0 b.1 quiet g.rests.prefix.more g.rests.prefix.is who r into (at who r e) gone in
+          let over = over_is b.0 b.1 quiet g.rests.prefix.more g.rests.prefix.fact who r into (at who r e) gone in
           let last = ends_law.stays as_nodes b.0 journal (next r) (next s.lead) (s.newest.most who r e) over in
-          let stands : over_at as_nodes b.0 journal (next s.lead) ≡ false = ap (λ (x : Group). is_some x.core.gone) (sym (state_is b.0 b.1 quiet g.rests.prefix.more g.rests.prefix.is s.lead.me s.lead (at s.lead.me s.lead s.newest.is_there))) ∙ ap is_some s.stands in
+          let stands : over_at as_nodes b.0 journal (next s.lead) ≡ false = ap (λ (x : Group). is_some x.core.gone) (sym (state_is b.0 b.1 quiet g.rests.prefix.more g.rests.prefix.fact s.lead.me s.lead (at s.lead.me s.lead s.newest.is_there))) ∙ ap is_some s.stands in
           absurd (true≢false (sym last ∙ stands))
 
   module _ (group : Draw) (deal : Deal) (to : ℕ) (was : stage ≡ Ordered group deal.chief (Opens deal.tx)) (coord : deal.coord ≡ group) (stands : IsAt (Asks deal to) (scene_at (births as_nodes scenario) (with_event rows seat (Deliver number)))) where
@@ -183,10 +183,10 @@ module _ (tells : ReplicasAreRecorded) (found_law : PrefixesAreFound) (logs_law 
     d = (subst (λ x. Each (HasDone all quiet rows) (doers_of x)) was g.true_since.done).0
 
     to_ : Comes words (births as_nodes scenario) rows seat number g.goes.seated g.goes.timely g.finds (stage, g.untouched.stands) group deal.chief d.now
-    to_ = goes_on words all rows seat number g.goes.seated g.goes.timely g.finds (stage, g.untouched.stands) group d.now (lead_runs_so all rows group deal.chief d.now at.leads.0 d.is) deal.chief d.is
+    to_ = goes_on words all rows seat number g.goes.seated g.goes.timely g.finds (stage, g.untouched.stands) group d.now (lead_runs_so all rows group deal.chief d.now at.leads.0 d.fact) deal.chief d.fact
 
     had : works d.now ≡ Opens deal.tx ∷ []
-    had = lead_works all rows group deal.chief d.now at.leads.0 d.is ∙ ap (λ (h : Here). h.work) at.parties.0.0
+    had = lead_works all rows group deal.chief d.now at.leads.0 d.fact ∙ ap (λ (h : Here). h.work) at.parties.0.0
 
     has : works to_.0 ≡ []
     has = lead_works all then group deal.chief to_.0 (ap (scene_at all then).lead (sym coord) ∙ stands.leads.0) to_.1 ∙ (ap (λ n. ((scene_at all then).at n).work) (sym coord) ∙ ap (λ (h : Here). h.work) stands.parties.0.0)
@@ -199,11 +199,11 @@ module _ (tells : ReplicasAreRecorded) (found_law : PrefixesAreFound) (logs_law 
           | inl idle ↦ absurd (one_not_none (Opens deal.tx) (works d.now) had idle)
           | inr some ↦ absurd (some has)
         ]
-        by (Executed flight work among one is none made) =
+        by (Executed flight work among one fact none made) =
             let same : work ≡ Opens deal.tx = same_one work (Opens deal.tx) (sym one ∙ had) in
-            owner_is scenario journal group deal.tx flight.value (is ∙ ap Some same)
+            owner_is scenario journal group deal.tx flight.value (fact ∙ ap Some same)
             (Each-among (λ (f : Flight Command). IsAllowedBy scenario journal group f.value) d.now.leader.flights flight
-            (flights_at tells words scenario first journal quiet rows more before_is g.calm g.rests g.seen group deal.chief d.now (deal.chief, d.first, d.was) d.is) among)
+            (flights_at tells words scenario first journal quiet rows more before_is g.calm g.rests g.seen group deal.chief d.now (deal.chief, d.first, d.was) d.fact) among)
 
     opened_stood : OwnerStood scenario journal quiet deal.tx
     opened_stood name e =
@@ -226,7 +226,7 @@ module _ (tells : ReplicasAreRecorded) (found_law : PrefixesAreFound) (logs_law 
     merged : (r : ReplicaState) (into : Route) → view_at (births as_nodes scenario) rows base.core.id seat.who ≡ Some r → r.running ≡ true → (flight : Flight Command) → Among flight r.leader.flights → IsMergedBy r.group flight.value into → Went into
     merged r into has runs flight in_flight m =
         let l = leads base.core.id seat.who r has runs in
-        let work : work_by flight.value ≡ Some (Ends m.tx) = ap work_by m.is in
+        let work : work_by flight.value ≡ Some (Ends m.tx) = ap work_by m.fact in
         let of = ends_of (scene_at all rows) stage base.core.id m.tx g.untouched.stands (at_stage tells words scenario first journal quiet rows base.core.id seat.who r stage l flight in_flight (Ends m.tx) work) in
         let there = was_there tells words scenario first journal quiet rows base.core.id seat.who r stage l flight in_flight (Ends m.tx) work in
         let same : m.tx ≡ goes.tx = (subst (λ o. Each (λ other. other ≡ goes.tx) (listed o)) of.0 goes.same).0 in
@@ -236,7 +236,7 @@ module _ (tells : ReplicasAreRecorded) (found_law : PrefixesAreFound) (logs_law 
         inr (subst (λ t. HasMerged scenario journal quiet t base.core.id into) same (record {
           offer = m.offer;
           offered = promised;
-          ended = subst (IsAllowedBy scenario journal base.core.id) m.is allowed;
+          ended = subst (IsAllowedBy scenario journal base.core.id) m.fact allowed;
           stood = subst (OwnerStood scenario journal quiet) (sym same) (goes.stood of.1);
         }))
 
@@ -244,14 +244,14 @@ module _ (tells : ReplicasAreRecorded) (found_law : PrefixesAreFound) (logs_law 
       -- who is gone has executed all
       last : next r ≡ s.step.later.newest
       last =
-          let low = s.step.led.rests (next r) (over_is base group_is then g.goes.prefix.more g.goes.prefix.is node r into has gone) in
+          let low = s.step.led.rests (next r) (over_is base group_is then g.goes.prefix.more g.goes.prefix.fact node r into has gone) in
           let high = no_further _ _ _ words all then base s.step.later node r s.step.led has in
           omega (arith, low, high)
 
       same_state : (xs rest : Rows) → journal ≡ xs ++ rest → (who : ℕ) (x : ReplicaState) → view_at (births as_nodes scenario) xs base.core.id who ≡ Some x → next x ≡ s.step.later.newest → x.group.core.gone ≡ Some into
-      same_state xs rest is who x e newest =
+      same_state xs rest fact who x e newest =
           ap (λ (y : Group). y.core.gone)
-          (state_is base group_is xs rest is who x e ∙ (ap (state_at as_nodes base journal) (newest ∙ sym last) ∙ sym (state_is base group_is then g.goes.prefix.more g.goes.prefix.is node r has)))
+          (state_is base group_is xs rest fact who x e ∙ (ap (state_at as_nodes base journal) (newest ∙ sym last) ∙ sym (state_is base group_is then g.goes.prefix.more g.goes.prefix.fact node r has)))
           ∙ gone
 
       -- where the newest state is that of before, one was gone before
@@ -273,11 +273,11 @@ module _ (tells : ReplicasAreRecorded) (found_law : PrefixesAreFound) (logs_law 
           to = goes_on words all rows seat number g.goes.seated g.goes.timely g.finds (stage, g.untouched.stands) base.core.id x runs seat.who row.was
 
           is_gone : to.0.group.core.gone ≡ Some into
-          is_gone = same_state then g.goes.prefix.more g.goes.prefix.is seat.who to.0 to.1 (ap next (same_Some to.0 after.0 (sym to.1 ∙ row.is)) ∙ sym newest)
+          is_gone = same_state then g.goes.prefix.more g.goes.prefix.fact seat.who to.0 to.1 (ap next (same_Some to.0 after.0 (sym to.1 ∙ row.fact)) ∙ sym newest)
 
           by : HasStepped x to.0 → Went into
           by (Rested same rest) = goes.went base.core.id seat.who x into row.was (ap (λ (y : Group). y.core.gone) (sym same) ∙ is_gone)
-          by (Executed flight work in_flight one is none made) = elim (goes_by x.group into flight.value (ap (λ (y : Group). y.core.gone) (sym made) ∙ is_gone)) [
+          by (Executed flight work in_flight one fact none made) = elim (goes_by x.group into flight.value (ap (λ (y : Group). y.core.gone) (sym made) ∙ is_gone)) [
             | inl already ↦ goes.went base.core.id seat.who x into row.was already
             | inr m ↦ merged x into row.was runs flight in_flight m
           ]

@@ -16,13 +16,13 @@ use Rattle.sc_live_steps.specs.calm.Definitions.{Rows}
 use Rattle.sc_live_journals.specs.logs.Definitions.{IsGroupOf}
 use Rattle.sc_live_journals.proofs.LogsProofs.Lemmas.{views_are_replicas}
 use Rattle.sc_live_steps.specs.orders.Definitions.{works, Here, Scene, Asks, Closes, ClosesBoth, IsAt, Ordered, Recorded, Replied, SentOn, Stage, Still, Weighs}
-use Rattle.sc_live_steps.proofs.OrdersProofs.Lemmas.{cases-draw, tables-order}
+use Rattle.sc_live_steps.proofs.OrderStepsProofs.Lemmas.{cases-draw, tables-order}
 use Rattle.sc_live_journals.specs.rows.Definitions.{view_at, with_event}
 use Rattle.sc_live_journals.proofs.RowsProofs.Lemmas.{view_is, view_others}
 use Rattle.sc_live_journals.specs.scenes.Definitions.{ByAnother, ByLeader, FindsQuiet, IsGivenInQuiet, scene_at, IsOfGroup, IsTablesRow, LeavesOrMakes}
 use Rattle.sc_live_journals.proofs.ScenesProofs.Lemmas.{now_is, rows_taken, was_is}
 use Rattle.sc_live_answers.specs.Definitions.{EndingGroupsBegin, HasBegun, IsGoingSince, WasGone, IsCalmJournal, IsPrefixOf, PrefixesAreFound, EndsAreLogged, tx_of, RestsAt, AreSeen}
-use Rattle.sc_live_answers.proofs.GroupsProofs.GuidedGroups.{named_there}
+use Rattle.sc_live_answers.proofs.LedGroupsProofs.GuidedGroups.{named_there}
 use Rattle.sc_live_answers.proofs.ErrandsProofs.QuestionedGroups.{rests_idle}
 use Rattle.sc_live_answers.proofs.OrdersProofs.OrderFactsAtStart.{no_deal, no_party}
 
@@ -66,21 +66,21 @@ module _ (found_law : PrefixesAreFound) (ends_law : EndsAreLogged) (words : ℕ 
       as_was e = inl (r, sym e ∙ has, refl)
 
       of_client : (client : ClientState) → value player_table seat quiet ≡ Client client → Kept
-      of_client client is = absurd (none-some r (sym (view_is all quiet seat (Told line) name t.seated (Client client) is (Some (ToldInput line)) refl) ∙ has))
+      of_client client fact = absurd (none-some r (sym (view_is all quiet seat (Told line) name t.seated (Client client) fact (Some (ToldInput line)) refl) ∙ has))
 
-      module _ (node : NodeState) (is : value player_table seat quiet ≡ Node node) where
+      module _ (node : NodeState) (fact : value player_table seat quiet ≡ Node node) where
         refused : replica_of (group_of_order line.order) node.replicas ≡ None → Kept
         refused none =
             let e : on_order line node ≡ ordered_of None line node = ap (λ o. ordered_of o line node) none in
-            as_was (now_is all quiet seat (Told line) node t.seated is (ordered_of None line node) (Some (ToldInput line)) refl (ap (λ (x : _). (Node x.0, x.1)) e) name
-            ∙ sym (was_is all quiet seat (Told line) node t.seated is (ordered_of None line node) (Some (ToldInput line)) refl (ap (λ (x : _). (Node x.0, x.1)) e) name))
+            as_was (now_is all quiet seat (Told line) node t.seated fact (ordered_of None line node) (Some (ToldInput line)) refl (ap (λ (x : _). (Node x.0, x.1)) e) name
+            ∙ sym (was_is all quiet seat (Told line) node t.seated fact (ordered_of None line node) (Some (ToldInput line)) refl (ap (λ (x : _). (Node x.0, x.1)) e) name))
 
         module _ (x : ReplicaState) (found_x : replica_of (group_of_order line.order) node.replicas ≡ Some x) where
           rows_of : IsOfGroup words (births as_nodes scenario) quiet seat (Told line) (group_of_order line.order) × IsTablesRow (births as_nodes scenario) quiet seat (Told line) (group_of_order line.order) x (ordered_row node.draws line (x, []))
-          rows_of = rows_taken.ordered words all quiet seat line node x t.seated t.timely is found_x
+          rows_of = rows_taken.ordered words all quiet seat line node x t.seated t.timely fact found_x
 
           idle : works x ≡ []
-          idle = rests_idle x (rests.is.quiet.at_rest (group_of_order line.order) seat.who x (sym (seen (group_of_order line.order) seat.who) ∙ rows_of.1.was))
+          idle = rests_idle x (rests.fact.quiet.at_rest (group_of_order line.order) seat.who x (sym (seen (group_of_order line.order) seat.who) ∙ rows_of.1.was))
 
           other : LeavesOrMakes (births as_nodes scenario) quiet seat (Told line) name → Kept
           other (inl e) = as_was e
@@ -97,8 +97,8 @@ module _ (found_law : PrefixesAreFound) (ends_law : EndsAreLogged) (words : ℕ 
 
           own : group_of_order line.order ≡ name → Kept
           own e =
-              let now : (ordered_row node.draws line (x, [])).0 ≡ r = same_Some (ordered_row node.draws line (x, [])).0 r (sym rows_of.1.is ∙ (ap (λ n. view_at all then n seat.who) e ∙ has)) in
-              inl (x, ap (λ n. view_at all quiet n seat.who) (sym e) ∙ rows_of.1.was, ap (λ (y : ReplicaState). y.group) (sym now) ∙ same_group (t.finds.told line node x refl (record { seated = t.seated; timely = t.timely; is_node = is; here = found_x })))
+              let now : (ordered_row node.draws line (x, [])).0 ≡ r = same_Some (ordered_row node.draws line (x, [])).0 r (sym rows_of.1.fact ∙ (ap (λ n. view_at all then n seat.who) e ∙ has)) in
+              inl (x, ap (λ n. view_at all quiet n seat.who) (sym e) ∙ rows_of.1.was, ap (λ (y : ReplicaState). y.group) (sym now) ∙ same_group (t.finds.told line node x refl (record { seated = t.seated; timely = t.timely; is_node = fact; here = found_x })))
 
           taken : Kept
           taken = elim (cases-draw (group_of_order line.order) name) [
@@ -111,8 +111,8 @@ module _ (found_law : PrefixesAreFound) (ends_law : EndsAreLogged) (words : ℕ 
         by_replica (Some x) e = taken x e
 
       by_player : (player : Player) → value player_table seat quiet ≡ player → Kept
-      by_player (Client client) is = of_client client is
-      by_player (Node node) is = by_replica node is (replica_of (group_of_order line.order) node.replicas) refl
+      by_player (Client client) fact = of_client client fact
+      by_player (Node node) fact = by_replica node fact (replica_of (group_of_order line.order) node.replicas) refl
 
   -- ---- who is gone
 
@@ -121,7 +121,7 @@ module _ (found_law : PrefixesAreFound) (ends_law : EndsAreLogged) (words : ℕ 
   new_stands name node r into has born new gone =
       let named = named_there found_law words scenario journal then calm prefix name (node, r, has) in
       let group : IsGroupOf as_nodes words scenario journal named.0 = record { open_slots = refl; valid = calm.valid; lawful = calm.lawful; stands = named.1 } in
-      let v = views_are_replicas as_nodes words scenario journal named.0 group then prefix.more prefix.is node r (ap (λ n. view_at all then n node) named.2 ∙ has) in
+      let v = views_are_replicas as_nodes words scenario journal named.0 group then prefix.more prefix.fact node r (ap (λ n. view_at all then n node) named.2 ∙ has) in
       let slot : next r ≡ 1 = ap next new in
       let low = ends_law.begins as_nodes words scenario journal named.0 group (next r) (omega (arith, slot)) in
       true≢false (sym (ap is_some gone) ∙ (ends_law.replicas as_nodes words scenario journal named.0 group then v.0 v.1 r v.2 ∙ low))

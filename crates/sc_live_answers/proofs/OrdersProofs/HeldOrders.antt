@@ -15,7 +15,7 @@ use Rattle.sc_node_table.specs.Definitions.{ReplicaState}
 use Rattle.sc_meaning.specs.sound.Definitions.{Player, player_table}
 use Rattle.sc_live_steps.specs.calm.Definitions.{players, Rows}
 use Rattle.sc_live_steps.specs.orders.Definitions.{OfQuestion, OfVote, OfOutcome, LastTakes, OneTakes, TwoTakes, LastFreed, OneFreed, TwoFreed, IsStepOf, ByRest, ByOrder, ByChange, ByDeal, ByPassing, ByAsking, ByTaking, ByVote, ByNo, ByHearing, ByDeciding, ByEnd, IsTaken, closed, Turn, First, Lone, Next, is_watch, is_yes, is_cast_yes, IsVote, Errand, Question, Elsewhere, Reply, Result, errand_by, errand_for, errands_for, bond_in, Asking, Work, Opens, Records, Ends, IsOrder, Here, Scene, free, closing, Leg, Mailed, Filed, Deal, Stage, Still, Ordered, Asks, SentOn, Weighs, Replied, Recorded, Closes, ClosesBoth, IsAt, bond_of, works}
-use Rattle.sc_live_steps.proofs.OrdersProofs.Lemmas.{cases-draw}
+use Rattle.sc_live_steps.proofs.OrderStepsProofs.Lemmas.{cases-draw}
 use Rattle.sc_live_journals.specs.rows.Definitions.{view_at, IsSeat, with_event}
 use Rattle.sc_live_journals.specs.scenes.Definitions.{FindsOrder, GoesBy, LeadsAlone, bond_by, bond_there, left_after, scene_at}
 use Rattle.sc_live_journals.proofs.ScenesProofs.Lemmas.{tell}
@@ -60,12 +60,12 @@ held_at (ClosesBoth tx one two) now o a = absurd o
 
 -- at any other stage none does
 free_holds : HoldsOrder free → ⊥
-free_holds (Waits work is e) = absurd (one_not_none work [] e refl)
+free_holds (Waits work fact e) = absurd (one_not_none work [] e refl)
 free_holds (Coordinates tx asked turn e) = absurd cc
 
 closing_holds : (tx : Draw) (leg : Leg) (host : ℕ) → HoldsOrder (closing tx leg host) → ⊥
-closing_holds tx Mailed host (Waits work is e) = absurd (one_not_none work [] e refl)
-closing_holds tx Filed host (Waits work is e) = subst IsOrder (sym (same_one (Ends tx) work e)) is
+closing_holds tx Mailed host (Waits work fact e) = absurd (one_not_none work [] e refl)
+closing_holds tx Filed host (Waits work fact e) = subst IsOrder (sym (same_one (Ends tx) work e)) fact
 closing_holds tx Mailed host (Coordinates t asked turn e) = absurd cc
 closing_holds tx Filed host (Coordinates t asked turn e) = absurd cc
 
@@ -135,15 +135,15 @@ module _ (n : ℕ) (told : is_reported n ≡ true) (words : ℕ → ℕ → ℕ 
   told_then : (result : OrderResult) → IsTold (row_of player_table seat rows (Deliver number)).sent n result → IsTold (mails then) n result
   told_then result k = subst (λ ms. IsTold ms n result) (sym (mails-snoc rows (row_of player_table seat rows (Deliver number)))) (told_behind n result (mails rows) (row_of player_table seat rows (Deliver number)).sent k)
 
-  module _ (group : Draw) (chief : ℕ) (r : ReplicaState) (is : view_at births rows group chief ≡ Some r) (leads : now.lead group ≡ Some chief) (none : IsOrderHeld after → ⊥) where
+  module _ (group : Draw) (chief : ℕ) (r : ReplicaState) (fact : view_at births rows group chief ≡ Some r) (leads : now.lead group ≡ Some chief) (none : IsOrderHeld after → ⊥) where
     runs : r.running ≡ true
-    runs = lead_runs_so births rows group chief r leads is
+    runs = lead_runs_so births rows group chief r leads fact
 
     bond_now : bond_of r.group.core ≡ (now.at group).bond
-    bond_now = sym (ap (bond_by (view_at births rows group) (numbers_of births)) leads ∙ ap bond_there is)
+    bond_now = sym (ap (bond_by (view_at births rows group) (numbers_of births)) leads ∙ ap bond_there fact)
 
     acted : Acts words births rows seat number born timely finds (stage, stands) group chief r
-    acted = acts_on words births rows seat number born timely finds (stage, stands) group r runs chief is
+    acted = acts_on words births rows seat number born timely finds (stage, stands) group r runs chief fact
 
     -- after it the leader does not ask another group, and has no order
     asks_none : acted.0.0.running ≡ true → (tx asked : Draw) (turn : Turn) → bond_of acted.0.0.group.core ≡ Asking tx asked turn → ⊥
@@ -153,7 +153,7 @@ module _ (n : ℕ) (told : is_reported n ≡ true) (words : ℕ → ℕ → ℕ 
     waits_none on work order e = none (group, Waits work order ((tell.led births then group chief acted.0.0 (l.alone group chief acted.0.0 acted.1 on)).1.1 ∙ e))
 
     number_of : (flight : Flight Command) → Among flight r.leader.flights → HasNumber n flight.value
-    number_of flight among = Each-among (λ (f : Flight Command). HasNumber n f.value) r.leader.flights flight (l.flights group chief r is) among
+    number_of flight among = Each-among (λ (f : Flight Command). HasNumber n f.value) r.leader.flights flight (l.flights group chief r fact) among
 
     -- the leader had the order as its one work: it has executed it
     order_done : (work : Work) → IsOrder work → works r ≡ work ∷ [] → ((tx : Draw) → work ≡ Opens tx → has_named r.group.core tx ≡ false) → Reports
@@ -164,7 +164,7 @@ module _ (n : ℕ) (told : is_reported n ≡ true) (words : ℕ → ℕ → ℕ 
         by (Waited on same (inr kept)) = absurd (waits_none (on ∙ runs) work order (kept ∙ one))
         by (Ran flight w among had e gone made stays reports) =
             let own : w ≡ work = same_one w work (sym had ∙ one) in
-            elim (order_ends n r.me r.group flight.value w e (subst IsOrder (sym own) order) (number_of flight among) (λ tx opens. named tx (sym own ∙ opens)) (l.entries group chief r is runs flight among)) [
+            elim (order_ends n r.me r.group flight.value w e (subst IsOrder (sym own) order) (number_of flight among) (λ tx opens. named tx (sym own ∙ opens)) (l.entries group chief r fact runs flight among)) [
               | inl ends ↦ record { result = ends.0; told = told_then ends.0 (acted.3 n ends.0 (reports n ends.0 told ends.1)); cause = λ aborted. absurd (ends.2 aborted) }
               | inr goes ↦ absurd (asks_none (stays goes.3) goes.0 goes.1 goes.2 (ap (λ (g : Group). bond_of g.core) made ∙ goes.4))
             ]
@@ -172,8 +172,8 @@ module _ (n : ℕ) (told : is_reported n ≡ true) (words : ℕ → ℕ → ℕ 
     -- the leader is locked in the order's transaction, in which a No was sent
     voted_down : (tx asked : Draw) (turn : Turn) → bond_of r.group.core ≡ Asking tx asked turn → IsRefusedIn (mails rows) tx → IsVotedDown births then n
     voted_down tx asked turn bound refused =
-        let lock = lock_of n r.group.core tx asked turn r.group.core.lock bound (l.locks group chief r is) in
-        record { rows = rows; more = row_of player_table seat rows (Deliver number) ∷ []; journal_is = refl; group = group; node = chief; replica = r; has = is; tx = tx; body = lock.0; heard = lock.1; locked = lock.2; refused = refused }
+        let lock = lock_of n r.group.core tx asked turn r.group.core.lock bound (l.locks group chief r fact) in
+        record { rows = rows; more = row_of player_table seat rows (Deliver number) ∷ []; journal_is = refl; group = group; node = chief; replica = r; has = fact; tx = tx; body = lock.0; heard = lock.1; locked = lock.2; refused = refused }
 
     -- the leader had a vote to record in the order's transaction: it has recorded it
     record_done : (tx asked : Draw) (turn : Turn) (agreed : Bool) (host : ℕ) → bond_of r.group.core ≡ Asking tx asked turn → works r ≡ Records tx (is_watch turn) agreed host ∷ [] → (agreed ≡ false → IsRefusedIn (mails rows) tx) → Reports
@@ -183,7 +183,7 @@ module _ (n : ℕ) (told : is_reported n ≡ true) (words : ℕ → ℕ → ℕ 
         by (Waited on same rest) = absurd (asks_none (on ∙ runs) tx asked turn (ap (λ (g : Group). bond_of g.core) same ∙ bound))
         by (Ran flight w among had e gone made stays reports) =
             let own : w ≡ Records tx (is_watch turn) agreed host = same_one w (Records tx (is_watch turn) agreed host) (sym had ∙ one) in
-            elim (record_ends n r.me r.group tx asked turn bound (l.locks group chief r is) flight.value (is_watch turn) agreed host (e ∙ ap Some own) refl (l.entries group chief r is runs flight among)) [
+            elim (record_ends n r.me r.group tx asked turn bound (l.locks group chief r fact) flight.value (is_watch turn) agreed host (e ∙ ap Some own) refl (l.entries group chief r fact runs flight among)) [
               | inl ends ↦ record { result = ends.0; told = told_then ends.0 (acted.3 n ends.0 (reports n ends.0 told ends.1)); cause = λ aborted. voted_down tx asked turn bound (voted (ends.2 aborted)) }
               | inr goes ↦ absurd (asks_none (stays goes.3) goes.0 goes.1 goes.2 (ap (λ (g : Group). bond_of g.core) made ∙ goes.4))
             ]
@@ -192,15 +192,15 @@ module _ (n : ℕ) (told : is_reported n ≡ true) (words : ℕ → ℕ → ℕ 
   changes group chief work e none =
       let a : IsAt (Ordered group chief work) now = subst (λ x. IsAt x now) e stands in
       let d : HasDone births quiet rows (doer group chief []) = (subst (λ x. Each (HasDone births quiet rows) (doers_of x)) e done).0 in
-      order_done group chief d.now d.is a.leads.0 none work a.sound (lead_works births rows group chief d.now a.leads.0 d.is ∙ ap (λ (h : Here). h.work) a.parties.0.0)
-      (λ tx opens. new group chief tx (e ∙ ap (Ordered group chief) opens) d.now d.is)
+      order_done group chief d.now d.fact a.leads.0 none work a.sound (lead_works births rows group chief d.now a.leads.0 d.fact ∙ ap (λ (h : Here). h.work) a.parties.0.0)
+      (λ tx opens. new group chief tx (e ∙ ap (Ordered group chief) opens) d.now d.fact)
 
   records : (deal : Deal) (agreed : Bool) (host : ℕ) → stage ≡ Recorded deal agreed host → (IsOrderHeld after → ⊥) → Reports
   records deal agreed host e none =
       let a : IsAt (Recorded deal agreed host) now = subst (λ x. IsAt x now) e stands in
       let d : HasDone births quiet rows (doer deal.coord deal.chief (opened deal.tx deal.turn)) = (subst (λ x. Each (HasDone births quiet rows) (doers_of x)) e done).0 in
-      record_done deal.coord deal.chief d.now d.is a.leads.0 none deal.tx deal.asked deal.turn agreed host (bond_now deal.coord deal.chief d.now d.is a.leads.0 none ∙ ap (λ (h : Here). h.bond) a.parties.0.0)
-      (lead_works births rows deal.coord deal.chief d.now a.leads.0 d.is ∙ ap (λ (h : Here). h.work) a.parties.0.0) (subst (IsRefusalSent (mails rows)) e refusal)
+      record_done deal.coord deal.chief d.now d.fact a.leads.0 none deal.tx deal.asked deal.turn agreed host (bond_now deal.coord deal.chief d.now d.fact a.leads.0 none ∙ ap (λ (h : Here). h.bond) a.parties.0.0)
+      (lead_works births rows deal.coord deal.chief d.now a.leads.0 d.fact ∙ ap (λ (h : Here). h.work) a.parties.0.0) (subst (IsRefusalSent (mails rows)) e refusal)
 
   -- a step that ends at a stage where no group holds the order reports its result
   module _ (later : Stage) (open_ : IsOpen stage) (over : IsOpen later → ⊥) (none : IsOrderHeld after → ⊥) where

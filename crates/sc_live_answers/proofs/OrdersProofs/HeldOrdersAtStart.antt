@@ -2,7 +2,7 @@
 use Rattle.std.proofs.Common.{◌≡◌, ◌⊎◌, ℕ, ◌≤◌, ◌&&◌, nat_le, eqb, cond, true, List, [], ◌∷◌, ◌++◌, Option, Some, None, inl, inr, refl, sym, ◌∙◌, ap, subst, arith}
 use Rattle.std.specs.Prelude.{is_some}
 use Rattle.std.proofs.lemmas.Bool.{and_parts, leb-true, lt-ltb}
-use Rattle.sc_base.specs.Definitions.{Among, next_name, Drawer}
+use Rattle.sc_base.specs.Definitions.{Among}
 use Rattle.sc_group_table.specs.policy.Definitions.{is_reported}
 use Rattle.sc_node_table.specs.Values.{Draw, Command, OrderLine, OrderRefusal, Refused, Mail, Node, Client, Seat, Go, Input, Row, Report}
 use Rattle.sc_words.specs.declared.commands.orders.OrderRefusal.TheVariants.{NotLeader}
@@ -16,11 +16,11 @@ use Rattle.sc_words.specs.paxos.Definitions.{must_without, names_above, chosen_v
 use Rattle.sc_live_orderly.specs.Definitions.{GivesAllowedOrder}
 use Rattle.sc_law_walks.proofs.Lemmas.{either_way}
 use Rattle.sc_scenario.specs.declared.scenario.scenarios.Scenario.{Scenario}
-use Rattle.sc_node_table.specs.Definitions.{NodeState, result_sent, replica_of, group_of_order, ordered_of, untaken, queued_or_refused, ordered_command, ordered_row, ReplicaState, Place, next, last_slot, settled, may_offer, first_set}
+use Rattle.sc_node_table.specs.Definitions.{NodeState, result_sent, replica_of, group_of_order, ordered_of, untaken, ordered_row, ReplicaState, Place, next, last_slot, settled, may_offer, first_set}
 use Rattle.sc_meaning.specs.sound.Definitions.{Player, player_table, node_seat, births, as_nodes}
 use Rattle.sc_live_steps.specs.calm.Definitions.{IsAtRest, Rows}
 use Rattle.sc_live_steps.specs.orders.Definitions.{Asking, Unbound, Here, Stage, Still, Recorded, IsAt, MayFile}
-use Rattle.sc_live_steps.proofs.OrdersProofs.Lemmas.{tables-order}
+use Rattle.sc_live_steps.proofs.OrderStepsProofs.Lemmas.{tables-order}
 use Rattle.sc_live_journals.specs.rows.Definitions.{view_at, IsSeat, with_event, IsReplicasRow}
 use Rattle.sc_live_journals.proofs.RowsProofs.Lemmas.{rows_replicas, view_was}
 use Rattle.sc_live_journals.specs.scenes.Definitions.{LeadsAlone, StageAfter, scene_at}
@@ -33,6 +33,7 @@ use Rattle.sc_live_answers.proofs.ErrandsProofs.QuestionedGroups.{rests_idle}
 use Rattle.sc_live_answers.proofs.VotesProofs.ReportedMail.{told_behind, desk_reports}
 use Rattle.sc_live_answers.proofs.OrdersProofs.OrderFactsAtStart.{begun_so, still_unbound, ordered_unbound}
 use Rattle.sc_words.specs.declared.commands.orders.OrderResult.TheVariants.{Aborted}
+use Rattle.sc_law_walks.proofs.Lemmas.{order_refused}
 
 -- ---- the orders that rows give
 
@@ -50,7 +51,7 @@ given_rows rows row line g = elim (Among-either g.row rows (row ∷ []) g.among)
 pub given_allowed : (words : ℕ → ℕ → ℕ × ℕ) (scenario : Scenario) (journal rows : Rows) (row : Row Mail OrderLine) (line : OrderLine) → IsCalmJournal words scenario journal → IsPrefixOf journal (rows ++ row ∷ []) → row.event ≡ Told line
     → ((1 ≤ row.who) × (row.who ≤ scenario.nodes)) × (is_reported line.number ≡ true)
 given_allowed words scenario journal rows row line calm prefix e =
-    let among : Among row journal = subst (Among row) (sym prefix.is) (Among-left row (rows ++ row ∷ []) prefix.more (Among-right row rows (row ∷ []) (inl refl))) in
+    let among : Among row journal = subst (Among row) (sym prefix.fact) (Among-left row (rows ++ row ∷ []) prefix.more (Among-right row rows (row ∷ []) (inl refl))) in
     let given : may_be_given scenario row.who line ≡ true = subst (GivesAllowedOrder (may_be_given scenario) row.who) e (Each-among (λ (r : Row Mail OrderLine). GivesAllowedOrder (may_be_given scenario) r.who r.event) journal row calm.given among) in
     let parts = and_parts (nat_le 1 row.who && nat_le row.who scenario.nodes) (names_nodes scenario.nodes line.order && nat_le 1 line.number) given in
     let node = and_parts (nat_le 1 row.who) (nat_le row.who scenario.nodes) parts.0 in
@@ -102,11 +103,6 @@ is_node (Client client) k = absurd k
 
 -- ---- the row of an order
 
--- an order that is not taken is refused, and nothing else
-pub order_refused : (drawer : Drawer) (line : OrderLine) (r : ReplicaState) (why : OrderRefusal) → untaken drawer line r ≡ Some why → ordered_row drawer line (r, []) ≡ (r, result_sent r.me line.number (Refused why) [])
-unfolding ordered_row
-order_refused drawer line r why e = ap (λ (x : Option OrderRefusal). queued_or_refused x line.number (ordered_command (next_name drawer) line.number line.order) (r, [])) e
-
 module _ (words : ℕ → ℕ → ℕ × ℕ) (scenario : Scenario) (quiet : Rows) (seat : Seat Player) (line : OrderLine) (seated : IsSeat (births as_nodes scenario) seat) (home : (1 ≤ seat.who) × (seat.who ≤ scenario.nodes))
     (rests : (name : Draw) (who : ℕ) (r : ReplicaState) → view_at (births as_nodes scenario) quiet name who ≡ Some r → IsAtRest r × (r.running ≡ true → r.leader.reports ≡ []) × (next r ≤ last_slot))
     (alone : (name : Draw) (node : ℕ) (r : ReplicaState) → view_at (births as_nodes scenario) (with_event quiet seat (Told line)) name node ≡ Some r → r.running ≡ true → LeadsAlone (births as_nodes scenario) (with_event quiet seat (Told line)) name node r) where
@@ -138,18 +134,18 @@ module _ (words : ℕ → ℕ → ℕ × ℕ) (scenario : Scenario) (quiet : Row
       let same : seat ≡ node_seat as_nodes scenario.groups scenario.policy seat.who = (let both : Some seat ≡ Some (node_seat as_nodes scenario.groups scenario.policy seat.who) = sym seated ∙ found in cc) in
       is_node (value player_table seat quiet) (replay_node seat.who quiet seat.actor [] (subst IsNodes (sym (ap (λ (s : Seat Player). s.actor) same)) tt))
 
-  module _ (node : NodeState) (is : value player_table seat quiet ≡ Node node) where
+  module _ (node : NodeState) (fact : value player_table seat quiet ≡ Node node) where
     -- a node without a replica of the group refuses
     missed : replica_of (group_of_order line.order) node.replicas ≡ None → Result
     missed none =
-        reports node.me (NotLeader None) (all_sent all quiet seat (Told line) node seated is (ordered_of None line node) (Some (ToldInput line)) refl (ap (λ (x : NodeState × List Mail). (Node x.0, x.1)) (ap (λ o. ordered_of o line node) none)))
+        reports node.me (NotLeader None) (all_sent all quiet seat (Told line) node seated fact (ordered_of None line node) (Some (ToldInput line)) refl (ap (λ (x : NodeState × List Mail). (Node x.0, x.1)) (ap (λ o. ordered_of o line node) none)))
 
     module _ (r : ReplicaState) (here : replica_of (group_of_order line.order) node.replicas ≡ Some r) where
       row : IsReplicasRow all quiet seat (Told line) (group_of_order line.order) (Some r) (ordered_row node.draws line (r, []))
-      row = rows_replicas.ordered all quiet seat line node r seated is here
+      row = rows_replicas.ordered all quiet seat line node r seated fact here
 
       abbrev rest : IsAtRest r × (r.running ≡ true → r.leader.reports ≡ []) × (next r ≤ last_slot)
-      rest = rests (group_of_order line.order) seat.who r (view_was all quiet seat Go (group_of_order line.order) seated (Node node) is ∙ here)
+      rest = rests (group_of_order line.order) seat.who r (view_was all quiet seat Go (group_of_order line.order) seated (Node node) fact ∙ here)
 
       -- one that takes it has its command as its one work
       taken : untaken node.draws line r ≡ None → Result
@@ -158,7 +154,7 @@ module _ (words : ℕ → ℕ → ℕ × ℕ) (scenario : Scenario) (quiet : Row
           let may : MayFile r = record { running = on; unbound = λ slot low. ap (λ (reports : List (Report Command)). must_without (names_above slot reports) (chosen_value slot reports)) (rest.1 on); idle = rests_idle r rest.0 } in
           let w = tables-order.taken node.draws line r may e in
           let after : Place = ordered_row node.draws line (r, []) in
-          inr (group_of_order line.order, Waits w.0 w.1 ((tell.led all then (group_of_order line.order) seat.who after.0 (alone (group_of_order line.order) seat.who after.0 row.is (w.3.running ∙ on))).1.1 ∙ w.3.work))
+          inr (group_of_order line.order, Waits w.0 w.1 ((tell.led all then (group_of_order line.order) seat.who after.0 (alone (group_of_order line.order) seat.who after.0 row.fact (w.3.running ∙ on))).1.1 ∙ w.3.work))
 
       by_untaken : (o : Option OrderRefusal) → untaken node.draws line r ≡ o → Result
       by_untaken (Some why) e = reports r.me why (row.sends_all ∙ ap (λ (p : Place). p.1) (order_refused node.draws line r why e))

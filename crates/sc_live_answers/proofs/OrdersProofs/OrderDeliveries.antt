@@ -1,11 +1,11 @@
 -- What a delivery finds while an order is under way.
-use Rattle.std.proofs.Common.{◌≡◌, ℕ, ◌+◌, ◌≤◌, ◌^◌, zero, suc, eqb, cond, true, false, Bool, List, [], ◌∷◌, ◌++◌, length, map, take, find, Option, Some, None, ◌⊎◌, inl, inr, refl, sym, ◌∙◌, ap, subst, arith, append-nil, append_assoc, length-append}
+use Rattle.std.proofs.Common.{◌≡◌, ℕ, ◌+◌, ◌≤◌, ◌^◌, eqb, true, false, Bool, List, [], ◌∷◌, ◌++◌, length, map, find, Option, Some, None, ◌⊎◌, inl, inr, refl, sym, ◌∙◌, ap, subst, arith, append-nil, append_assoc, length-append}
 use Rattle.std.specs.Prelude.{is_some, ◌||◌}
 use Rattle.std.proofs.lemmas.Bool.{eqb-true}
 use Rattle.sc_base.specs.Definitions.{Among, Each, same_draw}
 use Rattle.sc_base.proofs.Lemmas.{draw_is}
 use Rattle.sc_node_table.specs.Values.{Draw, Base, Route, OrderLine, Mail, MailBody, Request, Promise, Accepted, TxPrepare, TxVote, TxOutcome, TxElsewhere, TxWatch, TxWatched, Node, Client, Seat, Deliver}
-use Rattle.sc_actor.specs.Definitions.{mails, numbered, value, System, row_of, numbers_of, is_quiet}
+use Rattle.sc_actor.specs.Definitions.{mails, numbered, value, System, row_of, numbers_of}
 use Rattle.sc_live_orderly.specs.Definitions.{IsCalmRow, AreInTime}
 use Rattle.sc_live_orderly.proofs.Lemmas.{in_time_before, in_time_tidy, last_in_time, TakesFirst, takes_first, is_born-from}
 use Rattle.sc_node_table.specs.Definitions.{NodeState, replica_of, group_of_mail, ReplicaState, name_of}
@@ -14,6 +14,7 @@ use Rattle.sc_scenario.specs.declared.scenario.scenarios.Scenario.{Scenario}
 use Rattle.sc_scenario.specs.scenario.Definitions.{ValidScenariosAreBounded}
 use Rattle.sc_meaning.specs.sound.Definitions.{Player, player_table, births, as_nodes}
 use Rattle.sc_live_steps.specs.calm.Definitions.{Chart, players, IsCalmFor, FindsCalm, MayAskThere, Points, StandsOnce, Rows, led_elsewhere, leads, is_leading, is_led}
+use Rattle.sc_live_journals.proofs.ChartsProofs.Lemmas.{upto_low}
 use Rattle.sc_live_journals.specs.rows.Definitions.{replicas_of, replica_in, view_at, with_event}
 use Rattle.sc_live_journals.specs.mail.Definitions.{SlotsAreLeft}
 use Rattle.sc_live_journals.specs.logs.Definitions.{SlotsHaveRosters}
@@ -22,16 +23,16 @@ use Rattle.sc_live_answers.specs.Definitions.{FindsBy, JournalMailFinds, StrayMa
 use Rattle.sc_live_journals.specs.charts.Definitions.{replicas_of as chart_replicas, all_replicas, chart_at, LedStandOnce, quiet_upto}
 use Rattle.sc_live_journals.proofs.ChartsProofs.Lemmas.{led_by}
 use Rattle.sc_live_steps.specs.orders.Definitions.{Turn, is_watch, Errand, Question, Elsewhere, Asking, Here, Scene, errand_by, bond_of, Stage, Asks, SentOn, IsAt}
-use Rattle.sc_live_steps.proofs.OrdersProofs.Lemmas.{among-right}
+use Rattle.sc_live_steps.proofs.OrderStepsProofs.Lemmas.{among-right}
 use Rattle.sc_live_journals.specs.scenes.Definitions.{IsThere, IsNowhere, IsFresh, FreshGroupsStay, WorksFlyLone, is_running, left_after, scene_at, AnswersReachLeaders, ScenesDescribe}
 use Rattle.sc_live_journals.proofs.ScenesProofs.Lemmas.{takes_one, lead_runs, calm_is}
-use Rattle.sc_live_steps.specs.entries.LoneEntries.{BondsAsk, OrderEntriesCount}
+use Rattle.sc_live_steps.specs.entries.StageEntries.{BondsAsk, OrderEntriesCount}
 use Rattle.sc_live_plain.specs.Definitions.{replicas_after}
 use Rattle.sc_live_answers.proofs.VotesProofs.CountableVotes.{may_count}
 use Rattle.sc_live_answers.proofs.ErrandsProofs.Questions.{IsQuestionOf, question_stage, IsSentOnIn, elsewhere_stage}
 use Rattle.sc_live_answers.proofs.ErrandsProofs.QuestionTargets.{errand_there}
 use Rattle.sc_live_answers.proofs.ReplicasProofs.AllReplicas.{into_seats}
-use Rattle.sc_live_answers.proofs.GroupsProofs.JournalGroups.{calm_group, calm_slots}
+use Rattle.sc_live_answers.proofs.LedGroupsProofs.JournalGroups.{calm_group, calm_slots}
 
 -- ---- where a group has a replica
 
@@ -46,7 +47,7 @@ module _ (births : List (Seat Player)) (rows : Rows) (name : Draw) where
       by : (o : Option ReplicaState) → view w ≡ o → IsThere births rows name ⊎ ((who : ℕ) → Among who ws → view who ≡ None) → IsThere births rows name ⊎ ((who : ℕ) → Among who (w ∷ ws) → view who ≡ None)
       by (Some r) e more = inl (w, r, e)
       by None e (inl there) = inl there
-      by None e (inr none) = inr (λ who a. elim a [ inl is ↦ ap view (sym is) ∙ e | inr b ↦ none who b ])
+      by None e (inr none) = inr (λ who a. elim a [ inl fact ↦ ap view (sym fact) ∙ e | inr b ↦ none who b ])
 
   numbered_there : (seats : List (Seat Player)) (seat : Seat Player) → Among seat seats → Among seat.who (map (λ (s : Seat Player). s.who) seats)
   numbered_there [] seat a = absurd a
@@ -102,14 +103,6 @@ module _ (births : List (Seat Player)) (rows : Rows) (name : Draw) where
   pub named_so : (who : ℕ) (r : ReplicaState) → view who ≡ Some r → name_of r ≡ name
   named_so who r e = (let s = seat_of who r e in named_there (value player_table s.seat rows) r s.has)
 
-upto_low : (s : System Player Mail OrderLine) (rows : Rows) (n : ℕ) → quiet_upto s rows n ≤ n
-upto_low s rows zero = omega arith
-upto_low s rows (suc n) = by (is_quiet s (take (suc n) rows)) (upto_low s rows n)
-  where
-    by : (b : Bool) → quiet_upto s rows n ≤ n → cond b (suc n) (quiet_upto s rows n) ≤ suc n
-    by true le = omega arith
-    by false le = omega (arith, le)
-
 pub runs_there : (o : Option ReplicaState) → is_running o ≡ true → (r : ReplicaState) × (o ≡ Some r) × (r.running ≡ true)
 runs_there None e = cc
 runs_there (Some r) e = (r, refl, e)
@@ -143,20 +136,20 @@ module _ (named_at : JournalMailFinds) (strays : StrayMailFinds) (for_node : Mai
   before = in_time_before s rows (row_of player_table seat rows (Deliver number)) on.timely
 
   split : journal ≡ rows ++ (row_of player_table seat rows (Deliver number) ∷ on.prefix.more)
-  split = on.prefix.is ∙ append_assoc rows (row_of player_table seat rows (Deliver number) ∷ []) on.prefix.more
+  split = on.prefix.fact ∙ append_assoc rows (row_of player_table seat rows (Deliver number) ∷ []) on.prefix.more
 
   short_prefix : length rows ≤ 2 ^ 28
   short_prefix = (let long = ap length split in let sum = length-append rows (row_of player_table seat rows (Deliver number) ∷ on.prefix.more) in let short = calm.short in omega (arith, long, sum, short))
 
-  module _ (mail : Mail) (node : NodeState) (name : Draw) (at : numbered (mails rows) number ≡ Some mail) (is : value player_table seat rows ≡ Node node) (of : group_of_mail mail.body ≡ Some name) where
+  module _ (mail : Mail) (node : NodeState) (name : Draw) (at : numbered (mails rows) number ≡ Some mail) (fact : value player_table seat rows ≡ Node node) (of : group_of_mail mail.body ≡ Some name) where
     abbrev k : IsKnownMail scenario journal mail node name
-    k = known.mail mail node name at is of
+    k = known.mail mail node name at fact of
 
     abbrev base : Base
     base = k.base
 
     view_is : (group : Draw) → view_at all rows group seat.who ≡ replica_of group node.replicas
-    view_is group = ap (replica_in group rows) on.seated ∙ ap (λ player. replica_of group (replicas_of player)) is
+    view_is group = ap (replica_in group rows) on.seated ∙ ap (λ player. replica_of group (replicas_of player)) fact
 
     -- the mail is the first that is left for its node
     taken_first : TakesFirst s rows seat.who number
@@ -178,7 +171,7 @@ module _ (named_at : JournalMailFinds) (strays : StrayMailFinds) (for_node : Mai
     quiet_led : is_led all quiet name ≡ true
     quiet_led =
         let agree = views.nodes scenario quiet name there.0 (all_bounded scenario calm.valid) known.homes in
-        elim (under.rests.is.quiet.groups name there.0 (there.1, sym agree ∙ there.2)) [
+        elim (under.rests.fact.quiet.groups name there.0 (there.1, sym agree ∙ there.2)) [
           | inl q ↦ led_there all quiet name q.lead.me q.lead (views.nodes scenario quiet name q.lead.me (all_bounded scenario calm.valid) known.homes ∙ q.newest.is_there) (ap (λ b. b || is_some q.lead.group.core.gone) q.leads.running)
           | inr g ↦ led_there all quiet name g.last.me g.last (views.nodes scenario quiet name g.last.me (all_bounded scenario calm.valid) known.homes ∙ g.newest.is_there) (gone_leads g.last.running g.last.group.core.gone g.into g.went)
         ]
@@ -210,8 +203,8 @@ module _ (named_at : JournalMailFinds) (strays : StrayMailFinds) (for_node : Mai
     points stage is_fresh same r here stops stands =
         let then : view_at all quiet name seat.who ≡ Some r = sym (under.untouched.views name (subst (λ x. IsFresh x name) same is_fresh) there seat.who) ∙ (view_is name ∙ here) in
         let at_quiet : replicas_after scenario quiet name seat.who ≡ Some r = sym (views.nodes scenario quiet name seat.who (all_bounded scenario calm.valid) known.homes) ∙ then in
-        let rises = under.rests.is.quiet.rises name seat.who r at_quiet stops stands in
-        let me = (under.rests.is.kept name seat.who r at_quiet).me_is in
+        let rises = under.rests.fact.quiet.rises name seat.who r at_quiet stops stands in
+        let me = (under.rests.fact.kept name seat.who r at_quiet).me_is in
         (r.top.node, rises.hint_is, subst (λ me_. chart.ways.far name r.top.node + 1 ≤ chart.ways.far name me_) (sym me) (known.rise.hints name seat.who r.top.node r at_quiet stops stands rises.hint_is))
 
     module _ (tx coord : Draw) (watch : Bool) (by to : ℕ) (q : IsQuestionOf name tx coord watch under.stage) where
@@ -283,27 +276,24 @@ module _ (named_at : JournalMailFinds) (strays : StrayMailFinds) (for_node : Mai
 
     -- ---- what it needs
 
-    plain_at : (o : Option ReplicaState) → replica_of name node.replicas ≡ o → IsPlainAt o
-    plain_at o e = subst IsPlainAt e k.plain
-
     needs_some : (r : ReplicaState) → replica_of name node.replicas ≡ Some r → (b : MailBody) → mail.body ≡ b → NeedsBesides chart.ways r b
     needs_some r here (Request group client seq op) body = absurd (subst IsNoRequest body k.unasked)
-    needs_some r here (Promise group ballot reports) body = plain_at (Some r) here
+    needs_some r here (Promise group ballot reports) body = subst IsPlainAt here k.plain
     needs_some r here (Accepted group ballot slot) body = subst (MayCountAt slot) here (counts_here slot)
     needs_some r here (TxPrepare tx offer) body =
         let part : offer.part ≡ name = (let e : Some offer.part ≡ Some name = sym (ap group_of_mail body) ∙ of in cc) in
         let q = question_stage name tx offer.coord false offer.by mail.to now under.stage under.untouched.stands
         (errand_way (Question tx offer.coord false offer.by mail.to) (ap (errand_by mail.from mail.to) body ∙ ap (λ n. Some (n, Question tx offer.coord false offer.by mail.to)) part)) in
-        (plain_at (Some r) here, subst (λ n. Points chart.ways n r) (sym part) (question_points tx offer.coord false offer.by mail.to q r here), question_asks tx offer.coord false offer.by mail.to q ∙ ap (λ n. Some (n, false)) (sym part))
-    needs_some r here (TxVote tx coord part vote) body = plain_at (Some r) here
-    needs_some r here (TxOutcome tx part outcome) body = plain_at (Some r) here
+        (subst IsPlainAt here k.plain, subst (λ n. Points chart.ways n r) (sym part) (question_points tx offer.coord false offer.by mail.to q r here), question_asks tx offer.coord false offer.by mail.to q ∙ ap (λ n. Some (n, false)) (sym part))
+    needs_some r here (TxVote tx coord part vote) body = subst IsPlainAt here k.plain
+    needs_some r here (TxOutcome tx part outcome) body = subst IsPlainAt here k.plain
     needs_some r here (TxElsewhere tx coord hint) body = asks_there tx coord hint body r here
     needs_some r here (TxWatch tx watch) body =
         let part : watch.part ≡ name = (let e : Some watch.part ≡ Some name = sym (ap group_of_mail body) ∙ of in cc) in
         let q = question_stage name tx watch.coord true watch.by mail.to now under.stage under.untouched.stands
         (errand_way (Question tx watch.coord true watch.by mail.to) (ap (errand_by mail.from mail.to) body ∙ ap (λ n. Some (n, Question tx watch.coord true watch.by mail.to)) part)) in
-        (plain_at (Some r) here, subst (λ n. Points chart.ways n r) (sym part) (question_points tx watch.coord true watch.by mail.to q r here), question_asks tx watch.coord true watch.by mail.to q ∙ ap (λ n. Some (n, true)) (sym part))
-    needs_some r here (TxWatched tx coord part vote) body = plain_at (Some r) here
+        (subst IsPlainAt here k.plain, subst (λ n. Points chart.ways n r) (sym part) (question_points tx watch.coord true watch.by mail.to q r here), question_asks tx watch.coord true watch.by mail.to q ∙ ap (λ n. Some (n, true)) (sym part))
+    needs_some r here (TxWatched tx coord part vote) body = subst IsPlainAt here k.plain
     needs_some r here _ body = tt
 
     needs : NeedsAt chart.ways (replica_of name node.replicas) mail.body
@@ -316,20 +306,20 @@ module _ (named_at : JournalMailFinds) (strays : StrayMailFinds) (for_node : Mai
     group_finds : FindsBy chart all rows seat.who mail node
     group_finds =
         let so = (sent_after base k.among).so in
-        let deliver : Delivers (with_event rows seat (Deliver number)) rows seat number mail = record { row = record { more = []; is = sym (append-nil (with_event rows seat (Deliver number))) }; sent = at } in
-        named_at chart words scenario journal (with_event rows seat (Deliver number)) on.prefix.more base (calm_group words scenario journal calm base k.among) calm.timely (calm_slots words scenario journal calm slots_left base) on.prefix.is so rows seat number mail node deliver on.seated is (of ∙ ap Some (sym k.named))
+        let deliver : Delivers (with_event rows seat (Deliver number)) rows seat number mail = record { row = record { more = []; fact = sym (append-nil (with_event rows seat (Deliver number))) }; sent = at } in
+        named_at chart words scenario journal (with_event rows seat (Deliver number)) on.prefix.more base (calm_group words scenario journal calm base k.among) calm.timely (calm_slots words scenario journal calm slots_left base) on.prefix.fact so rows seat number mail node deliver on.seated fact (of ∙ ap Some (sym k.named))
         (subst (λ n. StandsOnce n chart.groups) (sym k.named) once) (subst (λ n. NeedsAt chart.ways (replica_of n node.replicas) mail.body) (sym k.named) needs)
 
   finds : FindsCalm chart (births as_nodes scenario) rows seat (Deliver number)
   finds mail at = by (value player_table seat rows) refl
     where
       by : (player : Player) → value player_table seat rows ≡ player → IsCalmFor chart (led_elsewhere (births as_nodes scenario) rows seat.who) mail player
-      by (Client client) is = absurd (known.nodes client is)
-      by (Node node) is = (for_node words scenario rows seat number mail node on.timely on.seated is at, named (group_of_mail mail.body) refl)
+      by (Client client) fact = absurd (known.nodes client fact)
+      by (Node node) fact = (for_node words scenario rows seat number mail node on.timely on.seated fact at, named (group_of_mail mail.body) refl)
         where
           named : (o : Option Draw) → group_of_mail mail.body ≡ o → FindsBy chart (births as_nodes scenario) rows seat.who mail node
-          named None of = strays chart.ways chart.groups (led_elsewhere (births as_nodes scenario) rows seat.who) words scenario rows seat number mail node on.timely on.seated is at of
-          named (Some name) of = group_finds mail node name at is of
+          named None of = strays chart.ways chart.groups (led_elsewhere (births as_nodes scenario) rows seat.who) words scenario rows seat number mail node on.timely on.seated fact at of
+          named (Some name) of = group_finds mail node name at fact of
 
 pub order_rows_find : JournalMailFinds → StrayMailFinds → MailIsForItsNode → LedStandOnce → FreshGroupsStay → StagesAsk → BondsAsk → ScenesDescribe → AnswersReachLeaders → WorksFlyLone → OrderEntriesCount → StagesLeaveOneWork → WellLedLeadAlone → SlotsAreLeft → ScenariosAreKeptBorn
     → ReplicasAreKept → SlotsHaveRosters → ViewsAgree → ValidScenariosAreBounded → OrderRowsFindCalm

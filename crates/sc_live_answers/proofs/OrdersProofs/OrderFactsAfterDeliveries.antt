@@ -68,7 +68,7 @@ module _ (tells : ReplicasAreRecorded) (words : ℕ → ℕ → ℕ × ℕ) (sce
   Has it = HasDone (births as_nodes scenario) quiet next it
 
   begins : FlightsBeginSo (births as_nodes scenario) quiet rows
-  begins = begin_so tells words scenario first journal quiet rows (row_of player_table seat rows (Deliver number) ∷ g.goes.prefix.more) (g.goes.prefix.is ∙ append_assoc rows (row_of player_table seat rows (Deliver number) ∷ []) g.goes.prefix.more) g.calm g.rests g.seen
+  begins = begin_so tells words scenario first journal quiet rows (row_of player_table seat rows (Deliver number) ∷ g.goes.prefix.more) (g.goes.prefix.fact ∙ append_assoc rows (row_of player_table seat rows (Deliver number) ∷ []) g.goes.prefix.more) g.calm g.rests g.seen
 
   -- ---- what was executed
 
@@ -89,7 +89,7 @@ module _ (tells : ReplicasAreRecorded) (words : ℕ → ℕ → ℕ × ℕ) (sce
 
   asks_stood : (deal : Deal) (to : ℕ) → IsAt (Asks deal to) after → Each Has (doers_of (Asks deal to)) → Stood (Asks deal to)
   asks_stood deal to stands d = (
-    asked_stands tells words scenario first journal quiet next g.goes.prefix.more g.goes.prefix.is g.calm g.rests g.seen deal stands.leads.0 (ap (λ (h : Here). h.bond) stands.parties.0.0) d.0 deal.turn refl stands.parties.0.1.1 stands.leads.1 d.1,
+    asked_stands tells words scenario first journal quiet next g.goes.prefix.more g.goes.prefix.fact g.calm g.rests g.seen deal stands.leads.0 (ap (λ (h : Here). h.bond) stands.parties.0.0) d.0 deal.turn refl stands.parties.0.1.1 stands.leads.1 d.1,
     tt,
   )
 

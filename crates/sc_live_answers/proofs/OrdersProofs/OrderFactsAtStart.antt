@@ -8,7 +8,6 @@ use Rattle.sc_actor.specs.declared.rows.Event.TheVariants.{Told}
 use Rattle.sc_actor.specs.declared.rows.Input.TheVariants.{Told as ToldInput}
 use Rattle.sc_actor.specs.Definitions.{value, numbers_of, row_of}
 use Rattle.sc_actor.proofs.Lemmas.{lawful-prefix}
-use Rattle.sc_client_table.specs.table.Definitions.{Client as ClientState}
 use Rattle.sc_words.specs.declared.commands.orders.Order.TheVariants as An
 use Rattle.sc_node_table.specs.Definitions.{NodeState, group_of_order, on_order, ordered_of, replica_of, ordered_command, ordered_row, untaken, ReplicaState, born_replica, listed, slots_ahead}
 use Rattle.sc_law_entries.specs.names.Definitions.{NodesHaveNames, OtherNamesAreFree, TakenOrdersAreAllowed, TakenWishesAreAllowed, WishesAreAtPositions}
@@ -18,7 +17,7 @@ use Rattle.sc_law_groups.specs.whole.Definitions.{ValidScenariosBeginWell}
 use Rattle.sc_meaning.specs.sound.Definitions.{Lawful, Player, as_nodes, births, player_table, schedule, system_of}
 use Rattle.sc_live_steps.specs.calm.Definitions.{Rows}
 use Rattle.sc_live_steps.specs.orders.Definitions.{IsStepOf, ByRest, ByOrder, ByChange, ByDeal, ByPassing, ByAsking, ByTaking, ByVote, ByNo, ByHearing, ByDeciding, ByEnd, LastFreed, LastTakes, OfOutcome, OfQuestion, OfVote, OneFreed, OneTakes, TwoFreed, TwoTakes, work_by, works, Asking, Bound, Here, Opens, Scene, Turn, Unbound, Work, free, Asks, Closes, ClosesBoth, Filed, IsAt, Leg, Mailed, Ordered, Recorded, Replied, SentOn, Stage, Still, Weighs, closing, MayFile}
-use Rattle.sc_live_steps.proofs.OrdersProofs.Lemmas.{cases-draw, tables-order}
+use Rattle.sc_live_steps.proofs.OrderStepsProofs.Lemmas.{cases-draw, tables-order}
 use Rattle.sc_live_journals.specs.rows.Definitions.{view_at, with_event}
 use Rattle.sc_live_journals.proofs.RowsProofs.Lemmas.{view_is, view_others, none_some}
 use Rattle.sc_live_journals.specs.scenes.Definitions.{IsOrdered, ByAnother, ByLeader, FindsQuiet, IsGivenInQuiet, StageAfter, is_running, scene_at, IsOfGroup, IsTablesRow, LeavesOrMakes}
@@ -54,7 +53,7 @@ still_unbound now a name = ap (λ (h : Here). h.bond) (a.parties.1 name tt)
 
 pub ordered_unbound : (now : Scene) (group : Draw) (chief : ℕ) (work : Work) → IsAt (Ordered group chief work) now → (name : Draw) → (now.at name).bond ≡ Unbound
 ordered_unbound now group chief work a name = elim (cases-draw name group) [
-  | inl is ↦ ap (λ n. (now.at n).bond) is ∙ ap (λ (h : Here). h.bond) a.parties.0.0
+  | inl fact ↦ ap (λ n. (now.at n).bond) fact ∙ ap (λ (h : Here). h.bond) a.parties.0.0
   | inr ne ↦ ap (λ (h : Here). h.bond) (a.parties.1 name (ne, tt))
 ]
 
@@ -112,7 +111,7 @@ module _ (words : ℕ → ℕ → ℕ × ℕ) (scenario : Scenario) (first : Bas
   after = scene_at all next
 
   idle : (name : Draw) (who : ℕ) (r : ReplicaState) → view_at (births as_nodes scenario) quiet name who ≡ Some r → works r ≡ []
-  idle name who r has = rests_idle r (rests.is.quiet.at_rest name who r (sym (seen name who) ∙ has))
+  idle name who r has = rests_idle r (rests.fact.quiet.at_rest name who r (sym (seen name who) ∙ has))
 
   -- ---- the one that takes it
 
@@ -134,22 +133,19 @@ module _ (words : ℕ → ℕ → ℕ × ℕ) (scenario : Scenario) (first : Bas
         same_here : view_at (births as_nodes scenario) next group seat.who ≡ view_at (births as_nodes scenario) quiet group seat.who → Done
         same_here e = same_not (ap (view_at all next group) here ∙ (e ∙ ap (view_at all quiet group) (sym here)))
 
-        of_client : (client : ClientState) → value player_table seat quiet ≡ Client client → Done
-        of_client client is = absurd (none_some (sym (view_is all quiet seat (Told line) group t.seated (Client client) is (Some (ToldInput line)) refl) ∙ now_here))
-
-        module _ (node : NodeState) (is : value player_table seat quiet ≡ Node node) where
+        module _ (node : NodeState) (fact : value player_table seat quiet ≡ Node node) where
           refused : replica_of (group_of_order line.order) node.replicas ≡ None → Done
           refused none =
               let e : on_order line node ≡ ordered_of None line node = ap (λ o. ordered_of o line node) none in
-              same_here (now_is all quiet seat (Told line) node t.seated is (ordered_of None line node) (Some (ToldInput line)) refl (ap (λ (x : _). (Node x.0, x.1)) e) group
-              ∙ sym (was_is all quiet seat (Told line) node t.seated is (ordered_of None line node) (Some (ToldInput line)) refl (ap (λ (x : _). (Node x.0, x.1)) e) group))
+              same_here (now_is all quiet seat (Told line) node t.seated fact (ordered_of None line node) (Some (ToldInput line)) refl (ap (λ (x : _). (Node x.0, x.1)) e) group
+              ∙ sym (was_is all quiet seat (Told line) node t.seated fact (ordered_of None line node) (Some (ToldInput line)) refl (ap (λ (x : _). (Node x.0, x.1)) e) group))
 
           module _ (x : ReplicaState) (found_x : replica_of (group_of_order line.order) node.replicas ≡ Some x) where
             ordered : IsOrdered words (births as_nodes scenario) quiet seat line node x
-            ordered = record { seated = t.seated; timely = t.timely; is_node = is; here = found_x }
+            ordered = record { seated = t.seated; timely = t.timely; is_node = fact; here = found_x }
 
             rows_of : IsOfGroup words (births as_nodes scenario) quiet seat (Told line) (group_of_order line.order) × IsTablesRow (births as_nodes scenario) quiet seat (Told line) (group_of_order line.order) x (ordered_row node.draws line (x, []))
-            rows_of = rows_taken.ordered words all quiet seat line node x t.seated t.timely is found_x
+            rows_of = rows_taken.ordered words all quiet seat line node x t.seated t.timely fact found_x
 
             other : LeavesOrMakes (births as_nodes scenario) quiet seat (Told line) group → Done
             other (inl e) = same_here e
@@ -162,11 +158,11 @@ module _ (words : ℕ → ℕ → ℕ × ℕ) (scenario : Scenario) (first : Bas
                 absurd (one_not_none work (works r) has_work (ap works (now_is_so own) ∙ (w.work ∙ idle (group_of_order line.order) seat.who x rows_of.1.was)))
               where
                 now_is_so : group_of_order line.order ≡ group → r ≡ (ordered_row node.draws line (x, [])).0
-                now_is_so e = same_Some r (ordered_row node.draws line (x, [])).0 (sym now_here ∙ (ap (λ n. view_at all next n seat.who) (sym e) ∙ rows_of.1.is))
+                now_is_so e = same_Some r (ordered_row node.draws line (x, [])).0 (sym now_here ∙ (ap (λ n. view_at all next n seat.who) (sym e) ∙ rows_of.1.fact))
             taken own (ByLeader leads unbound goes nothing) = by (untaken node.draws line x) refl
               where
                 now_is_so : r ≡ (ordered_row node.draws line (x, [])).0
-                now_is_so = same_Some r (ordered_row node.draws line (x, [])).0 (sym now_here ∙ (ap (λ n. view_at all next n seat.who) (sym own) ∙ rows_of.1.is))
+                now_is_so = same_Some r (ordered_row node.draws line (x, [])).0 (sym now_here ∙ (ap (λ n. view_at all next n seat.who) (sym own) ∙ rows_of.1.fact))
 
                 may : MayFile x
                 may = record { running = leads.running; unbound = unbound; idle = idle (group_of_order line.order) seat.who x rows_of.1.was }
@@ -183,12 +179,12 @@ module _ (words : ℕ → ℕ → ℕ × ℕ) (scenario : Scenario) (first : Bas
                         was = ap (view_at all quiet group) here ∙ (ap (λ n. view_at all quiet n seat.who) (sym own) ∙ rows_of.1.was);
                         led = leads.running;
                         now = r;
-                        is = has;
+                        fact = has;
                         entries = [];
                         did = tt;
                         group_is = ap (λ (y : ReplicaState). y.group) now_is_so ∙ w.3.group;
                       },
-                      new_work (IsUnused scenario quiet) (next_name node.draws) line.number line.order work (unused node is) (w.2 ∙ ap Some is_work),
+                      new_work (IsUnused scenario quiet) (next_name node.draws) line.number line.order work (unused node fact) (w.2 ∙ ap Some is_work),
                     )
 
             at_replica : Done
@@ -202,8 +198,8 @@ module _ (words : ℕ → ℕ → ℕ × ℕ) (scenario : Scenario) (first : Bas
           by_replica (Some x) e = at_replica x e
 
         by_player : (player : Player) → value player_table seat quiet ≡ player → Done
-        by_player (Client client) is = of_client client is
-        by_player (Node node) is = by_replica node is (replica_of (group_of_order line.order) node.replicas) refl
+        by_player (Client client) fact = absurd (none_some (sym (view_is all quiet seat (Told line) group t.seated (Client client) fact (Some (ToldInput line)) refl) ∙ now_here))
+        by_player (Node node) fact = by_replica node fact (replica_of (group_of_order line.order) node.replicas) refl
 
       at_chief : Done
       at_chief = elim (cases_Bool (eqb chief seat.who)) [
@@ -233,5 +229,5 @@ module _ (words : ℕ → ℕ → ℕ × ℕ) (scenario : Scenario) (first : Bas
 
 pub true_begins : ValidScenariosAreBounded → ValidScenariosBeginWell → TakenOrdersAreAllowed → TakenWishesAreAllowed → WishesAreAtPositions → OtherNamesAreFree → NodesHaveNames → TrueOrdersBegin
 true_begins bounded begin allowed wishes positions free names words scenario first journal quiet seat line stage calm rests seen t stands =
-    let lawful : Lawful as_nodes words scenario quiet = lawful-prefix (system_of as_nodes words scenario) (schedule scenario) quiet rests.prefix.more (subst (Lawful as_nodes words scenario) rests.prefix.is calm.lawful) in
-    begins words scenario first journal quiet seat line calm rests seen t (λ node is. next_unused bounded begin allowed wishes positions free names words scenario quiet calm.valid lawful seat t.seated node is) stage stands
+    let lawful : Lawful as_nodes words scenario quiet = lawful-prefix (system_of as_nodes words scenario) (schedule scenario) quiet rests.prefix.more (subst (Lawful as_nodes words scenario) rests.prefix.fact calm.lawful) in
+    begins words scenario first journal quiet seat line calm rests seen t (λ node fact. next_unused bounded begin allowed wishes positions free names words scenario quiet calm.valid lawful seat t.seated node fact) stage stands

@@ -18,15 +18,15 @@ use Rattle.sc_live_journals.specs.rows.Definitions.{view_at, with_event}
 use Rattle.sc_live_journals.proofs.RowsProofs.Lemmas.{view_was}
 use Rattle.sc_live_journals.specs.mail.Definitions.{SlotsAreLeft, ReplicasLast, MailMayCome}
 use Rattle.sc_live_journals.specs.logs.Definitions.{ViewsAreReplicas, SlotsHaveRosters, logged_sets}
-use Rattle.sc_live_answers.specs.Definitions.{ReplicasRunLogs, IsUnsettled, IsNamedGuide, NewestStay, WellLedLeadAlone, IsOrdersRow, OrdersRowsFind, OrdersRowsMeet, IsQuietWhileYoung, IsSentStep, NextRowsAreSent, SentReplicas, IsNoRequest, IsPlainAt, over_at, slot_leaders_at, NextRowsRise, IsRisingOn, IsRoundSince, OrdersKeepRounds, PrefixesAreFound, NoMailForStrangers, IsCalmJournal, AreSent, ContinuesBy, IsNamedGroup, IsUnder, IsYoungAt, AllLeadAlone, IsKnownMail, OrderRowsFindCalm, ViewsAgree, ChildrenAreCreated, IsWorkingRow, ChildrenWereNowhere, IsUnanswered, YoungGroupsStay, AreSeen, IsTrueSince, LeadsSince, EntriesAreTrue, MailComesUnsettled, TakesSince, IsHinted, CoordinatorsAreHinted, HintedOrdersGoOn, AreSettled, CoordinatorsAreSettled, SettledOrdersGoOn, EndingGroupsGoOn, IsGoingSince, NamesStayFew, NoneWaits, AskedGroupsStood, ContinuesSince, TrueOrdersGoOn, IsGuidedRow, DeliveriesKeepWork, WorkStandsAlone, FlightsAreEntries, OrderErrandsGoToNodes, IsOfJournal, IsOrderedSince, DeliveriesKeepOrdered, TakersAreNodes, LawfulReplicasAreNamedOnce, IsTrueEntry, Does, HasNumber, LockNumber, IsRefusalSent, IsReported, IsGiven, IsOrderHeld, IsPrefixOf}
+use Rattle.sc_live_answers.specs.Definitions.{ReplicasRunLogs, IsUnsettled, IsNamedGuide, NewestStay, WellLedLeadAlone, IsOrdersRow, OrdersRowsFind, OrdersRowsMeet, IsSentStep, NextRowsAreSent, SentReplicas, IsNoRequest, IsPlainAt, over_at, slot_leaders_at, NextRowsRise, IsRisingOn, IsRoundSince, OrdersKeepRounds, PrefixesAreFound, NoMailForStrangers, IsCalmJournal, AreSent, ContinuesBy, IsNamedGroup, IsUnder, IsYoungAt, AllLeadAlone, IsKnownMail, OrderRowsFindCalm, ViewsAgree, ChildrenAreCreated, IsWorkingRow, ChildrenWereNowhere, IsUnanswered, YoungGroupsStay, AreSeen, IsTrueSince, LeadsSince, EntriesAreTrue, MailComesUnsettled, TakesSince, IsHinted, CoordinatorsAreHinted, HintedOrdersGoOn, AreSettled, CoordinatorsAreSettled, SettledOrdersGoOn, EndingGroupsGoOn, IsGoingSince, NamesStayFew, NoneWaits, AskedGroupsStood, ContinuesSince, TrueOrdersGoOn, IsGuidedRow, DeliveriesKeepWork, WorkStandsAlone, FlightsAreEntries, OrderErrandsGoToNodes, IsOfJournal, IsOrderedSince, DeliveriesKeepOrdered, TakersAreNodes, LawfulReplicasAreNamedOnce, IsTrueEntry, Does, HasNumber, LockNumber, IsRefusalSent, IsReported, IsGiven, IsOrderHeld, IsPrefixOf}
 use Rattle.sc_live_journals.specs.scenes.Definitions.{IsThere, IsNowhere, AreUntouched, IsDelivered, FreshGroupsStay, FindsOrder, GoesBy, StageAfter, IsTaking, LeadsAlone, scene_at}
-use Rattle.sc_live_steps.specs.entries.LoneEntries.{IsEntry}
+use Rattle.sc_live_steps.specs.entries.StageEntries.{IsEntry}
 use Rattle.sc_live_journals.specs.charts.Definitions.{chart_at, quiet_prefix}
 use Rattle.sc_live_plain.specs.Definitions.{replicas_after, DoHintsRise}
 use Rattle.sc_live_plain.proofs.Lemmas.{each_numbered}
 use Rattle.sc_client_table.specs.table.Definitions.{Client as ClientState}
-use Rattle.sc_live_answers.proofs.GroupsProofs.GuidedGroups as at_row
-use Rattle.sc_live_answers.proofs.GroupsProofs.GuidedGroups.{named_there, lead_alone}
+use Rattle.sc_live_answers.proofs.LedGroupsProofs.GuidedGroups as at_row
+use Rattle.sc_live_answers.proofs.LedGroupsProofs.GuidedGroups.{AreQuietWhileYoung, named_there, lead_alone}
 use Rattle.sc_live_answers.proofs.OrdersProofs.ClientsUnderOrders.{started_still, other_stays}
 use Rattle.sc_live_answers.proofs.ReplicasProofs.PlayerReplicas.{place_of}
 use Rattle.sc_live_answers.proofs.ErrandsProofs.SentMailGroups.{known_after}
@@ -68,7 +68,7 @@ module _ (all_bounded : ValidScenariosAreBounded) (few_law : SlotsAreLeft) (logs
   abbrev under : IsUnder words scenario first journal quiet rows
   under = o.under
 
-  young : (base : Base) → Among base (groups_at as_nodes scenario.groups journal) → IsQuietWhileYoung words all rows base
+  young : AreQuietWhileYoung words scenario journal rows
   young = at_row.young_quiet last_law no_law words scenario first journal quiet rows o.behind seat number calm o.rows_are under on
 
   guide_of : (name : Draw) → IsNamedGroup scenario journal name → IsNamedGuide words all rows seat (Deliver number) name
@@ -86,7 +86,7 @@ module _ (all_bounded : ValidScenariosAreBounded) (few_law : SlotsAreLeft) (logs
 
   -- a node takes it
   nodes : (client : ClientState) → value player_table seat rows ≡ Client client → ⊥
-  nodes client is = takers_law words scenario first journal quiet rows seat number calm o on client is
+  nodes client fact = takers_law words scenario first journal quiet rows seat number calm o on client fact
 
   seen : AreSeen scenario quiet
   seen name node = agree_law.nodes scenario quiet name node (all_bounded scenario calm.valid) (found_law words scenario journal quiet calm under.rests.prefix).homes
@@ -97,13 +97,13 @@ module _ (all_bounded : ValidScenariosAreBounded) (few_law : SlotsAreLeft) (logs
       let d = at_row.delivered last_law no_law words scenario first journal quiet rows o.behind seat number calm o.rows_are under on in
       let both : Some d.mail ≡ Some mail = sym d.sent ∙ at in
       let same : d.mail ≡ mail = cc in
-      let is = is_born-from s seat.who seat on.seated in
-      let first_known = (subst (Each (IsOfJournal scenario journal)) d.first (o.known seat.who is)).0 in
+      let fact = is_born-from s seat.who seat on.seated in
+      let first_known = (subst (Each (IsOfJournal scenario journal)) d.first (o.known seat.who fact)).0 in
       let known = subst (IsOfJournal scenario journal) same first_known in (
         known,
         λ name of. elim (at_row.there_now last_law no_law words scenario first journal quiet rows o.behind seat number calm o.rows_are under on name (known name of)) [
           | inl there ↦ there
-          | inr none ↦ absurd (subst (λ (m : Mail). group_of_mail m.body ≡ Some name → ⊥) same (subst (Each (λ (m : Mail). group_of_mail m.body ≡ Some name → ⊥)) d.first (none seat.who is)).0 of)
+          | inr none ↦ absurd (subst (λ (m : Mail). group_of_mail m.body ≡ Some name → ⊥) same (subst (Each (λ (m : Mail). group_of_mail m.body ≡ Some name → ⊥)) d.first (none seat.who fact)).0 of)
         ],
       )
 
@@ -119,7 +119,7 @@ module _ (all_bounded : ValidScenariosAreBounded) (few_law : SlotsAreLeft) (logs
   ]
 
   viewed : (group : Draw) (node : NodeState) (r : ReplicaState) → value player_table seat rows ≡ Node node → replica_of group node.replicas ≡ Some r → view_at all rows group seat.who ≡ Some r
-  viewed group node r is here = view_was all rows seat (Deliver number) group on.seated (Node node) is ∙ here
+  viewed group node r fact here = view_was all rows seat (Deliver number) group on.seated (Node node) fact ∙ here
 
   -- one that runs leads its group alone, with only work in flight
   lead_at : (name : Draw) (node : ℕ) (r : ReplicaState) → view_at all rows name node ≡ Some r → r.running ≡ true → LeadsAlone all rows name node r
@@ -161,7 +161,7 @@ module _ (all_bounded : ValidScenariosAreBounded) (few_law : SlotsAreLeft) (logs
         (let view = viewed group node r taking.is_node here in
         (stands_law.alone o.task group r (o.work.replicas group seat.who r view), entries_law words scenario first journal quiet rows group seat.who r under.stage (leads_since group seat.who r view runs)));
     told = λ line e. cc;
-    clients = λ client is. absurd (nodes client is);
+    clients = λ client fact. absurd (nodes client fact);
   }
 
   -- what is delivered meets what an order needs; and children were nowhere
@@ -289,7 +289,7 @@ module _ (all_bounded : ValidScenariosAreBounded) (few_law : SlotsAreLeft) (logs
     is_task = o.is_task;
     work = work_law.keeps words scenario rows seat number o.task guided_row o.work;
     created = created_law.keeps words scenario first journal quiet rows o.line o.task seat number working o.created;
-    clients = λ other client is was. (let h = o.clients other client is was in (other_stays all rows seat other on.seated is (Deliver number) client (nodes client) h.0, started_still rows row other.who refl ∙ h.1));
+    clients = λ other client fact was. (let h = o.clients other client fact was in (other_stays all rows seat other on.seated fact (Deliver number) client (nodes client) h.0, started_still rows row other.who refl ∙ h.1));
     known = known_after words scenario journal quiet rows seat number next_stage.0 on.seated on.timely unanswered (named_there found_law words scenario journal quiet calm under.rests.prefix) next_stage.1 o.known;
     home = errands_law words scenario journal quiet rows row next_stage.0 calm under.rests.prefix on.prefix next_stage.1.stands hinted_after o.home;
     waits = waits_law.goes_on words scenario journal rows seat number calm on sent_after o.waits;
@@ -311,7 +311,7 @@ module _ (all_bounded : ValidScenariosAreBounded) (few_law : SlotsAreLeft) (logs
       (p.0, lead_at (name_of r) p.0 r p.1 runs)
 
   mail_so : (mail : Mail) (node : NodeState) (name : Draw) → numbered (mails rows) number ≡ Some mail → value player_table seat rows ≡ Node node → group_of_mail mail.body ≡ Some name → IsKnownMail scenario journal mail node name
-  mail_so mail node name at is of = record {
+  mail_so mail node name at fact of = record {
     base = g.0;
     among = g.1;
     named = g.2;
@@ -319,7 +319,7 @@ module _ (all_bounded : ValidScenariosAreBounded) (few_law : SlotsAreLeft) (logs
     unsettled = λ r here. unsettled mail name node r taking here;
     unasked = no_request mail.body (λ group client seq op body. work_law.unasked words all rows seat number o.task on.seated on.timely o.work mail group client seq op at body);
     counts = λ r here runs.
-        (let view = viewed name node r is here in
+        (let view = viewed name node r fact here in
         let w = o.work.replicas name seat.who r view in
         record { alone = stands_law.alone o.task name r w; backlog = λ some. w.backlog; entries = Each-from (λ (flight : Flight Command). IsEntry flight.value r × (length (applied r.group flight.value).0.core.members ≤ 9)) r.leader.flights (flights_law words scenario first journal quiet rows name seat.who r under.stage (leads_since name seat.who r view runs)) });
   }
@@ -328,11 +328,11 @@ module _ (all_bounded : ValidScenariosAreBounded) (few_law : SlotsAreLeft) (logs
       g = (mail_known mail at).0 name of
 
       taking : IsTaking words all rows seat number mail name node
-      taking = record { seated = on.seated; timely = on.timely; is_node = is; me_is = finds.me_is node is; sent = at; comes = each_numbered (λ (m : Mail). may_come m.from m.body ≡ true) (mails rows) number mail (come_law words scenario rows (all_bounded scenario calm.valid) before) at; named = of }
+      taking = record { seated = on.seated; timely = on.timely; is_node = fact; me_is = finds.me_is node fact; sent = at; comes = each_numbered (λ (m : Mail). may_come m.from m.body ≡ true) (mails rows) number mail (come_law words scenario rows (all_bounded scenario calm.valid) before) at; named = of }
 
       plain_at : (x : Option ReplicaState) → replica_of name node.replicas ≡ x → IsPlainAt x
       plain_at None here = tt
-      plain_at (Some r) here = λ off. plain_law.plain _ _ _ words all rows g.0 (under.sent g.0 g.1) seat.who r (ap (λ n. view_at all rows n seat.who) g.2 ∙ viewed name node r is here)
+      plain_at (Some r) here = λ off. plain_law.plain _ _ _ words all rows g.0 (under.sent g.0 g.1) seat.who r (ap (λ n. view_at all rows n seat.who) g.2 ∙ viewed name node r fact here)
 
   found : (far sent : ℕ) → quiet_prefix s rows ≡ quiet → DoHintsRise (replicas_after scenario quiet) (chart_at far sent s rows).ways → FindsCalm (chart_at far sent s rows) all rows seat (Deliver number)
   found far sent prefix rise =

@@ -15,17 +15,17 @@ use Rattle.sc_live_steps.specs.orders.Definitions.{Stage, Still}
 use Rattle.sc_live_journals.specs.rows.Definitions.{view_at, marks_at, IsSeat, with_event}
 use Rattle.sc_live_journals.specs.mail.Definitions.{SlotsAreLeft}
 use Rattle.sc_live_journals.specs.logs.Definitions.{ViewsAreReplicas, SlotsHaveRosters, logged_sets}
-use Rattle.sc_live_answers.specs.Definitions.{ReplicasRunLogs, IsNamedGuide, IsReachedSo, NewestStay, IsOrdersRow, OrdersRowsFind, IsQuietWhileYoung, IsSentStep, NextRowsAreSent, SentReplicas, over_at, slot_leaders_at, NextRowsRise, IsRisingOn, IsRoundSince, OrdersKeepRounds, PrefixesAreFound, IsFoundPrefix, NoMailForStrangers, GoesToNode, OrderErrandsGoToNodes, NodeErrandsReachPlayers, IsCalmJournal, IsPrefixOf, AreSent, IsNamedGroup, RestsAt, IsUnder, IsYoungAt, GivenOrdersFindCalm, ViewsAgree, ChildrenAreCreated, YoungGroupsStay, TrueOrdersBegin, EndingGroupsBegin, NamesStayFew, NoneWaits, IsHinted, HintedOrdersBegin, SettledOrdersBegin, AreSeen, OrdersBeginWork, WorkStandsAlone, IsOrderedSince, OrdersBeginOrdered, IsGiven}
-use Rattle.sc_live_journals.specs.scenes.Definitions.{IsNowhere, AreUntouched, IsGivenInQuiet, FreshGroupsStay, FindsOrder, FoundOrdersStep, StageAfter}
+use Rattle.sc_live_answers.specs.Definitions.{ReplicasRunLogs, IsNamedGuide, IsReachedSo, NewestStay, IsOrdersRow, OrdersRowsFind, IsSentStep, NextRowsAreSent, SentReplicas, over_at, slot_leaders_at, NextRowsRise, IsRisingOn, IsRoundSince, OrdersKeepRounds, PrefixesAreFound, IsFoundPrefix, NoMailForStrangers, GoesToNode, OrderErrandsGoToNodes, NodeErrandsReachPlayers, IsCalmJournal, IsPrefixOf, AreSent, IsNamedGroup, RestsAt, IsUnder, GivenOrdersFindCalm, ViewsAgree, ChildrenAreCreated, YoungGroupsStay, TrueOrdersBegin, EndingGroupsBegin, NamesStayFew, NoneWaits, IsHinted, HintedOrdersBegin, SettledOrdersBegin, AreSeen, OrdersBeginWork, WorkStandsAlone, IsOrderedSince, OrdersBeginOrdered, IsGiven}
+use Rattle.sc_live_journals.specs.scenes.Definitions.{AreUntouched, IsGivenInQuiet, FreshGroupsStay, FindsOrder, FoundOrdersStep, StageAfter}
 use Rattle.sc_live_journals.specs.charts.Definitions.{chart_at}
-use Rattle.sc_live_answers.proofs.GroupsProofs.GuidedGroups as at_row
-use Rattle.sc_live_answers.proofs.GroupsProofs.GuidedGroups.{named_there, reached_even, lead_alone}
+use Rattle.sc_live_answers.proofs.LedGroupsProofs.GuidedGroups as at_row
+use Rattle.sc_live_answers.proofs.LedGroupsProofs.GuidedGroups.{AreQuietWhileYoung, named_there, reached_even, lead_alone}
 use Rattle.sc_live_answers.proofs.OrdersProofs.ClientsUnderOrders.{started_still, told_stays}
 use Rattle.sc_live_answers.proofs.ErrandsProofs.SentMailGroups.{known_told}
 use Rattle.sc_group_table.specs.policy.Definitions.{is_reported as is_told_order}
 use Rattle.sc_live_answers.proofs.OrdersProofs.HeldOrdersAtStart.{given_allowed, given_rows, refusal_at_start, held_at_start}
-use Rattle.sc_live_answers.proofs.MailProofs.WellLedLeaders.{well_led_lead_alone}
-use Rattle.sc_live_answers.proofs.GroupsProofs.JournalGroups.{calm_group, calm_slots}
+use Rattle.sc_live_answers.proofs.LedMailProofs.WellLedLeaders.{well_led_lead_alone}
+use Rattle.sc_live_answers.proofs.LedGroupsProofs.JournalGroups.{calm_group, calm_slots}
 use Rattle.sc_live_answers.proofs.RestProofs.RestAfterOrders.{none_pending}
 
 module _ (all_bounded : ValidScenariosAreBounded) (few_law : SlotsAreLeft) (logs_law : ReplicasRunLogs) (views_law : ViewsAreReplicas) (rosters_law : SlotsHaveRosters) (next_law : NextRowsAreSent) (newest_law : NewestStay) (found_law : PrefixesAreFound) (no_law : NoMailForStrangers)
@@ -50,11 +50,11 @@ module _ (all_bounded : ValidScenariosAreBounded) (few_law : SlotsAreLeft) (logs
   strangers : (name : Draw) (who : ℕ) → is_born s who ≡ false → marks_at s quiet name who ≡ []
   strangers = no_law.strangers words scenario journal quiet calm rests.prefix rests.sent
 
-  young : (base : Base) → Among base (groups_at as_nodes scenario.groups journal) → IsQuietWhileYoung words all quiet base
+  young : AreQuietWhileYoung words scenario journal quiet
   young base among who member absent = none_pending no_law words scenario first journal quiet calm rests base.core.id who
 
   abbrev reached : (base : Base) (among : Among base (groups_at as_nodes scenario.groups journal)) → IsReachedSo all quiet base (rests.sent base among).course
-  reached base among = reached_even rosters_law logs_law views_law words scenario journal quiet rests.prefix.more base (calm_group words scenario journal calm base among) rests.prefix.is (rests.sent base among) (none_pending no_law words scenario first journal quiet calm rests base.core.id)
+  reached base among = reached_even rosters_law logs_law views_law words scenario journal quiet rests.prefix.more base (calm_group words scenario journal calm base among) rests.prefix.fact (rests.sent base among) (none_pending no_law words scenario first journal quiet calm rests base.core.id)
 
   guide_of : (name : Draw) → IsNamedGroup scenario journal name → IsNamedGuide words all quiet seat (Told line) name
   guide_of = at_row.guide_of few_law logs_law views_law rosters_law next_law newest_law found_law no_law words scenario journal quiet seat (Told line) calm prefix seated timely rests.sent reached young
@@ -67,10 +67,10 @@ module _ (all_bounded : ValidScenariosAreBounded) (few_law : SlotsAreLeft) (logs
 
   -- each replica rests
   at_rest : (name : Draw) (who : ℕ) (r : ReplicaState) → view_at all quiet name who ≡ Some r → IsAtRest r
-  at_rest name who r e = rests.is.quiet.at_rest name who r (sym (seen name who) ∙ e)
+  at_rest name who r e = rests.fact.quiet.at_rest name who r (sym (seen name who) ∙ e)
 
   room : (name : Draw) (who : ℕ) (r : ReplicaState) → view_at all quiet name who ≡ Some r → next r ≤ last_slot
-  room name who r e = (calm_slots words scenario journal calm few_law (named_there found_law words scenario journal quiet calm rests.prefix name (who, r, e)).0 quiet rests.prefix.more who r rests.prefix.is
+  room name who r e = (calm_slots words scenario journal calm few_law (named_there found_law words scenario journal quiet calm rests.prefix name (who, r, e)).0 quiet rests.prefix.more who r rests.prefix.fact
       (ap (λ n. view_at all quiet n who) (named_there found_law words scenario journal quiet calm rests.prefix name (who, r, e)).2 ∙ e)).0
 
   plain : (name : Draw) (who : ℕ) (r : ReplicaState) → view_at all quiet name who ≡ Some r → r.leader.reports ≡ []
@@ -93,7 +93,7 @@ module _ (all_bounded : ValidScenariosAreBounded) (few_law : SlotsAreLeft) (logs
       strangers = strangers;
       room = λ name node r view runs. (room name node r view, stands_law.rests r (at_rest name node r view));
     };
-    clients = λ client is. refl;
+    clients = λ client fact. refl;
   }
 
   finds : FindsOrder words all quiet seat (Told line)
@@ -105,18 +105,15 @@ module _ (all_bounded : ValidScenariosAreBounded) (few_law : SlotsAreLeft) (logs
   begun : (stage : Stage) × AreUntouched words all quiet then stage
   begun = fresh_law.begins words all quiet seat line told_so
 
-  young_after : (base : Base) → Among base (groups_at as_nodes scenario.groups journal) → IsNowhere all quiet base.core.id → IsYoungAt words all then base
-  young_after base among nowhere = young_law.begins words scenario quiet seat line begun.0 seated timely rests.calm begun.1 base nowhere
-
   under_after : IsUnder words scenario first journal quiet then
   under_after = record {
     rests = rests;
     prefix = prefix;
     sent = sent_after;
-    reached = λ base among. at_row.reached_after few_law logs_law views_law rosters_law next_law newest_law found_law no_law words scenario journal quiet seat (Told line) calm prefix seated timely rests.sent reached young base among (young_after base among);
+    reached = λ base among. at_row.reached_after few_law logs_law views_law rosters_law next_law newest_law found_law no_law words scenario journal quiet seat (Told line) calm prefix seated timely rests.sent reached young base among (young_law.begins words scenario quiet seat line begun.0 seated timely rests.calm begun.1 base);
     stage = begun.0;
     untouched = begun.1;
-    young = young_after;
+    young = λ base among nowhere. young_law.begins words scenario quiet seat line begun.0 seated timely rests.calm begun.1 base nowhere;
   }
 
   steps : (base : Base) (among : Among base (groups_at as_nodes scenario.groups journal))
@@ -174,7 +171,7 @@ module _ (all_bounded : ValidScenariosAreBounded) (few_law : SlotsAreLeft) (logs
         is_task = work.1;
         work = work.2;
         created = created_law.begins words scenario journal quiet seat line work.0 seated timely work.1;
-        clients = λ other client is was. (told_stays all quiet seat other seated is line client was, started_still quiet row other.who refl);
+        clients = λ other client fact was. (told_stays all quiet seat other seated fact line client was, started_still quiet row other.who refl);
         known = known_told words scenario journal quiet seat line begun.0 seated timely rests.calm (named_there found_law words scenario journal quiet calm rests.prefix) begun.1;
         home = errands_law words scenario journal quiet quiet row begun.0 calm rests.prefix prefix begun.1.stands hinted_after home;
         waits = waits_law.begins words scenario first journal quiet seat line calm rests seated prefix sent_after;

@@ -4,17 +4,17 @@ use Rattle.sc_live_answers.proofs.OrdersProofs.OrderFactLaws.{replicas_are_recor
 use Rattle.sc_live_journals.proofs.ScenesProofs.Lemmas.{quiet_scenes_are_over, fresh_groups_stay, found_orders_step}
 use Rattle.sc_law_groups.proofs.WholeProofs.Lemmas.{members_stay_rosters}
 use Rattle.sc_live_journals.proofs.LogsProofs.Lemmas.{slots_have_rosters, views_are_replicas}
-use Rattle.sc_live_answers.proofs.GroupsProofs.LedGroupLaws.{replicas_run_logs}
+use Rattle.sc_live_answers.proofs.LedGroupsProofs.LedGroupLaws.{replicas_run_logs}
 use Rattle.sc_live_answers.specs.Definitions.{FlightsAreEntries, DeliveriesKeepOrdered, OrdersBeginOrdered}
 use Rattle.sc_live_answers.proofs.OrdersProofs.OrderInvariantAfterDeliveries.{deliveries_keep}
 use Rattle.sc_scenario.proofs.ScenarioProofs.Lemmas.{valid_scenarios_are_bounded}
 use Rattle.sc_live_journals.proofs.MailProofs.Lemmas.{slots_are_left, replicas_last, mail_may_come}
-use Rattle.sc_live_answers.proofs.MailProofs.GroupMailLaws.{next_rows_are_sent}
+use Rattle.sc_live_answers.proofs.LedMailProofs.GroupMailLaws.{next_rows_are_sent}
 use Rattle.sc_live_answers.proofs.BallotsProofs.NewestReplicas.{newest_stay}
 use Rattle.sc_live_answers.proofs.QuietProofs.QuietPrefixLaws.{prefixes_are_found, no_mail_for_strangers}
 use Rattle.sc_live_answers.proofs.ReplicasProofs.PlayerViews.{views_agree}
-use Rattle.sc_live_answers.proofs.MailProofs.WellLedLeaders.{well_led_lead_alone}
-use Rattle.sc_live_answers.proofs.MailProofs.GroupMail.{sent_replicas}
+use Rattle.sc_live_answers.proofs.LedMailProofs.WellLedLeaders.{well_led_lead_alone}
+use Rattle.sc_live_answers.proofs.LedMailProofs.GroupMail.{sent_replicas}
 use Rattle.sc_live_answers.proofs.OrdersProofs.OrderRowPremises.{orders_rows_meet, orders_rows_find}
 use Rattle.sc_live_answers.proofs.BallotsProofs.HintLaws.{next_rows_rise, orders_keep_rounds}
 use Rattle.sc_live_answers.proofs.ChildrenProofs.YoungGroupLaws.{children_were_nowhere, children_are_created, young_groups_stay}

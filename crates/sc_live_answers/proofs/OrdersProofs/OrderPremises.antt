@@ -13,7 +13,7 @@ use Rattle.sc_node_table.specs.Definitions.{NodeState, replica_of, group_of_orde
 use Rattle.sc_scenario.specs.declared.scenario.scenarios.Scenario.{Scenario}
 use Rattle.sc_scenario.specs.scenario.Definitions.{ValidScenariosAreBounded}
 use Rattle.sc_meaning.specs.sound.Definitions.{Player, player_table, births, as_nodes}
-use Rattle.sc_live_steps.specs.calm.Definitions.{players, FindsCalm, MayBeTold, idle_owes, StandsOnce, IsCalmOrder, IsAtRest, Rows, led_elsewhere, is_led}
+use Rattle.sc_live_steps.specs.calm.Definitions.{players, FindsCalm, MayBeOrdered, idle_owes, StandsOnce, IsCalmOrder, IsAtRest, Rows, led_elsewhere, is_led}
 use Rattle.sc_live_journals.specs.rows.Definitions.{replicas_of, replica_in, view_at, IsSeat}
 use Rattle.sc_live_journals.specs.charts.Definitions.{names_at, chart_at, LedStandOnce}
 use Rattle.sc_live_steps.specs.orders.Definitions.{works, works_in, works_flying, works_ready, TablesOrder}
@@ -53,15 +53,15 @@ module _ (order : TablesOrder) (views : ViewsAgree) (led_once : LedStandOnce) (a
   agree : (group : Draw) (who : ℕ) → view_at all quiet group who ≡ replicas_after scenario quiet group who
   agree group who = views.nodes scenario quiet group who (all_bounded scenario calm.valid) homes
 
-  module _ (node : NodeState) (is : value player_table seat quiet ≡ Node node) (r : ReplicaState) (here : replica_of name node.replicas ≡ Some r) where
+  module _ (node : NodeState) (fact : value player_table seat quiet ≡ Node node) (r : ReplicaState) (here : replica_of name node.replicas ≡ Some r) where
     view : view_at all quiet name seat.who ≡ Some r
-    view = ap (replica_in name quiet) seated ∙ (ap (λ player. replica_of name (replicas_of player)) is ∙ here)
+    view = ap (replica_in name quiet) seated ∙ (ap (λ player. replica_of name (replicas_of player)) fact ∙ here)
 
     there : replicas_after scenario quiet name seat.who ≡ Some r
     there = sym (agree name seat.who) ∙ view
 
     led : is_led all quiet name ≡ true
-    led = elim (rests.is.quiet.groups name seat.who (r, there)) [
+    led = elim (rests.fact.quiet.groups name seat.who (r, there)) [
       | inl q ↦ led_there all quiet name q.lead.me q.lead (agree name q.lead.me ∙ q.newest.is_there) (ap (λ b. b || is_some q.lead.group.core.gone) q.leads.running)
       | inr g ↦ led_there all quiet name g.last.me g.last (agree name g.last.me ∙ g.newest.is_there) (gone_leads g.last.running g.last.group.core.gone g.into g.went)
     ]
@@ -73,7 +73,7 @@ module _ (order : TablesOrder) (views : ViewsAgree) (led_once : LedStandOnce) (a
     stays = by (untaken node.draws line r) refl
       where
         taken : r.running ≡ true → untaken node.draws line r ≡ None → StaysSo r (ordered_row node.draws line (r, []))
-        taken runs none = (let w = (order.taken node.draws line r (record { running = runs; unbound = (rests.pumps name seat.who r there).unbound; idle = no_works r (rests.is.quiet.at_rest name seat.who r there) }) none).3 in record { group = w.group; running = w.running })
+        taken runs none = (let w = (order.taken node.draws line r (record { running = runs; unbound = (rests.pumps name seat.who r there).unbound; idle = no_works r (rests.fact.quiet.at_rest name seat.who r there) }) none).3 in record { group = w.group; running = w.running })
 
         by : (o : Option OrderRefusal) → untaken node.draws line r ≡ o → StaysSo r (ordered_row node.draws line (r, []))
         by (Some why) e = (let w = order.refused node.draws line why r e in record { group = w.group; running = w.running })
@@ -96,13 +96,13 @@ module _ (order : TablesOrder) (views : ViewsAgree) (led_once : LedStandOnce) (a
   told : FindsCalm (chart_at far sent (players words (births as_nodes scenario)) quiet) (births as_nodes scenario) quiet seat (Told line)
   told = by (value player_table seat quiet) refl
     where
-      by : (player : Player) → value player_table seat quiet ≡ player → MayBeTold (chart_at far sent (players words (births as_nodes scenario)) quiet) (led_elsewhere all quiet seat.who) line player
-      by (Client client) is = tt
-      by (Node node) is = of (replica_of name node.replicas) refl
+      by : (player : Player) → value player_table seat quiet ≡ player → MayBeOrdered (chart_at far sent (players words (births as_nodes scenario)) quiet) (led_elsewhere all quiet seat.who) line player
+      by (Client client) fact = tt
+      by (Node node) fact = of (replica_of name node.replicas) refl
         where
-          of : (o : Option ReplicaState) → replica_of name node.replicas ≡ o → MayBeTold (chart_at far sent (players words (births as_nodes scenario)) quiet) (led_elsewhere all quiet seat.who) line (Node node)
+          of : (o : Option ReplicaState) → replica_of name node.replicas ≡ o → MayBeOrdered (chart_at far sent (players words (births as_nodes scenario)) quiet) (led_elsewhere all quiet seat.who) line (Node node)
           of None e = inl e
-          of (Some r) e = inr (r, once node is r e, order_so node is r e)
+          of (Some r) e = inr (r, once node fact r e, order_so node fact r e)
 
 pub given_orders_find : TablesOrder → ViewsAgree → LedStandOnce → ValidScenariosAreBounded → GivenOrdersFindCalm
 given_orders_find = told

@@ -14,8 +14,8 @@ use Rattle.sc_words.specs.declared.commands.votes.Vote.TheVariants as Says
 use Rattle.sc_group_table.specs.machine.Definitions.{Group, applied, ordered, split_group, begun_group, left_group, has_named, refusal_of, with_node, without_node, asks_watcher, participant_answered, committed, granted, released, vote_recorded, watch_recorded, can_split, may_merge, merged_route, merged_group, closing_group, closing_plan, can_repart, giving_plan, taking_plan, giving_group, taking_group, part_gift, taken, has_key_of, can_migrate, migrated_group}
 use Rattle.sc_node_table.specs.Definitions.{before_of, before_in, begun_result, outcome_result}
 use Rattle.sc_live_steps.specs.orders.Definitions.{Turn, First, Lone, Next, is_watch, Work, Opens, Records, Asking, IsOrder, work_by, bond_of, bond_in, turn_of}
-use Rattle.sc_live_steps.proofs.OrdersProofs.Lemmas.{orders-leave, records-leave}
-use Rattle.sc_live_steps.proofs.OrdersProofs.ErrandTables.{watch_is as asks_by}
+use Rattle.sc_live_steps.proofs.OrderStepsProofs.Lemmas.{orders-leave, records-leave}
+use Rattle.sc_live_steps.proofs.OrderStepsProofs.ErrandTables.{watch_is as asks_by}
 use Rattle.sc_live_journals.specs.scenes.Definitions.{StaysIn}
 use Rattle.sc_live_answers.specs.Definitions.{IsTrueEntry, HasNumber, LockNumber}
 use Rattle.sc_live_answers.proofs.VotesProofs.ReportedMail.{Ends}
@@ -54,15 +54,15 @@ abbrev Commits : Group × Effect → Type 0
 Commits x = (outcome : Outcome) → decided_in x.1 ≡ Some outcome → outcome_result outcome ≡ Committed
 
 commits_as : (made outcome : Outcome) → outcome_result made ≡ Committed → Some made ≡ Some outcome → outcome_result outcome ≡ Committed
-commits_as made outcome is e = (let same : outcome ≡ made = cc in ap outcome_result same ∙ is)
+commits_as made outcome fact e = (let same : outcome ≡ made = cc in ap outcome_result same ∙ fact)
 
 no_decision : (outcome : Outcome) → None ≡ Some outcome → outcome_result outcome ≡ Committed
 no_decision outcome e = absurd cc
 
 -- a plan whose outcome is so
 planned : (test : Bool) (after group : Group) (tx : Draw) (made : Outcome) → outcome_result made ≡ Committed → Commits (committed (cond test (Some (after, made)) None) group tx)
-planned true after group tx made is outcome e = commits_as made outcome is e
-planned false after group tx made is outcome e = no_decision outcome e
+planned true after group tx made fact outcome e = commits_as made outcome fact e
+planned false after group tx made fact outcome e = no_decision outcome e
 
 yes_grants : (body : Body) (group : Group) (tx : Draw) (order : ℕ) (frozen : Frozen) (by : ℕ) → Commits (granted body group tx order frozen by)
 yes_grants At.Merge group tx order frozen by =
@@ -97,7 +97,7 @@ watch_commits (Coordinating locked body order heard) group tx =
     cond_both (same_draw locked tx) _ _ Commits (λ _. cond_both (asks_watcher body heard) _ _ Commits (λ _. watch_releases body heard group tx) (λ _ outcome e. no_decision outcome e)) (λ _ outcome e. no_decision outcome e)
 
 not_aborted : (result : OrderResult) → result ≡ Committed → IsNoAbort result
-not_aborted result is e = (let both : Committed ≡ Aborted = sym is ∙ e in cc)
+not_aborted result fact e = (let both : Committed ≡ Aborted = sym fact ∙ e in cc)
 
 before_alone : (core : Core) (lock : Lock) → (before_in lock core).alone ≡ is_alone core
 before_alone core Free = refl
@@ -125,7 +125,7 @@ no_decides group why by tx asked turn (Coordinating locked body order heard) b f
 
 -- what is the work of an order is no other work
 order_same : (one work : Work) → Some one ≡ Some work → IsOrder work → IsOrder one
-order_same one work e is = subst IsOrder (let same : work ≡ one = cc in same) is
+order_same one work e fact = subst IsOrder (let same : work ≡ one = cc in same) fact
 
 module _ (n me : ℕ) (group : Group) where
   -- by the entry the group asks another one, and its leader stays a member
@@ -139,11 +139,11 @@ module _ (n me : ℕ) (group : Group) where
   split_ends : (at : ℕ) (child : Draw) (order : ℕ) → order ≡ n → has_named group.core child ≡ false → IsTrueEntry me group (Split at child order) → Result IsNoAbort (Split at child order)
   split_ends at child order number new true_so =
       let after : Group × Effect = ordered group.core.gone (refusal_of group.core (Split at child order)) (split_group group at child order) group in
-      let is : applied group (Split at child order) ≡ after = cond-false (has_named group.core child) (group, NoEffect child) after new in
+      let fact : applied group (Split at child order) ≡ after = cond-false (has_named group.core child) (group, NoEffect child) after new in
       elim (split_result at child order (before_of group.core).alone group.core.gone (refusal_of group.core (Split at child order)) (split_group group at child order) group) [
-        | inl r ↦ inl (r.0, inr (number, ap (λ (x : Group × Effect). begun_result (before_of group.core).alone x.1 (Split at child order)) is ∙ r.1), r.2)
+        | inl r ↦ inl (r.0, inr (number, ap (λ (x : Group × Effect). begun_result (before_of group.core).alone x.1 (Split at child order)) fact ∙ r.1), r.2)
         | inr c ↦ (
-            let changed : is_changed (applied group (Split at child order)).1 ≡ true = ap (λ (x : Group × Effect). is_changed x.1) is ∙ c.0 in
+            let changed : is_changed (applied group (Split at child order)).1 ≡ true = ap (λ (x : Group × Effect). is_changed x.1) fact ∙ c.0 in
             let alone : is_alone group.core ≡ false = sym (before_alone group.core group.core.lock) ∙ c.1 in
             inr (child, group.core.succ.group, Lone, (true_so alone changed).0, (orders-leave.split at child order me group alone changed).bond_is))
       ]
@@ -151,24 +151,24 @@ module _ (n me : ℕ) (group : Group) where
   begin_ends : (tx : Draw) (body : Body) (order : ℕ) → order ≡ n → has_named group.core tx ≡ false → IsTrueEntry me group (Begin tx body order) → Result IsNoAbort (Begin tx body order)
   begin_ends tx body order number new true_so =
       let after : Group × Effect = ordered group.core.gone (refusal_of group.core (Begin tx body order)) (begun_group group tx body order) group in
-      let is : applied group (Begin tx body order) ≡ after = cond-false (has_named group.core tx) (group, NoEffect tx) after new in
+      let fact : applied group (Begin tx body order) ≡ after = cond-false (has_named group.core tx) (group, NoEffect tx) after new in
       elim (begin_result tx body order (before_of group.core).alone group.core.gone (refusal_of group.core (Begin tx body order)) (begun_group group tx body order) group) [
-        | inl r ↦ inl (r.0, inr (number, ap (λ (x : Group × Effect). begun_result (before_of group.core).alone x.1 (Begin tx body order)) is ∙ r.1), r.2)
+        | inl r ↦ inl (r.0, inr (number, ap (λ (x : Group × Effect). begun_result (before_of group.core).alone x.1 (Begin tx body order)) fact ∙ r.1), r.2)
         | inr c ↦ (
-            let changed : is_changed (applied group (Begin tx body order)).1 ≡ true = ap (λ (x : Group × Effect). is_changed x.1) is ∙ c in
+            let changed : is_changed (applied group (Begin tx body order)).1 ≡ true = ap (λ (x : Group × Effect). is_changed x.1) fact ∙ c in
             let asks = true_so changed in
             inr (tx, group.core.succ.group, First, asks.1.0, (orders-leave.begin tx body order me group asks.0 changed).bond_is))
       ]
 
   -- the command of the order ends it, or begins its transaction
   pub order_ends : (command : Command) (work : Work) → work_by command ≡ Some work → IsOrder work → HasNumber n command → ((tx : Draw) → work ≡ Opens tx → has_named group.core tx ≡ false) → IsTrueEntry me group command → Result IsNoAbort command
-  order_ends (Join node order) work e is number new t = (let r = ordered_result group.core.gone (refusal_of group.core (Join node order)) (with_node group node) group in inl (r.0, inl (number, r.1), r.2))
-  order_ends (Leave node order) work e is number new t = (let r = ordered_result group.core.gone (refusal_of group.core (Leave node order)) (without_node group node) group in inl (r.0, inl (number, r.1), r.2))
-  order_ends (Split at child order) work e is number new t = split_ends at child order number (new child (let same : work ≡ Opens child = cc in same)) t
-  order_ends (Begin tx body order) work e is number new t = begin_ends tx body order number (new tx (let same : work ≡ Opens tx = cc in same)) t
-  order_ends Noop work e is number new t = absurd cc
-  order_ends (Call client seq op) work e is number new t = absurd cc
-  order_ends _ work e is number new t = absurd (order_same _ work e is)
+  order_ends (Join node order) work e fact number new t = (let r = ordered_result group.core.gone (refusal_of group.core (Join node order)) (with_node group node) group in inl (r.0, inl (number, r.1), r.2))
+  order_ends (Leave node order) work e fact number new t = (let r = ordered_result group.core.gone (refusal_of group.core (Leave node order)) (without_node group node) group in inl (r.0, inl (number, r.1), r.2))
+  order_ends (Split at child order) work e fact number new t = split_ends at child order number (new child (let same : work ≡ Opens child = cc in same)) t
+  order_ends (Begin tx body order) work e fact number new t = begin_ends tx body order number (new tx (let same : work ≡ Opens tx = cc in same)) t
+  order_ends Noop work e fact number new t = absurd cc
+  order_ends (Call client seq op) work e fact number new t = absurd cc
+  order_ends _ work e fact number new t = absurd (order_same _ work e fact)
 
   module _ (tx asked : Draw) (turn : Turn) (bound : bond_of group.core ≡ Asking tx asked turn) (number : LockNumber n group.core.lock) where
     number_is : (before_of group.core).order ≡ n

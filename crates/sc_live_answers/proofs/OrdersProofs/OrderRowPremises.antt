@@ -4,10 +4,10 @@ use Rattle.std.proofs.lemmas.Bool.{cases_Bool}
 use Rattle.sc_actor.specs.Definitions.{mails, numbered, value, row_of}
 use Rattle.sc_node_table.specs.Values.{Seat, Event, Deliver, Go, Draw, Base, OrderLine, Mail, Node}
 use Rattle.sc_actor.specs.declared.rows.Event.TheVariants.{Told}
-use Rattle.sc_live_answers.proofs.MailProofs.FollowerMail.{besides_found}
-use Rattle.sc_live_answers.proofs.MailProofs.LeaderMail.{leaders_found}
-use Rattle.sc_live_answers.proofs.MailProofs.WellLedLeaders.{alone, quiet_leaders_have_nothing, unbound}
-use Rattle.sc_live_answers.proofs.MailProofs.MailWithoutReplica.{missed_found, young_may}
+use Rattle.sc_live_answers.proofs.LedMailProofs.FollowerMail.{besides_found}
+use Rattle.sc_live_answers.proofs.LedMailProofs.LeaderMail.{leaders_found}
+use Rattle.sc_live_answers.proofs.LedMailProofs.WellLedLeaders.{alone, quiet_leaders_have_nothing, unbound}
+use Rattle.sc_live_answers.proofs.LedMailProofs.MailWithoutReplica.{missed_found, young_may}
 use Rattle.sc_live_answers.proofs.VotesProofs.LeaderVotes.{votes_found}
 use Rattle.sc_live_answers.specs.Definitions.{IsHere, IsGuided, IsNamedGuide, IsYoung, IsOrdersRow, IsGivenCalmly, MakesYoung, OrdersRowsFind, OrdersRowsMeet}
 use Rattle.sc_live_journals.proofs.GroupsProofs.Lemmas.{replicas_kept, scenarios_kept_born, Plays as TopPlays, replay_well as tops_replay, top_plays as plays_of}
@@ -57,16 +57,16 @@ module _ (words : ℕ → ℕ → ℕ × ℕ) (scenario : Scenario) (rows : Rows
 
   -- ---- a mail at a replica
 
-  module _ (number : ℕ) (mail : Mail) (node : NodeState) (r : ReplicaState) (is : event ≡ Deliver number) where
+  module _ (number : ℕ) (mail : Mail) (node : NodeState) (r : ReplicaState) (fact : event ≡ Deliver number) where
     at_base : (base : Base) → IsGuided words (births as_nodes scenario) rows seat (Deliver number) base → IsTaking words (births as_nodes scenario) rows seat number mail base.core.id node → replica_of base.core.id node.replicas ≡ Some r
         → FindsReplica (births as_nodes scenario) rows seat number mail base.core.id r
     at_base base g t here =
         let view : view_at all rows base.core.id seat.who ≡ Some r = view_was all rows seat Go base.core.id t.seated (Node node) t.is_node ∙ here in
         let h : IsHere words all rows seat number mail base node r = record { guided = g; taking = t; here = here; me_is = (plain base.core.id seat.who r view).0; idle = idle base.core.id seat.who r view } in
-        let u = q.unsettled number mail base.core.id node r is t here in
+        let u = q.unsettled number mail base.core.id node r fact t here in
         elim (cases_Bool r.running) [
-          | inl runs ↦ (let f = leaders_found words all rows seat number mail base node r h runs q.under u (λ named client seq op e. q.requests number mail named client seq op is t.sent e)
-              (λ named ballot slot e. (let v = q.votes number mail base.core.id node r named ballot slot is t here runs e in
+          | inl runs ↦ (let f = leaders_found words all rows seat number mail base node r h runs q.under u (λ named client seq op e. q.requests number mail named client seq op fact t.sent e)
+              (λ named ballot slot e. (let v = q.votes number mail base.core.id node r named ballot slot fact t here runs e in
               votes_found words all rows seat number mail base node r named ballot slot h runs e q.under v.0 (replicas_kept all rows base.core.id seat.who r (scenarios_kept_born scenario) view).1 v.1)) in
               AtLeader f.0 f.1)
           | inr off ↦ AtAnother (besides_found.beside words all rows seat number mail base node r h off) (besides_found.finds words all rows seat number mail base node r h off (sent_so number mail t.sent) u)
@@ -75,15 +75,15 @@ module _ (words : ℕ → ℕ → ℕ × ℕ) (scenario : Scenario) (rows : Rows
     here_found : (group : Draw) → IsTaking words (births as_nodes scenario) rows seat number mail group node → replica_of group node.replicas ≡ Some r → FindsReplica (births as_nodes scenario) rows seat number mail group r
     here_found group t here =
         let view : view_at all rows group seat.who ≡ Some r = view_was all rows seat Go group t.seated (Node node) t.is_node ∙ here in
-        let guide : IsNamedGuide words all rows seat (Deliver number) group = subst (λ e. IsNamedGuide words all rows seat e group) is (q.groups group seat.who r view) in
+        let guide : IsNamedGuide words all rows seat (Deliver number) group = subst (λ e. IsNamedGuide words all rows seat e group) fact (q.groups group seat.who r view) in
         let name = sym guide.named in
         subst (λ n. FindsReplica all rows seat number mail n r) guide.named
         (at_base guide.base guide.guided (subst (λ n. IsTaking words all rows seat number mail n node) name t) (subst (λ n. replica_of n node.replicas ≡ Some r) name here))
 
   missed : (number : ℕ) (mail : Mail) (group : Draw) (node : NodeState) → event ≡ Deliver number → IsTaking words (births as_nodes scenario) rows seat number mail group node → NodeFinds (births as_nodes scenario) rows seat number mail group mail.body
-  missed number mail group node is t =
+  missed number mail group node fact t =
       missed_found words all rows seat number mail group node t (sent_so number mail t.sent)
-      (λ slot state sets e. (let s = q.states number mail group slot state sets is t.sent e in (subst (λ ev. IsNamedGuide words all rows seat ev group) is s.0, s.1)))
+      (λ slot state sets e. (let s = q.states number mail group slot state sets fact t.sent e in (subst (λ ev. IsNamedGuide words all rows seat ev group) fact s.0, s.1)))
 
   -- ---- an order
 
@@ -96,12 +96,12 @@ module _ (words : ℕ → ℕ → ℕ × ℕ) (scenario : Scenario) (rows : Rows
       (ap (λ n. view_at all rows n node) guide.named ∙ e) runs room.0 room.1
 
   told : (line : OrderLine) (node : NodeState) (r : ReplicaState) → event ≡ Told line → IsOrdered words (births as_nodes scenario) rows seat line node r → FindsQuiet words (births as_nodes scenario) rows seat line node r
-  told line node r is o =
+  told line node r fact o =
       let group = group_of_order line.order in
       let view : view_at all rows group seat.who ≡ Some r = view_was all rows seat Go group o.seated (Node node) o.is_node ∙ o.here in
-      let guide : IsNamedGuide words all rows seat (Told line) group = subst (λ e. IsNamedGuide words all rows seat e group) is (q.groups group seat.who r view) in
+      let guide : IsNamedGuide words all rows seat (Told line) group = subst (λ e. IsNamedGuide words all rows seat e group) fact (q.groups group seat.who r view) in
       let g = guide.guided in
-      let c = q.told line is in
+      let c = q.told line fact in
       let own : view_at all rows guide.base.core.id seat.who ≡ Some r = ap (λ n. view_at all rows n seat.who) guide.named ∙ view in
       elim (cases_Bool r.running) [
         | inl runs ↦ ByLeader (subst (λ n. LeadsAlone all rows n seat.who r) guide.named (alone g.at g.over g.by words all rows guide.base g.course g.led seat.who r own runs))
@@ -113,12 +113,12 @@ module _ (words : ℕ → ℕ → ℕ × ℕ) (scenario : Scenario) (rows : Rows
   finds young = record {
     client = q.clients;
     me_is = me_is;
-    barred = λ node number mail is at sent none. absurd (true≢false (sym (may_so number mail sent) ∙ none));
-    here = λ number mail group node r is t here. (
-      Each-weaker (IsYoung words all rows seat) (MayCreate all rows seat) (λ child. young_may words all rows seat child) (mailed mail.from mail.body (r, [])).1 (young number mail group node r is t here),
-      here_found number mail node r is group t here,
+    barred = λ node number mail fact at sent none. absurd (true≢false (sym (may_so number mail sent) ∙ none));
+    here = λ number mail group node r fact t here. (
+      Each-weaker (IsYoung words all rows seat) (MayCreate all rows seat) (λ child. young_may words all rows seat child) (mailed mail.from mail.body (r, [])).1 (young number mail group node r fact t here),
+      here_found number mail node r fact group t here,
     );
-    missed = λ number mail group node is t none. missed number mail group node is t;
+    missed = λ number mail group node fact t none. missed number mail group node fact t;
     told = told;
   }
 

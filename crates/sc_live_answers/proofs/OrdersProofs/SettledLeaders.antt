@@ -36,9 +36,9 @@ use Rattle.sc_base.proofs.Lemmas.{and_both}
 -- ---- members
 
 same_members : (group : Group) (tx asked : Draw) (turn : Turn) (made : Group) → Coordinates group tx asked turn made → made.core.members ≡ group.core.members
-same_members group tx asked First made c = ap (λ (g : Group). g.core.members) c.is
-same_members group tx asked Lone made c = ap (λ (g : Group). g.core.members) c.is
-same_members group tx asked (Next part host) made c = ap (λ (g : Group). g.core.members) c.heard.is ∙ ap (λ (g : Group). g.core.members) c.opened.is
+same_members group tx asked First made c = ap (λ (g : Group). g.core.members) c.fact
+same_members group tx asked Lone made c = ap (λ (g : Group). g.core.members) c.fact
+same_members group tx asked (Next part host) made c = ap (λ (g : Group). g.core.members) c.heard.fact ∙ ap (λ (g : Group). g.core.members) c.opened.fact
 
 -- the group that gets the order, or coordinates, after some rows: it is led by who led it in the quiet, with the members that it had
 record IsCoord (scenario : Scenario) (quiet xs : Rows) (x : Draw × ℕ) : Type 0 where
@@ -46,7 +46,7 @@ record IsCoord (scenario : Scenario) (quiet xs : Rows) (x : Draw × ℕ) : Type 
   was : view_at (births as_nodes scenario) quiet x.0 x.1 ≡ Some first
   led : first.running ≡ true
   now : ReplicaState
-  is : view_at (births as_nodes scenario) xs x.0 x.1 ≡ Some now
+  fact : view_at (births as_nodes scenario) xs x.0 x.1 ≡ Some now
   runs : now.running ≡ true
   same : members now ≡ members first
 
@@ -55,7 +55,7 @@ module _ (tells : ReplicasAreRecorded) (words : ℕ → ℕ → ℕ × ℕ) (sce
   all = births as_nodes scenario
 
   runs_at : (name : Draw) (host : ℕ) (r : ReplicaState) → (scene_at (births as_nodes scenario) xs).lead name ≡ Some host → view_at (births as_nodes scenario) xs name host ≡ Some r → r.running ≡ true
-  runs_at name host r lead is = sym (ap is_running is) ∙ lead_runs (view_at all xs name) (numbers_of all) host lead
+  runs_at name host r lead fact = sym (ap is_running fact) ∙ lead_runs (view_at all xs name) (numbers_of all) host lead
 
   deal_coord : (deal : Deal) → (scene_at (births as_nodes scenario) xs).lead deal.coord ≡ Some deal.chief → ((scene_at (births as_nodes scenario) xs).at deal.coord).bond ≡ Asking deal.tx deal.asked deal.turn
       → HasDone (births as_nodes scenario) quiet xs (doer deal.coord deal.chief (opened deal.tx deal.turn)) → IsCoord scenario quiet xs (deal.coord, deal.chief)
@@ -64,8 +64,8 @@ module _ (tells : ReplicasAreRecorded) (words : ℕ → ℕ → ℕ × ℕ) (sce
     was = d.was;
     led = d.led;
     now = d.now;
-    is = d.is;
-    runs = runs_at deal.coord deal.chief d.now lead d.is;
+    fact = d.fact;
+    runs = runs_at deal.coord deal.chief d.now lead d.fact;
     same = same_members d.first.group deal.tx deal.asked deal.turn d.now.group (coords tells words scenario first journal quiet xs more prefix calm rests seen deal lead bond d);
   }
 
@@ -77,8 +77,8 @@ module _ (tells : ReplicasAreRecorded) (words : ℕ → ℕ → ℕ × ℕ) (sce
       was = d.0.was;
       led = d.0.led;
       now = d.0.now;
-      is = d.0.is;
-      runs = runs_at group chief d.0.now a.leads.0 d.0.is;
+      fact = d.0.fact;
+      runs = runs_at group chief d.0.now a.leads.0 d.0.fact;
       same = ap (λ (g : Group). g.core.members) (no_deeds d.0.entries d.0.first.group d.0.now.group d.0.did d.0.group_is);
     },
     tt,
@@ -141,23 +141,23 @@ module _ (tells : ReplicasAreRecorded) (words : ℕ → ℕ → ℕ × ℕ) (sce
   row_stays : (x : Draw × ℕ) → IsCoord scenario quiet rows x → IsCoord scenario quiet (with_event rows seat event) x → ((r : ReplicaState) → view_at (births as_nodes scenario) rows x.0 x.1 ≡ Some r → r.running ≡ true → IsOrdersAlone r)
       → HasNoRounds words (births as_nodes scenario) rows x.0 → HasNoRounds words (births as_nodes scenario) (with_event rows seat event) x.0
   row_stays x c d alone none =
-      let base = base_of tells words scenario first journal quiet (with_event rows seat event) prefix.more prefix.is calm rests seen x.0 (x.1, c.first, c.was) in
+      let base = base_of tells words scenario first journal quiet (with_event rows seat event) prefix.more prefix.fact calm rests seen x.0 (x.1, c.first, c.was) in
       let name : base.0.core.id ≡ x.0 = base.2 in
       let at = logged_sets as_nodes base.0 journal in
       let over = over_at as_nodes base.0 journal in
       let by = slot_leaders_at as_nodes scenario base.0 journal in
       let s = sent base.0 base.1.stands in
       let t = sent_then base.0 base.1.stands in
-      let has : view_at births_ rows base.0.core.id x.1 ≡ Some c.now = ap (λ n. view_at births_ rows n x.1) name ∙ c.is in
-      let had : view_at births_ then_ base.0.core.id x.1 ≡ Some d.now = ap (λ n. view_at births_ then_ n x.1) name ∙ d.is in
+      let has : view_at births_ rows base.0.core.id x.1 ≡ Some c.now = ap (λ n. view_at births_ rows n x.1) name ∙ c.fact in
+      let had : view_at births_ then_ base.0.core.id x.1 ≡ Some d.now = ap (λ n. view_at births_ then_ n x.1) name ∙ d.fact in
       let firsts : d.first ≡ c.first = same_Some d.first c.first (sym d.was ∙ c.was) in
       let sets : members_at at (next d.now) ≡ members_at at (next c.now) =
       (t.one.states then_ [] x.1 d.now (sym (append-nil then_)) had).members_are
       ∙ (d.same ∙ (ap members firsts ∙ (sym c.same ∙ sym (s.one.states rows [] x.1 c.now (sym (append-nil rows)) has).members_are))) in
       let step : IsLedStep at over by words births_ rows seat event base.0 s.course =
-      events_go_on at over by words births_ then_ base.0 (scenarios_well_born scenario) t.one t.so rows seat event s.course (record { more = []; is = sym (append-nil then_) }) seated comes timely s.led in
+      events_go_on at over by words births_ then_ base.0 (scenarios_well_born scenario) t.one t.so rows seat event s.course (record { more = []; fact = sym (append-nil then_) }) seated comes timely s.led in
       subst (HasNoRounds words births_ then_) name
-      (rounds_stay at over by words births_ rows seat event base.0 s.course s.led timely (λ a c2 y l o. order_is_kept.alone a c2 y l o) x.1 c.now has c.runs (alone c.now c.is c.runs)
+      (rounds_stay at over by words births_ rows seat event base.0 s.course s.led timely (λ a c2 y l o. order_is_kept.alone a c2 y l o) x.1 c.now has c.runs (alone c.now c.fact c.runs)
       (λ y e. subst (λ z. members_at at (next z) ≡ members_at at (next c.now)) (same_Some d.now y (sym had ∙ e)) sets) (subst (HasNoRounds words births_ rows) (sym name) none) step)
 
 pub settled_go_on : ReplicasAreRecorded → SettledOrdersGoOn
@@ -165,9 +165,9 @@ settled_go_on tells words scenario first journal quiet rows seat number stage la
     let event = Deliver number in
     let calm_row = (last_in_time (players words (births as_nodes scenario)) rows (row_of player_table seat rows event) g.goes.timely).0 in
     let more : Rows = row_of player_table seat rows event ∷ g.goes.prefix.more in
-    let prefix : journal ≡ rows ++ more = g.goes.prefix.is ∙ append_assoc rows (row_of player_table seat rows event ∷ []) g.goes.prefix.more in
+    let prefix : journal ≡ rows ++ more = g.goes.prefix.fact ∙ append_assoc rows (row_of player_table seat rows event ∷ []) g.goes.prefix.more in
     let was = coord_at tells words scenario first journal quiet rows more prefix g.calm g.rests g.seen stage g.untouched.stands g.true_since.done in
-    let now = coord_at tells words scenario first journal quiet (with_event rows seat event) g.goes.prefix.more g.goes.prefix.is g.calm g.rests g.seen later at_later true_later.done in
+    let now = coord_at tells words scenario first journal quiet (with_event rows seat event) g.goes.prefix.more g.goes.prefix.fact g.calm g.rests g.seen later at_later true_later.done in
     let kept : Each (λ x. IsCoord scenario quiet (with_event rows seat event) x → HasNoRounds words (births as_nodes scenario) (with_event rows seat event) x.0) (coords_of stage) =
     both_each (IsCoord scenario quiet rows) (λ x. HasNoRounds words (births as_nodes scenario) rows x.0) _ (coords_of stage)
     (λ x c none d. row_stays tells words scenario first journal quiet rows seat event g.calm g.rests g.seen g.goes.prefix g.goes.seated g.goes.timely (calm_is words (births as_nodes scenario) rows seat event calm_row) sent sent_then x c d (alone x.0 x.1) none) was settled_ in
@@ -181,10 +181,10 @@ settled_go_on tells words scenario first journal quiet rows seat number stage la
 pub settled_begin : ReplicasAreRecorded → SettledOrdersBegin
 settled_begin tells words scenario first journal quiet seat line stage calm rests seen t prefix sent_then strangers at_stage true_stage =
     let event = Told line in
-    let now = coord_at tells words scenario first journal quiet (with_event quiet seat event) prefix.more prefix.is calm rests seen stage at_stage true_stage.done in
+    let now = coord_at tells words scenario first journal quiet (with_event quiet seat event) prefix.more prefix.fact calm rests seen stage at_stage true_stage.done in
     each_map (IsCoord scenario quiet (with_event quiet seat event)) (λ x. HasNoRounds words (births as_nodes scenario) (with_event quiet seat event) x.0) (coords_of stage)
     (λ x d. row_stays tells words scenario first journal quiet quiet seat event calm rests seen prefix t.seated t.timely tt rests.sent sent_then x
-    (record { first = d.first; was = d.was; led = d.led; now = d.first; is = d.was; runs = d.led; same = refl }) d (λ r has runs. rests_alone x r has) (quiet_none x.0)) now
+    (record { first = d.first; was = d.was; led = d.led; now = d.first; fact = d.was; runs = d.led; same = refl }) d (λ r has runs. rests_alone x r has) (quiet_none x.0)) now
   where
     each_map : {X : Type 0} (P R : X → Type 0) (xs : List X) → ((x : X) → P x → R x) → Each P xs → Each R xs
     each_map P R [] f p = tt
@@ -192,7 +192,7 @@ settled_begin tells words scenario first journal quiet seat line stage calm rest
 
     rests_alone : (x : Draw × ℕ) (r : ReplicaState) → view_at (births as_nodes scenario) quiet x.0 x.1 ≡ Some r → IsOrdersAlone r
     rests_alone x r has =
-        let k = rests.is.quiet.at_rest x.0 x.1 r (sym (seen x.0 x.1) ∙ has) in
+        let k = rests.fact.quiet.at_rest x.0 x.1 r (sym (seen x.0 x.1) ∙ has) in
         record { flights = subst (Each _) (sym k.flights) tt; ready = subst (Each _) (sym k.ready) tt }
 
     quiet_time : AreInTime (players words (births as_nodes scenario)) quiet
@@ -225,15 +225,15 @@ module _ (tells : ReplicasAreRecorded) (words : ℕ → ℕ → ℕ × ℕ) (sce
   waits = elsewhere_at (scene_at seats rows) stage t.untouched.stands group tx mail.to pending
 
   none : HasNoRounds words (births as_nodes scenario) rows group
-  none = subst (HasNoRounds words seats rows) waits.group_is (subst (AreSettled words scenario rows) waits.is quiet_rounds).0
+  none = subst (HasNoRounds words seats rows) waits.group_is (subst (AreSettled words scenario rows) waits.fact quiet_rounds).0
 
   there : IsThere (births as_nodes scenario) quiet group
   there =
-      let d = (subst (IsTrueSince scenario quiet rows) waits.is t.true_since).done.0 in
+      let d = (subst (IsTrueSince scenario quiet rows) waits.fact t.true_since).done.0 in
       subst (IsThere seats quiet) waits.group_is (waits.deal.chief, d.first, d.was)
 
   base : (base : Base) × IsGroupOf as_nodes words scenario journal base × (base.core.id ≡ group)
-  base = base_of tells words scenario first journal quiet rows prefix.more prefix.is t.calm t.rests t.seen group there
+  base = base_of tells words scenario first journal quiet rows prefix.more prefix.fact t.calm t.rests t.seen group there
 
   through : IsSentThrough (logged_sets as_nodes base.0 journal) (over_at as_nodes base.0 journal) (slot_leaders_at as_nodes scenario base.0 journal) words (births as_nodes scenario) rows base.0
   through = sent base.0 base.1.stands

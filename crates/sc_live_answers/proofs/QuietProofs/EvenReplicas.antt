@@ -6,13 +6,13 @@ use Rattle.sc_base.specs.Definitions.{is_member, least_of}
 use Rattle.sc_node_table.specs.Definitions.{ReplicaState}
 use Rattle.sc_meaning.specs.sound.Definitions.{Player}
 use Rattle.sc_live_steps.specs.calm.Definitions.{players, HasReplica, Rows}
-use Rattle.sc_live_steps.specs.following.Definitions.{Course, Progress, Sets, members_at, IsEven, IsEvenLed, Tellers}
+use Rattle.sc_live_steps.specs.following.Definitions.{Course, Progress, Sets, members_at, IsEven, IsEvenLed, SlotLeaders}
 use Rattle.sc_live_steps.proofs.FollowingProofs.Lemmas.{quiet-even, least_in}
 use Rattle.sc_live_journals.specs.rows.Definitions.{view_at, marks_at, next_in, progress_at, IsLedBy}
 use Rattle.sc_live_journals.specs.groups.Definitions.{Ends}
 use Rattle.sc_live_answers.specs.Definitions.{IsSentThrough}
 
-module _ (words : ℕ → ℕ → ℕ × ℕ) (at : Sets) (over : Ends) (by : Tellers) (births : List (Seat Player)) (prefix : Rows) (base : Base) (t : IsSentThrough at over by words births prefix base) where
+module _ (words : ℕ → ℕ → ℕ × ℕ) (at : Sets) (over : Ends) (by : SlotLeaders) (births : List (Seat Player)) (prefix : Rows) (base : Base) (t : IsSentThrough at over by words births prefix base) where
   abbrev name : Draw
   name = base.core.id
 
@@ -39,8 +39,8 @@ module _ (words : ℕ → ℕ → ℕ × ℕ) (at : Sets) (over : Ends) (by : Te
   has_one born node some = by_view (view_at births prefix name node) refl some
     where
       first : (b : Bool) → is_member base.core.members node ≡ b → 1 ≤ cond b 1 0 → HasReplica (view_at births prefix) base.core.id node
-      first true is low = born node is
-      first false is low = absurd (omega (arith, low))
+      first true fact low = born node fact
+      first false fact low = absurd (omega (arith, low))
 
       by_view : (o : Option ReplicaState) → view_at births prefix base.core.id node ≡ o → 1 ≤ next_in base node o → HasReplica (view_at births prefix) base.core.id node
       by_view (Some r) e low = (r, e)

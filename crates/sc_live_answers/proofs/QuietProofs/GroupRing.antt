@@ -60,7 +60,7 @@ last_near lo len a b c = omega arith
 
 -- an arc holds its last one
 last_held : (arc : Arc) → IsArc arc × (arc.lo < 2 ^ 32) → IsTrue (holds arc (last_before (end_of arc)))
-last_held arc is = lt-ltb (offset arc (last_before (end_of arc))) arc.len (last_near arc.lo arc.len is.1 is.0.some is.0.most)
+last_held arc fact = lt-ltb (offset arc (last_before (end_of arc))) arc.len (last_near arc.lo arc.len fact.1 fact.0.some fact.0.most)
 
 module _ (world : StoreWorld) (set : Setting) (covers : Covers world.ring) (placed : (cut : Cut) → Among cut world.ring → IsPlaced world cut) (cuts : AreOfCuts world set.frames) where
   abbrev same : Frame → Frame → Bool
@@ -74,7 +74,7 @@ module _ (world : StoreWorld) (set : Setting) (covers : Covers world.ring) (plac
 
   -- the arc of a group that stands is that of its cut
   arc_is : (frame : Frame) (cut : Cut) → IsOfCut world frame cut → frame.core.arc ≡ cut.arc
-  arc_is frame cut is = (let p = placed cut is.among in ap (λ core. core.arc) (sym (is.placed p)) ∙ p.arc)
+  arc_is frame cut fact = (let p = placed cut fact.among in ap (λ core. core.arc) (sym (fact.placed p)) ∙ p.arc)
 
   step : (frame : Frame) → Among frame set.frames → (other : Frame) × Among other set.frames × FollowedBy frame other
   step frame a =
@@ -98,8 +98,8 @@ module _ (world : StoreWorld) (set : Setting) (covers : Covers world.ring) (plac
       let p = last_before (end_of c.0.arc) in
       let arcs = covers.arcs c.0 c.1.among in
       let its = covers.arcs d.0 d.1.among in
-      let is = covers.only p (last_on (end_of c.0.arc)) c.0 d.0 c.1.among d.1.among (last_held c.0.arc arcs) (subst (λ q. IsTrue (holds d.0.arc (last_before q))) (sym ends) (last_held d.0.arc its)) in
-      cuts.apart one other a b (sym c.1.named ∙ (ap (λ (cut : Cut). cut.group) is ∙ d.1.named))
+      let fact = covers.only p (last_on (end_of c.0.arc)) c.0 d.0 c.1.among d.1.among (last_held c.0.arc arcs) (subst (λ q. IsTrue (holds d.0.arc (last_before q))) (sym ends) (last_held d.0.arc its)) in
+      cuts.apart one other a b (sym c.1.named ∙ (ap (λ (cut : Cut). cut.group) fact ∙ d.1.named))
 
   pub round_from : (frame : Frame) → Among frame set.frames → (rest : List Frame) × IsRingOf set (frame ∷ rest)
   round_from frame a =

@@ -1,5 +1,5 @@
 -- Before the first row of a valid scenario all is quiet.
-use Rattle.std.proofs.Common.{◌≡◌, ℕ, ◌+◌, Bool, true, false, true≢false, cond, List, [], ◌∷◌, ◌++◌, map, filter, replicate, Some, None, inl, inr, refl, sym, ◌∙◌, ap, subst, arith}
+use Rattle.std.proofs.Common.{◌≡◌, ℕ, Bool, true, false, true≢false, cond, List, [], ◌∷◌, ◌++◌, map, filter, replicate, Some, None, inl, inr, refl, sym, ◌∙◌, ap, subst, arith}
 use Rattle.std.proofs.lemmas.Bool.{cond_both, cond-true, eqb-true, eq-eqb}
 use Rattle.sc_base.specs.Definitions.{Among, Each, same_draw, is_member, least_of}
 use Rattle.sc_node_table.specs.Values.{Draw, Base, Core}
@@ -9,15 +9,16 @@ use Rattle.sc_words.proofs.PaxosProofs.Lemmas.{at_least_itself, Each-among, find
 use Rattle.sc_paxos_law.proofs.Lemmas.{from_map}
 use Rattle.sc_group_table.specs.machine.Definitions.{group_of}
 use Rattle.sc_node_table.specs.Definitions.{born_replicas, born_node, replica_of, is_node, ReplicaState, name_of, next, members, first_ballot, born_replica, slots_ahead}
-use Rattle.sc_scenario.specs.scenario.Definitions.{base_at, IsBounded, ValidScenariosAreBounded}
+use Rattle.sc_scenario.specs.scenario.Definitions.{IsBounded, ValidScenariosAreBounded}
 use Rattle.sc_scenario.specs.declared.scenario.scenarios.Asks.{Asks}
 use Rattle.sc_scenario.specs.declared.scenario.scenarios.Scenario.{Scenario}
 use Rattle.sc_meaning.specs.sound.Definitions.{route_of}
 use Rattle.sc_live_steps.specs.calm.Definitions.{View, IsNewest, IsAtRest, IsBelow, IsLinked, StandsQuiet, RisesAt, IsAnswered, IsQuiet}
-use Rattle.sc_live_steps.proofs.CalmProofs.Lemmas.{begin_at_rest, first_leads}
+use Rattle.sc_live_steps.proofs.CalmStepsProofs.Lemmas.{begin_at_rest, first_leads}
 use Rattle.sc_live_plain.specs.Definitions.{replicas_after, IsQuietJournal, IsOfNodes, IsKept, frame_at_rest, Frame, IsFrame, frame_of, IsBegun, Requests, IsPlainGroup}
-use Rattle.sc_law_groups.proofs.WholeProofs.Lemmas.{group_place}
 use Rattle.sc_live_plain.proofs.Lemmas.{born_plain, born_found, frames_of, stage, IsBefore, parts_of, map_among, round}
+use Rattle.sc_live_journals.proofs.RowsProofs.ScenarioGroups.{named_once}
+use Rattle.sc_law_groups.proofs.WholeProofs.Lemmas.{group_place}
 use Rattle.sc_live_answers.specs.Definitions.{QuietJournalsBegin}
 
 -- the replicas of a node are those of the groups of which it is a member
@@ -48,22 +49,14 @@ module _ (words : ℕ → ℕ → ℕ × ℕ) (scenario : Scenario) (bounded : I
     among : Among base scenario.groups
     member : is_member base.core.members node ≡ true
     named : base.core.id ≡ group
-    is : r ≡ born node base
-
-  same_base : (one other : Base) → Among one scenario.groups → Among other scenario.groups → one.core.id ≡ other.core.id → one ≡ other
-  same_base one other a b e =
-      let x = group_place scenario bounded one a in
-      let y = group_place scenario bounded other b in
-      let names : x.0 + 1 ≡ y.0 + 1 = ap (λ (base : Base). base.core.id.count) x.2 ∙ (ap (λ (d : Draw). d.count) e ∙ sym (ap (λ (base : Base). base.core.id.count) y.2)) in
-      let k : x.0 ≡ y.0 = omega (arith, names) in
-      sym x.2 ∙ (ap (λ n. base_at bounded.starts n) k ∙ y.2)
+    fact : r ≡ born node base
 
   born_is : (group : Draw) (node : ℕ) (r : ReplicaState) → replica_of group (born_replicas slots_ahead node scenario.groups) ≡ Some r → IsBornOf group node r
   born_is group node r e =
       let f = find_found (λ (x : ReplicaState). same_draw (name_of x) group) (born_replicas slots_ahead node scenario.groups) r e in
       let b = Each-among (λ (x : ReplicaState). (base : Base) × Among base scenario.groups × (is_member base.core.members node ≡ true) × (x ≡ born node base)) (born_replicas slots_ahead node scenario.groups) r
       (born_members (λ (x : ReplicaState). (base : Base) × Among base scenario.groups × (is_member base.core.members node ≡ true) × (x ≡ born node base)) node scenario.groups (λ base a m. (base, a, m, refl))) f.0 in
-      record { base = b.0; among = b.1; member = b.2; named = sym (ap name_of b.3) ∙ draw_is (name_of r) group f.1; is = b.3 }
+      record { base = b.0; among = b.1; member = b.2; named = sym (ap name_of b.3) ∙ draw_is (name_of r) group f.1; fact = b.3 }
 
   at_is : (group : Draw) (node : ℕ) (r : ReplicaState) → at group node ≡ Some r → IsBornOf group node r
   at_is group node r = by (is_node node)
@@ -83,8 +76,8 @@ module _ (words : ℕ → ℕ → ℕ × ℕ) (scenario : Scenario) (bounded : I
   there base node a m =
       let f = born_found node scenario.groups base a m in
       let b = born_is base.core.id node (born node f.0) f.1 in
-      let same = same_base b.base base b.among a b.named in
-      cond-true (is_node node) (replica_of base.core.id (born_replicas slots_ahead node scenario.groups)) None ((frame_is base a).nodes 0 node m) ∙ (f.1 ∙ ap Some (b.is ∙ ap (born node) same))
+      let same = named_once scenario bounded b.base base b.among a b.named in
+      cond-true (is_node node) (replica_of base.core.id (born_replicas slots_ahead node scenario.groups)) None ((frame_is base a).nodes 0 node m) ∙ (f.1 ∙ ap Some (b.fact ∙ ap (born node) same))
 
   module _ (base : Base) (a : Among base scenario.groups) where
     lead : ReplicaState
@@ -94,7 +87,7 @@ module _ (words : ℕ → ℕ → ℕ × ℕ) (scenario : Scenario) (bounded : I
     mine = (frame_is base a).leads
 
     of_base : (node : ℕ) (r : ReplicaState) → at base.core.id node ≡ Some r → r ≡ born node base
-    of_base node r e = (let b = at_is base.core.id node r e in b.is ∙ ap (born node) (same_base b.base base b.among a b.named))
+    of_base node r e = (let b = at_is base.core.id node r e in b.fact ∙ ap (born node) (named_once scenario bounded b.base base b.among a b.named))
 
     newest : IsNewest at base.core.id (born base.core.first base)
     newest = record {
@@ -141,9 +134,9 @@ module _ (words : ℕ → ℕ → ℕ × ℕ) (scenario : Scenario) (bounded : I
     newest = newest base a;
     stands = (frame_is base a).stands;
     leads = first_leads slots_ahead base.core.first base (omega arith) refl (mine base a);
-    alone = λ node r e runs. (let is = of_base base a node r e in
-        let me : base.core.first ≡ node = eqb-true base.core.first node (ap (λ (x : ReplicaState). x.running) (sym is) ∙ runs) in
-        is ∙ ap (λ n. born n base) (sym me));
+    alone = λ node r e runs. (let fact = of_base base a node r e in
+        let me : base.core.first ≡ node = eqb-true base.core.first node (ap (λ (x : ReplicaState). x.running) (sym fact) ∙ runs) in
+        fact ∙ ap (λ n. born n base) (sym me));
     below_it = λ node r e. subst (IsBelow (born base.core.first base)) (sym (of_base base a node r e))
         (record { promised = at_least_itself (first_ballot base.core); top = at_least_itself (first_ballot base.core); accepted = tt });
     member = λ node m. (born node base, there base node a m, record { group_is = refl; next_is = refl; sets_are = refl; hint_is = refl });
@@ -156,7 +149,7 @@ module _ (words : ℕ → ℕ → ℕ × ℕ) (scenario : Scenario) (bounded : I
       let b = at_is group node r e in
       let f = frame_is b.base b.among in
       let of_nodes : IsOfNodes b.base.core.members = record { roster = f.rosters 0; nodes = f.nodes 0 } in
-      subst (IsKept group node) (sym b.is) (record {
+      subst (IsKept group node) (sym b.fact) (record {
         me_is = refl;
         name_is = b.named;
         own = λ runs. eqb-true b.base.core.first node runs;
@@ -169,7 +162,7 @@ module _ (words : ℕ → ℕ → ℕ × ℕ) (scenario : Scenario) (bounded : I
   rises : (group : Draw) (node : ℕ) (r : ReplicaState) → at group node ≡ Some r → RisesAt at group r
   rises group node r e =
       let b = at_is group node r e in
-      subst (RisesAt at group) (sym b.is) (record {
+      subst (RisesAt at group) (sym b.fact) (record {
         hint_is = refl;
         there = born b.base.core.first b.base;
         is_there = ap (λ d. at d b.base.core.first) (sym b.named) ∙ there b.base b.base.core.first b.among (mine b.base b.among);
@@ -181,7 +174,7 @@ module _ (words : ℕ → ℕ → ℕ × ℕ) (scenario : Scenario) (bounded : I
       let b = at_is group node r e in
       let k = group_place scenario bounded b.base b.among in
       let p = born_plain begun node b.base (ap (λ (x : Base). x.pairs) (sym k.2)) (ap (λ (x : Base). x.clients) (sym k.2)) in
-      let same : group_of b.base ≡ r.group = ap (λ (x : ReplicaState). x.group) (sym b.is) in
+      let same : group_of b.base ≡ r.group = ap (λ (x : ReplicaState). x.group) (sym b.fact) in
       let plain : IsPlainGroup begun (frame_of b.base) r.group = subst (IsPlainGroup begun (frame_of b.base)) same p.group in
       record { core_is = sym core; noted = plain.noted; replied = plain.replied; stored = plain.stored }
 
@@ -199,7 +192,7 @@ module _ (words : ℕ → ℕ → ℕ × ℕ) (scenario : Scenario) (bounded : I
     quiet : IsQuiet at (route_of first) (map client_of scenario.clients)
     quiet = record {
       groups = λ group node h. (let b = at_is group node h.0 h.1 in inl (subst (StandsQuiet at) b.named (stands b.base b.among)));
-      at_rest = λ group node r e. (let b = at_is group node r e in subst IsAtRest (sym b.is) (begin_at_rest slots_ahead node b.base (frame_is b.base b.among).free).0);
+      at_rest = λ group node r e. (let b = at_is group node r e in subst IsAtRest (sym b.fact) (begin_at_rest slots_ahead node b.base (frame_is b.base b.among).free).0);
       rises = λ group node r e off still. rises group node r e;
       answered = answered scenario.clients;
     }

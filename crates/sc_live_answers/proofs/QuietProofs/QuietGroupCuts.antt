@@ -24,18 +24,18 @@ use Rattle.sc_live_answers.specs.Definitions.{state_of, AreKnown}
 -- a birth record that is found by its name
 pub record Found (bases : List Base) (name : Draw) : Type 0 where
   pub base : Base
-  pub is : find (is_birth_of name) bases ≡ Some base
+  pub fact : find (is_birth_of name) bases ≡ Some base
   pub among : Among base bases
   pub named : base.core.id ≡ name
 
 pub found : (bases : List Base) (name : Draw) (base : Base) → Among base bases → base.core.id ≡ name → Found bases name
 found [] name base a e = absurd a
 found (b ∷ bases) name base a e = elim (cases_Bool (same_draw b.core.id name)) [
-  | inl is ↦ record { base = b; is = ap (λ t. cond t (Some b) (find (is_birth_of name) bases)) is; among = inl refl; named = draw_is b.core.id name is }
+  | inl fact ↦ record { base = b; fact = ap (λ t. cond t (Some b) (find (is_birth_of name) bases)) fact; among = inl refl; named = draw_is b.core.id name fact }
   | inr other ↦ (
       let there : Among base bases = elim a [ inl here ↦ absurd (true≢false (sym (same_name b.core.id name (ap (λ (x : Base). x.core.id) here ∙ e)) ∙ other)) | inr more ↦ more ] in
       let f = found bases name base there e in
-      record { base = f.base; is = ap (λ t. cond t (Some b) (find (is_birth_of name) bases)) other ∙ f.is; among = inr f.among; named = f.named })
+      record { base = f.base; fact = ap (λ t. cond t (Some b) (find (is_birth_of name) bases)) other ∙ f.fact; among = inr f.among; named = f.named })
 ]
 
 -- ---- a key at a position
@@ -48,7 +48,7 @@ key_there p low = omega arith
 
 -- an arc holds its first position
 pub first_held : (arc : Arc) → IsArc arc × (arc.lo < 2 ^ 32) → IsTrue (holds arc arc.lo)
-first_held arc is = lt-ltb (offset arc arc.lo) arc.len (near arc.lo arc.len is.1 is.0.some)
+first_held arc fact = lt-ltb (offset arc arc.lo) arc.len (near arc.lo arc.len fact.1 fact.0.some)
   where
     near : (lo len : ℕ) → lo < 2 ^ 32 → 1 ≤ len → ((lo + 2 ^ 32) - lo) % 2 ^ 32 < len
     near lo len a b = omega arith
@@ -87,7 +87,7 @@ module _ (words : ℕ → ℕ → ℕ × ℕ) (scenario : Scenario) (first : Bas
         among = f.among;
         named = f.named;
         state = state;
-        there = logs.states name ∙ (ap (option_map (state_of scenario rows)) f.is ∙ ap Some (sym state));
+        there = logs.states name ∙ (ap (option_map (state_of scenario rows)) f.fact ∙ ap Some (sym state));
       }
 
   -- what the world has of a group that stands
@@ -97,7 +97,7 @@ module _ (words : ℕ → ℕ → ℕ × ℕ) (scenario : Scenario) (first : Bas
 
   -- where a cut of its name is placed, its group is that of the newest replica
   pub placed_group : (name : Draw) (q : StandsQuiet (replicas_after scenario rows) name) (cut : Cut) → cut.group ≡ name → (placed : IsPlaced (world_at as_nodes scenario.groups rows) cut) → placed.group ≡ q.lead.group
-  placed_group name q cut named placed = same_Some placed.group q.lead.group (sym placed.is ∙ (ap (effective world) named ∙ effective_is name q))
+  placed_group name q cut named placed = same_Some placed.group q.lead.group (sym placed.fact ∙ (ap (effective world) named ∙ effective_is name q))
 
   -- it has a cut of the ring
   pub cut_there : (name : Draw) (q : StandsQuiet (replicas_after scenario rows) name) → (cut : Cut) × Among cut (world_at as_nodes scenario.groups rows).ring × (cut.group ≡ name)

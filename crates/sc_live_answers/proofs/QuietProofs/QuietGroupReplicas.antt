@@ -10,7 +10,7 @@ use Rattle.sc_node_table.specs.Definitions.{ReplicaState, next, last_slot}
 use Rattle.sc_meaning.specs.sound.Definitions.{Player, births, as_nodes}
 use Rattle.sc_live_steps.specs.calm.Definitions.{players, HasReplica}
 use Rattle.sc_law_entries.specs.logs.Definitions.{Rows}
-use Rattle.sc_live_steps.specs.following.Definitions.{marks_of, Course, Progress, Sets, members_at, Tellers, AreAt}
+use Rattle.sc_live_steps.specs.following.Definitions.{marks_of, Course, Progress, Sets, members_at, SlotLeaders, AreAt}
 use Rattle.sc_live_steps.proofs.FollowingProofs.Lemmas.{quiet_members_know}
 use Rattle.sc_live_journals.specs.rows.Definitions.{IsEvenAt, next_in, progress_at, marks_at}
 use Rattle.sc_live_journals.proofs.RowsProofs.Lemmas.{quiet_rests}
@@ -32,10 +32,10 @@ opens_same at slot (x ∷ xs) (y ∷ ys) f g e = ap (λ l. l ∷ xs) (sym f.0 �
 -- each is of one of these slots
 pub set_slot : (at : Sets) (slot : ℕ) (sets : List (List ℕ)) (set : List ℕ) → AreAt at slot sets → Among set sets → (s : ℕ) × (slot ≤ s) × (s < slot + length sets) × (at s ≡ set)
 set_slot at slot [] set f a = absurd a
-set_slot at slot (x ∷ sets) set f (inl is) = (slot, omega arith, omega arith, f.0 ∙ is)
+set_slot at slot (x ∷ sets) set f (inl fact) = (slot, omega arith, omega arith, f.0 ∙ fact)
 set_slot at slot (x ∷ sets) set f (inr a) = (let more = set_slot at (slot + 1) sets set f.1 a in let low = more.1 in let high = more.2 in (more.0, omega (arith, low), omega (arith, high), more.3))
 
-module _ (by : Tellers) (words : ℕ → ℕ → ℕ × ℕ) (scenario : Scenario) (journal prefix : Rows) (base : Base) (course : Course) (q : IsQuietGroup by words scenario journal prefix base course) where
+module _ (by : SlotLeaders) (words : ℕ → ℕ → ℕ × ℕ) (scenario : Scenario) (journal prefix : Rows) (base : Base) (course : Course) (q : IsQuietGroup by words scenario journal prefix base course) where
   abbrev pub at : Sets
   at = logged_sets as_nodes base journal
 
@@ -71,8 +71,8 @@ module _ (by : Tellers) (words : ℕ → ℕ → ℕ × ℕ) (scenario : Scenari
   has_one node some = by_view (view node) refl some
     where
       first : (b : Bool) → is_member base.core.members node ≡ b → 1 ≤ cond b 1 0 → HasReplica (replicas_at scenario prefix) base.core.id node
-      first true is low = q.born node is
-      first false is low = absurd (omega (arith, low))
+      first true fact low = q.born node fact
+      first false fact low = absurd (omega (arith, low))
 
       by_view : (o : Option ReplicaState) → view node ≡ o → 1 ≤ next_in base node o → HasReplica (replicas_at scenario prefix) base.core.id node
       by_view (Some r) e low = (r, e)
@@ -85,9 +85,9 @@ module _ (by : Tellers) (words : ℕ → ℕ → ℕ × ℕ) (scenario : Scenari
   members_have node slot low m = elim (cases_lt slot course.newest) [
     | inl lt ↦ (let more = knows node slot lt m in has_one node (omega (arith, more)))
     | inr ge ↦ (let same : slot ≡ course.newest = omega (arith, low, ge) in
-        let is = newest_next node (subst (λ s. is_member (members_at at s) node ≡ true) same m) in
+        let fact = newest_next node (subst (λ s. is_member (members_at at s) node ≡ true) same m) in
         let some = q.led.followed.follows.some in
-        has_one node (omega (arith, is, some)))
+        has_one node (omega (arith, fact, some)))
   ]
 
   pub states : (node : ℕ) (r : ReplicaState) → view node ≡ Some r → IsOfLog at over r

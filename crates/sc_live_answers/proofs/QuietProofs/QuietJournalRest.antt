@@ -55,13 +55,13 @@ free_here bond work errands b w e =
     ap (λ x. (let h : Here = record { bond = x; work = work; errands = errands } in h)) b
     ∙ (ap (λ x. (let h : Here = record { bond = Unbound; work = x; errands = errands } in h)) w ∙ ap (λ x. (let h : Here = record { bond = Unbound; work = []; errands = x } in h)) e)
 
-module _ (found_law : PrefixesAreFound) (rest_law : QuietPrefixesRest) (words : ℕ → ℕ → ℕ × ℕ) (scenario : Scenario) (first : Base) (journal prefix : Rows) (q : IsQuietPrefix words scenario journal prefix) (is : IsQuietJournal words scenario first prefix)
+module _ (found_law : PrefixesAreFound) (rest_law : QuietPrefixesRest) (words : ℕ → ℕ → ℕ × ℕ) (scenario : Scenario) (first : Base) (journal prefix : Rows) (q : IsQuietPrefix words scenario journal prefix) (fact : IsQuietJournal words scenario first prefix)
     (besides : RestsBesides words scenario journal prefix q.sent) where
   abbrev s : System Player Mail OrderLine
   s = players words (births as_nodes scenario)
 
   at_rest : (name : Draw) (node : ℕ) (r : ReplicaState) → view_at (births as_nodes scenario) prefix name node ≡ Some r → IsAtRest r
-  at_rest name node r e = is.quiet.at_rest name node r ((found_law words scenario journal prefix q.calm q.begins).views name node ∙ e)
+  at_rest name node r e = fact.quiet.at_rest name node r ((found_law words scenario journal prefix q.calm q.begins).views name node ∙ e)
 
   none : (name : Draw) → errands_for name (left_after prefix) ≡ []
   none name =
@@ -91,13 +91,13 @@ module _ (found_law : PrefixesAreFound) (rest_law : QuietPrefixesRest) (words : 
     done = λ name node r e runs. (let k = at_rest name node r e in (k.acts, k.backlog));
     rounds = besides.rounds;
     rising = besides.rising;
-    clients = is.clients;
-    answered = is.quiet.answered;
-    players = is.players;
-    reached = is.reached;
+    clients = fact.clients;
+    answered = fact.quiet.answered;
+    players = fact.players;
+    reached = fact.reached;
     turn = besides.turn;
     turns = besides.turns;
   })
 
 pub quiet_journals_rest : PrefixesAreFound → QuietPrefixesRest → QuietJournalsRest
-quiet_journals_rest found_law rest_law words scenario first journal prefix q is besides = rests found_law rest_law words scenario first journal prefix q is besides
+quiet_journals_rest found_law rest_law words scenario first journal prefix q fact besides = rests found_law rest_law words scenario first journal prefix q fact besides

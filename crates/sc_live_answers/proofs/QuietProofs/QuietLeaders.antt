@@ -15,13 +15,13 @@ use Rattle.sc_live_steps.proofs.FollowingProofs.Lemmas.{least_in}
 no_route : (into : Route) → ◌≡◌ {A = Option Route} None (Some into) → ⊥
 no_route into e = cc
 
-module _ (scenario : Scenario) (quiet : Rows) (first : Route) (clients : _) (is : IsQuiet (replicas_after scenario quiet) first clients) (known : AreKnown scenario quiet) where
+module _ (scenario : Scenario) (quiet : Rows) (first : Route) (clients : _) (fact : IsQuiet (replicas_after scenario quiet) first clients) (known : AreKnown scenario quiet) where
   abbrev at : View
   at = replicas_after scenario quiet
 
   -- whoever runs leads
   pub leads_it : (name : Draw) (node : ℕ) (r : ReplicaState) → replicas_after scenario quiet name node ≡ Some r → r.running ≡ true → (stands : StandsQuiet (replicas_after scenario quiet) name) × (r ≡ stands.lead)
-  leads_it name node r has runs = elim (is.groups name node (r, has)) [
+  leads_it name node r has runs = elim (fact.groups name node (r, has)) [
     | inl s ↦ (s, s.alone node r has runs)
     | inr gone ↦ absurd (true≢false (sym runs ∙ gone.stopped node r has))
   ]
@@ -36,7 +36,7 @@ module _ (scenario : Scenario) (quiet : Rows) (first : Route) (clients : _) (is 
   pub link_stands : (name : Draw) (s : StandsQuiet (replicas_after scenario quiet) name) → StandsQuiet (replicas_after scenario quiet) s.lead.group.core.succ.group
   link_stands name s =
       let l = s.linked in
-      elim (is.groups s.lead.group.core.succ.group l.behind.me (l.behind, l.newest.is_there)) [
+      elim (fact.groups s.lead.group.core.succ.group l.behind.me (l.behind, l.newest.is_there)) [
         | inl stands ↦ stands
         | inr gone ↦ absurd (no_route gone.into (sym l.stands ∙ (ap (λ (g : Group). g.core.gone) (newest_same s.lead.group.core.succ.group l.behind gone.last l.newest gone.newest) ∙ gone.went)))
       ]

@@ -48,11 +48,11 @@ module _ (scenario : Scenario) (prefix : Rows) (map : IsOneMap (world_at as_node
       by : (o : Option Base) → birth_at as_nodes scenario.groups prefix cut.group ≡ o → (base : Base) × Among base (groups_at as_nodes scenario.groups prefix) × (base.core.id ≡ cut.group) × (p.group ≡ state base)
       by None e =
           let none : named_group cut.group world.groups ≡ None = logs.states cut.group ∙ ap (option_map state) e in
-          absurd (none-some p.group (sym (ap (option_map (λ (g : Group). effective_by g.core.lock world.transactions g)) none) ∙ p.is))
+          absurd (none-some p.group (sym (ap (option_map (λ (g : Group). effective_by g.core.lock world.transactions g)) none) ∙ p.fact))
       by (Some base) e =
           let f = find_found (is_birth_of cut.group) (groups_at as_nodes scenario.groups prefix) base e in
           let named = draw_is base.core.id cut.group f.1 in
-          (base, f.0, named, same_Some p.group (state base) (sym p.is ∙ (ap (effective world) (sym named) ∙ effective_is base f.0)))
+          (base, f.0, named, same_Some p.group (state base) (sym p.fact ∙ (ap (effective world) (sym named) ∙ effective_is base f.0)))
 
   -- who stands behind a group that stands
   pub record HasNext (base : Base) : Type 0 where
@@ -81,7 +81,7 @@ module _ (scenario : Scenario) (prefix : Rows) (map : IsOneMap (world_at as_node
   next_of base a stands =
       let c = cut_of base a stands in
       let p = map.placed c.cut c.among in
-      let own : p.group ≡ state base = same_Some p.group (state base) (sym p.is ∙ c.own) in
+      let own : p.group ≡ state base = same_Some p.group (state base) (sym p.fact ∙ c.own) in
       let n = p.succ in
       let x = map.placed n.0 n.1 in
       let of = of_cut n.0 x in
@@ -104,7 +104,7 @@ module _ (executed : QuietLogsAreExecuted) (finds : PrefixesAreFound) (all_there
       let own = place by words scenario journal prefix base course k course.ballot.node lead here in
       let whole = last_state executed finds words scenario journal prefix q base a course.ballot.node lead here (omega (arith, far, own, end)) in
       let led_stands : lead.group.core.gone ≡ None = none_of lead.group.core.gone ((states by words scenario journal prefix base course k course.ballot.node lead here).ends ∙ (ap (over_at as_nodes base journal) (omega (arith, far, own)) ∙ (sym k.led.ends ∙ stands))) in
-      let map = (sounds as_nodes refl words scenario q.calm.valid journal q.calm.lawful prefix q.begins.more q.begins.is).whole in
+      let map = (sounds as_nodes refl words scenario q.calm.valid journal q.calm.lawful prefix q.begins.more q.begins.fact).whole in
       let n = next_of scenario prefix map (entries as_nodes refl words scenario q.calm.valid prefix f.lawful) (λ one other x y e. f.apart one other (f.later one x) (f.later other y) e) free
       (λ b x s. haves words scenario prefix b q.calm.valid f.lawful x (free b x) s) base a (ap (λ (g : Group). g.core.gone) (sym whole) ∙ led_stands) in
       let last_ = last executed finds words scenario journal prefix q there n.other n.among in

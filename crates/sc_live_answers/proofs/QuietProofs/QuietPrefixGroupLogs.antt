@@ -10,7 +10,7 @@ use Rattle.sc_node_table.specs.Definitions.{ReplicaState, next}
 use Rattle.sc_meaning.specs.sound.Definitions.{groups_at, decided_log, births, as_nodes, HasRun}
 use Rattle.sc_live_steps.specs.calm.Definitions.{players, HasReplica}
 use Rattle.sc_law_entries.specs.logs.Definitions.{Rows}
-use Rattle.sc_live_steps.specs.following.Definitions.{Course, members_at, Tellers}
+use Rattle.sc_live_steps.specs.following.Definitions.{Course, members_at, SlotLeaders}
 use Rattle.sc_live_steps.proofs.FollowingProofs.Lemmas.{least_in}
 use Rattle.sc_live_journals.specs.logs.Definitions.{logged_sets, IsGroupOf}
 use Rattle.sc_live_journals.specs.rows.Definitions.{view_at}
@@ -18,10 +18,10 @@ use Rattle.sc_live_journals.specs.groups.Definitions.{ScenariosAreWellBorn}
 use Rattle.sc_live_journals.proofs.GroupsProofs.Lemmas.{kept_leaders_rest, scenarios_kept_born, quiet_groups_led}
 use Rattle.sc_live_answers.specs.Definitions.{over_at, GroupsBeginTaught, slot_leaders_at, IsQuietGroup, IsQuietPrefix, IsKnownGroup, IsFoundPrefix, PrefixesAreFound, QuietPrefixesHaveGroups, QuietLogsAreExecuted, GroupsAreAskedThrough, NoMailForStrangers, PrefixMembersHaveReplicas}
 use Rattle.sc_live_answers.proofs.QuietProofs.QuietGroupReplicas.{at, over, all, view, members_have, newest_next, place, room}
-use Rattle.sc_live_answers.proofs.GroupsProofs.LogLengths.{log_short}
+use Rattle.sc_live_answers.proofs.LedGroupsProofs.LogLengths.{log_short}
 pub use Rattle.sc_live_steps.proofs.PumpProofs.Pumping.{none_at as none_taken}
 
-module _ (by : Tellers) (words : ℕ → ℕ → ℕ × ℕ) (scenario : Scenario) (journal prefix : Rows) (base : Base) (course : Course) (q : IsQuietGroup by words scenario journal prefix base course) where
+module _ (by : SlotLeaders) (words : ℕ → ℕ → ℕ × ℕ) (scenario : Scenario) (journal prefix : Rows) (base : Base) (course : Course) (q : IsQuietGroup by words scenario journal prefix base course) where
   -- some replica has executed as much as the newest state
   pub newest_there : (node : ℕ) × (r : ReplicaState) × (view by words scenario journal prefix base course q node ≡ Some r) × (next r ≡ course.newest)
   newest_there =
@@ -56,7 +56,7 @@ module _ (by : Tellers) (words : ℕ → ℕ → ℕ × ℕ) (scenario : Scenari
 
 -- the rows of a prefix come in time
 pub prefix_timely : (words : ℕ → ℕ → ℕ × ℕ) (scenario : Scenario) (journal prefix : Rows) → IsQuietPrefix words scenario journal prefix → AreInTime (players words (births as_nodes scenario)) prefix
-prefix_timely words scenario journal prefix q = λ before row after e. q.calm.timely before row (after ++ q.begins.more) (q.begins.is ∙ (ap (λ rows. rows ++ q.begins.more) e ∙ append_assoc before (row ∷ after) q.begins.more))
+prefix_timely words scenario journal prefix q = λ before row after e. q.calm.timely before row (after ++ q.begins.more) (q.begins.fact ∙ (ap (λ rows. rows ++ q.begins.more) e ∙ append_assoc before (row ∷ after) q.begins.more))
 
 module _ (wb : ScenariosAreWellBorn) (begin : GroupsBeginTaught) (through : GroupsAreAskedThrough) (none : NoMailForStrangers) (words : ℕ → ℕ → ℕ × ℕ) (scenario : Scenario) (journal prefix : Rows) (base : Base) (q : IsQuietPrefix words scenario journal prefix) where
   -- its first members have replicas
@@ -69,7 +69,7 @@ module _ (wb : ScenariosAreWellBorn) (begin : GroupsBeginTaught) (through : Grou
       let by = slot_leaders_at as_nodes scenario base journal in
       let t = q.sent base a in
       let on = through (logged_sets as_nodes base journal) (over_at as_nodes base journal) by words (births as_nodes scenario) prefix base (wb scenario) t.one t.so (prefix_timely words scenario journal prefix q) (begin words by scenario journal base group) in
-      let len = ap length q.begins.is in
+      let len = ap length q.begins.fact in
       let parts = length-append prefix q.begins.more in
       let short = q.calm.short in
       record {
@@ -77,7 +77,7 @@ module _ (wb : ScenariosAreWellBorn) (begin : GroupsBeginTaught) (through : Grou
         quiet = record {
           group = group;
           more = q.begins.more;
-          split = q.begins.is;
+          split = q.begins.fact;
           timely = prefix_timely words scenario journal prefix q;
           quiet = q.quiet;
           short = omega (arith, len, parts, short);

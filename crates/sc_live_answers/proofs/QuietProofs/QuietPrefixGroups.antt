@@ -11,7 +11,7 @@ use Rattle.sc_node_table.specs.Definitions.{ReplicaState, next}
 use Rattle.sc_meaning.specs.sound.Definitions.{groups_at, decided_log, decided_state, as_nodes, HasRun}
 use Rattle.sc_live_steps.specs.calm.Definitions.{HasReplica}
 use Rattle.sc_law_entries.specs.logs.Definitions.{Rows}
-use Rattle.sc_live_steps.specs.following.Definitions.{Course, members_at, Tellers}
+use Rattle.sc_live_steps.specs.following.Definitions.{Course, members_at, SlotLeaders}
 use Rattle.sc_live_journals.specs.logs.Definitions.{logged_sets}
 use Rattle.sc_live_answers.specs.Definitions.{state_at, replicas_at, IsQuietGroup, GoneAgree, IsQuietPrefix, IsFoundPrefix, PrefixesAreFound, QuietLogsAreExecuted, RoutesInPrefixesAgree}
 use Rattle.sc_live_answers.proofs.QuietProofs.QuietGroupReplicas.{even, members_have, place, states}
@@ -51,7 +51,7 @@ module _ (executed : QuietLogsAreExecuted) (finds : PrefixesAreFound) (words : �
         let all : length (decided_log as_nodes base prefix) ≤ run.count = omega (arith, next_is, last) in
         run.group_is ∙ ap (state_after (group_of base)) (take_all run.count (decided_log as_nodes base prefix) all)
 
-    module _ (by : Tellers) (course : Course) (k : IsQuietGroup by words scenario journal prefix base course) where
+    module _ (by : SlotLeaders) (course : Course) (k : IsQuietGroup by words scenario journal prefix base course) where
       pub ends : length (decided_log as_nodes base prefix) + 1 ≡ course.newest
       ends =
           let last = newest_there by words scenario journal prefix base course k in
@@ -89,7 +89,7 @@ module _ (executed : QuietLogsAreExecuted) (finds : PrefixesAreFound) (words : �
           (ap (λ ms. is_member ms node) (set ∙ ap (λ cs. (state_after (group_of base) cs).core.members) same) ∙ m)
 
     -- the newest state by the journal is that of the prefix
-    pub newest_state : (by : Tellers) (course : Course) → IsQuietGroup by words scenario journal prefix base course → state_at as_nodes base journal course.newest ≡ decided_state as_nodes base prefix
+    pub newest_state : (by : SlotLeaders) (course : Course) → IsQuietGroup by words scenario journal prefix base course → state_at as_nodes base journal course.newest ≡ decided_state as_nodes base prefix
     newest_state by course k =
         let longer = found.goes_on base a in
         let end = ends by course k in

@@ -12,7 +12,7 @@ use Rattle.sc_live_answers.proofs.ReplicasProofs.MemberNodes.{members_are_home a
 use Rattle.sc_live_answers.proofs.ErrandsProofs.UnknownReceivers.{strangers_get_none}
 use Rattle.sc_live_answers.proofs.ChildrenProofs.LogChildren.{entries_create_children as entries_create_children_by}
 use Rattle.sc_live_answers.proofs.ChildrenProofs.ChildReplicas.{children_are_made as children_are_made_by}
-use Rattle.sc_live_answers.proofs.GroupsProofs.LedGroupLaws.{groups_are_born_or_not, groups_begin_taught, replicas_run_logs}
+use Rattle.sc_live_answers.proofs.LedGroupsProofs.LedGroupLaws.{groups_are_born_or_not, groups_begin_taught, replicas_run_logs}
 use Rattle.sc_live_answers.proofs.ReplicasProofs.GroupReplicas.{prefix_members_have_replicas as prefix_members_have_replicas_by, prefix_groups_have_replicas as prefix_groups_have_replicas_by}
 use Rattle.sc_live_answers.proofs.QuietProofs.QuietPrefixGroupLogs.{quiet_prefixes_have_groups as quiet_prefixes_have_groups_by, quiet_logs_are_executed as quiet_logs_are_executed_by}
 use Rattle.sc_live_answers.proofs.QuietProofs.QuietPrefixGroups.{routes_in_prefixes_agree as routes_in_prefixes_agree_by}
@@ -26,7 +26,7 @@ use Rattle.sc_live_answers.proofs.RequestsProofs.RequestLaws.{lawful_replicas_ar
 use Rattle.sc_live_journals.proofs.ChartsProofs.Lemmas.{led_stand_once}
 use Rattle.sc_live_journals.proofs.MailProofs.Lemmas.{replicas_last, entries_leave_over}
 use Rattle.sc_live_journals.proofs.LogsProofs.Lemmas.{views_are_replicas}
-use Rattle.sc_live_answers.proofs.GroupsProofs.GroupEndOrder.{turns_go_on}
+use Rattle.sc_live_answers.proofs.LedGroupsProofs.GroupEndOrder.{turns_go_on}
 use Rattle.sc_live_answers.proofs.ReplicasProofs.FirstReplicas.{first_groups_are_reached as first_groups_are_reached_by}
 
 -- After a lawful journal in which no group is bound, the nodes that links and routes name were members of the groups that these name.

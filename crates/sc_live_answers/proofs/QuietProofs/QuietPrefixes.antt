@@ -1,12 +1,12 @@
 -- What is known of a prefix of a lawful journal.
-use Rattle.std.proofs.Common.{◌≡◌, ℕ, ◌≤◌, ◌+◌, ◌<◌, ◌&&◌, leb, eqb, Bool, true, zero, suc, List, [], ◌∷◌, ◌++◌, map, Option, Some, None, inl, inr, refl, sym, ◌∙◌, ap, subst, arith}
+use Rattle.std.proofs.Common.{◌≡◌, ℕ, ◌≤◌, ◌+◌, ◌<◌, ◌&&◌, leb, eqb, Bool, zero, suc, List, [], ◌∷◌, ◌++◌, map, Option, Some, None, inl, inr, refl, sym, ◌∙◌, ap, subst, arith}
 use Rattle.std.specs.Prelude.{find}
 use Rattle.std.proofs.lemmas.Bool.{cases_Bool, cond_both, cond-true, eqb-true, and_from, and_parts, le-leb, leb-true, both_ways}
 use Rattle.std.proofs.lemmas.Option.{none-some}
 use Rattle.sc_base.specs.Definitions.{Among, most_nodes, same_draw}
-use Rattle.sc_node_table.specs.Values.{Draw, Base, OrderLine, Mail, Node, Client, Seat, Input, Row}
+use Rattle.sc_node_table.specs.Values.{Draw, Base, Node, Client, Seat, OrderLine, Mail, Input, Row}
 use Rattle.sc_base.proofs.Lemmas.{draw_is}
-use Rattle.sc_actor.specs.Definitions.{input_of, acted, replay, value}
+use Rattle.sc_actor.specs.Definitions.{value}
 use Rattle.sc_actor.proofs.Lemmas.{lawful-prefix}
 use Rattle.sc_words.proofs.PaxosProofs.Lemmas.{find_found}
 use Rattle.sc_paxos_law.proofs.Lemmas.{Among-either, from_map}
@@ -19,32 +19,18 @@ use Rattle.sc_law_entries.specs.logs.Definitions.{Rows, DecideInTurn}
 use Rattle.sc_law_entries.proofs.LogsProofs.Lemmas.{deciding_rows_stay}
 use Rattle.sc_law_entries.specs.names.Definitions.{OtherNamesAreFree, TakenOrdersAreAllowed, TakenWishesAreAllowed, WishesAreAtPositions}
 use Rattle.sc_law_groups.specs.whole.Definitions.{ValidScenariosBeginWell, ValidJournalsAreSound}
+use Rattle.sc_live_plain.proofs.PlainProofs.PlainSteps.{node_in}
 use Rattle.sc_live_plain.specs.Definitions.{replicas_after, replicas_of}
 use Rattle.sc_live_journals.specs.rows.Definitions.{replicas_of as view_replicas, replica_in, view_at}
 use Rattle.sc_live_answers.specs.Definitions.{AreAtNodes, IsPrefixOf, IsOfGroup, IsFoundPrefix, PrefixesAreFound}
 use Rattle.sc_live_answers.proofs.ReplicasProofs.ReplicaNodes.{at_nodes}
 use Rattle.sc_live_answers.proofs.LinksProofs.LinkLogs.{sources, well, turn, found}
-pub use Rattle.sc_live_plain.proofs.RowsProofs.NodeSeats.{seat_in}
-
--- ---- a client stays one
-
-abbrev pub IsClient : Player → Type 0
-IsClient (Node node) = ⊥
-IsClient (Client client) = Unit {0}
-
-acted_client : (player : Player) (o : Option (Input Mail OrderLine)) → IsClient player → IsClient (acted player_table player o).0
-acted_client (Node node) o is = absurd is
-acted_client (Client client) None is = tt
-acted_client (Client client) (Some input) is = tt
-
-pub replayed_client : (who : ℕ) (rows : List (Row Mail OrderLine)) (player : Player) (sent : List Mail) → IsClient player → IsClient (replay player_table who player sent rows)
-replayed_client who [] player sent is = is
-replayed_client who (row ∷ rows) player sent is =
-    replayed_client who rows _ (sent ++ row.sent) (cond_both (eqb row.who who) (acted player_table player (input_of sent row.event)).0 player IsClient (λ _. acted_client player (input_of sent row.event) is) (λ _. is))
+pub use Rattle.sc_law_entries.proofs.NamesProofs.Fresh.{IsClient, replay_client}
+pub use Rattle.sc_live_plain.proofs.PlainRowsProofs.NodeSeats.{seat_in}
 
 no_replica : (name : Draw) (player : Player) → IsClient player → replica_of name (view_replicas player) ≡ None
-no_replica name (Node node) is = absurd is
-no_replica name (Client client) is = refl
+no_replica name (Node node) fact = absurd fact
+no_replica name (Client client) fact = refl
 
 -- ---- seats
 
@@ -54,38 +40,35 @@ client_among (base ∷ groups) clients seat a = (let f = from_map (client_seat (
 
 pub node_among : (groups : List Base) (policy : Bool) (count from : ℕ) (seat : Seat Player) → Among seat (map (node_seat as_nodes groups policy) (numbers_from from count)) → (from ≤ seat.who) × (seat.who < from + count)
 node_among groups policy zero from seat a = absurd a
-node_among groups policy (suc count) from seat (inl e) = (let is = ap (λ (s : Seat Player). s.who) e in (omega (arith, is), omega (arith, is)))
+node_among groups policy (suc count) from seat (inl e) = (let fact = ap (λ (s : Seat Player). s.who) e in (omega (arith, fact), omega (arith, fact)))
 node_among groups policy (suc count) from seat (inr a) = (let more = node_among groups policy count (from + 1) seat a in let low = more.0 in let high = more.1 in (omega (arith, low), omega (arith, high)))
 
 module _ (bounded : ValidScenariosAreBounded) (begin : ValidScenariosBeginWell) (allowed : TakenOrdersAreAllowed) (wishes : TakenWishesAreAllowed) (positions : WishesAreAtPositions) (free : OtherNamesAreFree) (sounds : ValidJournalsAreSound)
-    (words : ℕ → ℕ → ℕ × ℕ) (scenario : Scenario) (journal prefix : Rows) (valid : IsValid scenario) (lawful : Lawful as_nodes words scenario journal) (is : IsPrefixOf journal prefix) (homes : AreAtNodes scenario prefix) where
-  sound : IsSound as_nodes scenario prefix is.more
-  sound = sounds as_nodes refl words scenario valid journal lawful prefix is.more is.is
+    (words : ℕ → ℕ → ℕ × ℕ) (scenario : Scenario) (journal prefix : Rows) (valid : IsValid scenario) (lawful : Lawful as_nodes words scenario journal) (fact : IsPrefixOf journal prefix) (homes : AreAtNodes scenario prefix) where
+  sound : IsSound as_nodes scenario prefix fact.more
+  sound = sounds as_nodes refl words scenario valid journal lawful prefix fact.more fact.fact
 
   lawful_prefix : Lawful as_nodes words scenario prefix
-  lawful_prefix = lawful-prefix (system_of as_nodes words scenario) (schedule scenario) prefix is.more (subst (Lawful as_nodes words scenario) is.is lawful)
+  lawful_prefix = lawful-prefix (system_of as_nodes words scenario) (schedule scenario) prefix fact.more (subst (Lawful as_nodes words scenario) fact.fact lawful)
 
   later : (base : Base) → Among base (groups_at as_nodes scenario.groups prefix) → Among base (groups_at as_nodes scenario.groups journal)
   later base a =
       let s = sources bounded begin allowed wishes positions free words scenario journal valid lawful in
       let w = well bounded begin allowed wishes positions free words scenario journal valid lawful in
       let t = turn bounded begin allowed wishes positions free words scenario journal valid lawful in
-      subst (λ rows. Among base (groups_at as_nodes scenario.groups rows)) (sym is.is)
-      ((deciding_rows_stay s as_nodes scenario.groups w.place prefix is.more (subst (DecideInTurn s as_nodes scenario.groups []) is.is t)).groups base a)
+      subst (λ rows. Among base (groups_at as_nodes scenario.groups rows)) (sym fact.fact)
+      ((deciding_rows_stay s as_nodes scenario.groups w.place prefix fact.more (subst (DecideInTurn s as_nodes scenario.groups []) fact.fact t)).groups base a)
 
   goes_on : (base : Base) → Among base (groups_at as_nodes scenario.groups prefix) → Continues (decided_log as_nodes base prefix) (decided_log as_nodes base journal)
   goes_on base a =
-      subst (Continues (decided_log as_nodes base prefix)) (ap (λ rows. log_at as_nodes scenario.groups rows base.core.id) (sym is.is) ∙ ((found bounded begin allowed wishes positions free words scenario journal valid lawful).known base (later base a)).log)
+      subst (Continues (decided_log as_nodes base prefix)) (ap (λ rows. log_at as_nodes scenario.groups rows base.core.id) (sym fact.fact) ∙ ((found bounded begin allowed wishes positions free words scenario journal valid lawful).known base (later base a)).log)
       (sound.one_log base a).grows
-
-  node_is : (node : ℕ) → 1 ≤ node → node ≤ scenario.nodes → is_node node ≡ true
-  node_is node low high = (let most = (bounded scenario valid).nodes.1 in and_from (leb 1 node) (leb node most_nodes) (le-leb 1 node low) (le-leb node most_nodes (omega (arith, high, most))))
 
   abbrev player : ℕ → Player
   player node = value player_table (node_seat as_nodes scenario.groups scenario.policy node) prefix
 
   is_there : (name : Draw) (node : ℕ) → 1 ≤ node → node ≤ scenario.nodes → replicas_after scenario prefix name node ≡ replica_of name (replicas_of (player node))
-  is_there name node low high = cond-true (is_node node) (replica_of name (replicas_of (player node))) None (node_is node low high)
+  is_there name node low high = cond-true (is_node node) (replica_of name (replicas_of (player node))) None (node_in scenario.nodes node (bounded scenario valid).nodes.1 low high)
 
   replicas : (name : Draw) (node : ℕ) (r : ReplicaState) → replicas_after scenario prefix name node ≡ Some r → IsOfGroup scenario prefix name r
   replicas name node r e =
@@ -121,7 +104,7 @@ module _ (bounded : ValidScenariosAreBounded) (begin : ValidScenariosBeginWell) 
                 let low = in_.0 in
                 let high = in_.1 in
                 absurd (out (omega (arith, own, low), omega (arith, own, high))))
-            | inr a ↦ no_replica name (value player_table seat prefix) (replayed_client seat.who prefix seat.actor [] (client_among scenario.groups scenario.clients seat a))
+            | inr a ↦ no_replica name (value player_table seat prefix) (replay_client seat.who seat.actor [] prefix (client_among scenario.groups scenario.clients seat a))
           ]
 
   abbrev is_home : ℕ → Bool
@@ -147,4 +130,4 @@ module _ (bounded : ValidScenariosAreBounded) (begin : ValidScenariosBeginWell) 
   found_prefix = record { homes = homes; lawful = lawful_prefix; apart = (found bounded begin allowed wishes positions free words scenario journal valid lawful).apart; later = later; goes_on = goes_on; is_log = λ base a. (sound.one_log base a).is_log; replicas = replicas; views = views }
 
 pub prefixes_are_found : ValidScenariosAreBounded → ValidScenariosBeginWell → TakenOrdersAreAllowed → TakenWishesAreAllowed → WishesAreAtPositions → OtherNamesAreFree → ValidJournalsAreSound → PrefixesAreFound
-prefixes_are_found bounded begin allowed wishes positions free sounds words scenario journal prefix calm is = found_prefix bounded begin allowed wishes positions free sounds words scenario journal prefix calm.valid calm.lawful is (at_nodes bounded words scenario journal prefix calm is)
+prefixes_are_found bounded begin allowed wishes positions free sounds words scenario journal prefix calm fact = found_prefix bounded begin allowed wishes positions free sounds words scenario journal prefix calm.valid calm.lawful fact (at_nodes bounded words scenario journal prefix calm fact)

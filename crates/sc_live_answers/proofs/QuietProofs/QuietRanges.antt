@@ -29,17 +29,17 @@ module _ (words : ℕ → ℕ → ℕ × ℕ) (scenario : Scenario) (first : Bas
   -- a group that stands is that of a cut
   record HasCut (lead : ReplicaState) : Type 0 where
     cut : Cut
-    is : IsOfCut world (frame_at_rest lead) cut
+    fact : IsOfCut world (frame_at_rest lead) cut
 
   of_cut : (name : Draw) (q : StandsQuiet at name) (cut : Cut) → Among cut world.ring → cut.group ≡ name → IsOfCut world (frame_at_rest q.lead) cut
   of_cut name q cut among named = record {
     among = among;
     named = named ∙ sym (quiet.kept name q.lead.me q.lead q.newest.is_there).name_is;
-    placed = λ is. ap (λ (g : Group). g.core) (placed_group words scenario first rows map logs known quiet name q cut named is);
+    placed = λ fact. ap (λ (g : Group). g.core) (placed_group words scenario first rows map logs known quiet name q cut named fact);
   }
 
   cut_of : (name : Draw) (q : StandsQuiet at name) → HasCut q.lead
-  cut_of name q = (let c = cut_there words scenario first rows map logs known quiet name q in record { cut = c.0; is = of_cut name q c.0 c.1 c.2 })
+  cut_of name q = (let c = cut_there words scenario first rows map logs known quiet name q in record { cut = c.0; fact = of_cut name q c.0 c.1 c.2 })
 
   -- the group of a cut stands
   stands_there : (cut : Cut) → Among cut world.ring → (frame : Frame) × Among frame frames × IsOfCut world frame cut
@@ -58,15 +58,15 @@ module _ (words : ℕ → ℕ → ℕ × ℕ) (scenario : Scenario) (first : Bas
             | inr g ↦ (
                 let h = had words scenario first rows map logs known quiet cut.group g.last g.newest.is_there g.newest.most in
                 let free = (quiet.quiet.at_rest cut.group g.last.me g.last g.newest.is_there).free in
-                let is = same_Some placed.group g.last.group (sym placed.is ∙ free_is words scenario first rows map logs known quiet cut.group g.last.group h.there free) in
-                absurd (none-some g.into (sym placed.here ∙ (ap (λ (x : Group). x.core.gone) is ∙ g.went))))
+                let fact = same_Some placed.group g.last.group (sym placed.fact ∙ free_is words scenario first rows map logs known quiet cut.group g.last.group h.there free) in
+                absurd (none-some g.into (sym placed.here ∙ (ap (λ (x : Group). x.core.gone) fact ∙ g.went))))
           ]
 
       by_state : (o : Option Base) → birth_at as_nodes scenario.groups rows cut.group ≡ o → (frame : Frame) × Among frame frames × IsOfCut world frame cut
       by_state (Some base) e = with_base base e
       by_state None e =
           let none : named_group cut.group world.groups ≡ None = logs.states cut.group ∙ ap (option_map (state_of scenario rows)) e in
-          absurd (none-some placed.group (sym (ap (option_map (λ (g : Group). effective_by g.core.lock world.transactions g)) none) ∙ placed.is))
+          absurd (none-some placed.group (sym (ap (option_map (λ (g : Group). effective_by g.core.lock world.transactions g)) none) ∙ placed.fact))
 
   apart : AreNamedApart frames
   apart one other a b same =
@@ -83,7 +83,7 @@ module _ (words : ℕ → ℕ → ℕ × ℕ) (scenario : Scenario) (first : Bas
   cut_of_frame frame a =
       let f = are.are frame a in
       let c = cut_of f.0 f.1 in
-      (c.cut, subst (λ x. IsOfCut world x c.cut) f.2 c.is)
+      (c.cut, subst (λ x. IsOfCut world x c.cut) f.2 c.fact)
 
 -- In a quiet journal whose groups are one map the groups that stand are those of the cuts, where each group of the journal has a replica, and one that has executed as much as any has executed its whole log.
 pub quiet_cuts : QuietGroupsHaveCuts

@@ -8,10 +8,10 @@ use Rattle.sc_scenario.specs.declared.scenario.scenarios.Scenario.{Scenario}
 use Rattle.sc_node_table.specs.Definitions.{is_node, ReplicaState, next}
 use Rattle.sc_meaning.specs.sound.Definitions.{as_nodes}
 use Rattle.sc_live_steps.specs.calm.Definitions.{IsUnbound}
-use Rattle.sc_live_steps.proofs.CalmProofs.Lemmas.{unbound_new}
+use Rattle.sc_live_steps.proofs.CalmStepsProofs.Lemmas.{unbound_new}
 use Rattle.sc_live_plain.specs.Definitions.{IsOfNodes, IsKept}
 use Rattle.sc_law_entries.specs.logs.Definitions.{Rows}
-use Rattle.sc_live_steps.specs.following.Definitions.{Sets, Course, Tellers, AreAt}
+use Rattle.sc_live_steps.specs.following.Definitions.{Sets, Course, SlotLeaders, AreAt}
 use Rattle.sc_live_journals.specs.rows.Definitions.{IsWellKept}
 use Rattle.sc_live_journals.proofs.RowsProofs.Lemmas.{Plays, Found, found_well, replay_well}
 use Rattle.sc_live_journals.specs.logs.Definitions.{ReplicasAreLogged}
@@ -37,7 +37,7 @@ fourth sets slot (a ∷ []) f e = absurd (omega (arith, e))
 fourth sets slot (a ∷ b ∷ []) f e = absurd (omega (arith, e))
 fourth sets slot (a ∷ b ∷ c ∷ []) f e = absurd (omega (arith, e))
 
-module _ (logged : ReplicasAreLogged) (by : Tellers) (words : ℕ → ℕ → ℕ × ℕ) (scenario : Scenario) (journal prefix : Rows) (base : Base) (course : Course) (q : IsQuietGroup by words scenario journal prefix base course)
+module _ (logged : ReplicasAreLogged) (by : SlotLeaders) (words : ℕ → ℕ → ℕ × ℕ) (scenario : Scenario) (journal prefix : Rows) (base : Base) (course : Course) (q : IsQuietGroup by words scenario journal prefix base course)
     (node : ℕ) (r : ReplicaState) (e : view by words scenario journal prefix base course q node ≡ Some r) where
   abbrev sets : Sets
   sets = at by words scenario journal prefix base course q
@@ -46,7 +46,7 @@ module _ (logged : ReplicasAreLogged) (by : Tellers) (words : ℕ → ℕ → �
   well =
       let v = found by words scenario journal prefix base course q node r e in
       let h = v.2 in
-      let plays = subst (Plays v.0.who) h.is (replay_well v.0.who v.0.who prefix v.0.actor [] (plays_of v.0.who v.0.actor ((scenarios_well_born scenario).well v.0 h.seated))) in
+      let plays = subst (Plays v.0.who) h.fact (replay_well v.0.who v.0.who prefix v.0.actor [] (plays_of v.0.who v.0.actor ((scenarios_well_born scenario).well v.0 h.seated))) in
       subst (λ w. IsWellKept w r) v.3 (subst (Found v.0.who) h.here (found_well v.0.who base.core.id v.1.replicas plays.1))
 
   each_set : Each IsOfNodes r.sets

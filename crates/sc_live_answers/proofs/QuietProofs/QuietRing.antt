@@ -32,7 +32,7 @@ last_near lo len a b c = omega arith
 
 last_held : (arc : Arc) → IsArc arc × (arc.lo < 2 ^ 32) → IsTrue (holds arc (last_of arc))
 unfolding last_of
-last_held arc is = lt-ltb (offset arc (last_of arc)) arc.len (last_near arc.lo arc.len is.1 is.0.some is.0.most)
+last_held arc fact = lt-ltb (offset arc (last_of arc)) arc.len (last_near arc.lo arc.len fact.1 fact.0.some fact.0.most)
 
 last_low : (arc : Arc) → last_of arc < 2 ^ 32
 unfolding last_of
@@ -57,24 +57,24 @@ module _ (words : ℕ → ℕ → ℕ × ℕ) (scenario : Scenario) (first : Bas
     cut : Cut
     among : Among cut world.ring
     named : cut.group ≡ name
-    is : (placed : IsPlaced world cut) → placed.group ≡ lead.group
+    fact : (placed : IsPlaced world cut) → placed.group ≡ lead.group
 
   cut_of : (name : Draw) (q : StandsQuiet (replicas_after scenario rows) name) → HasCut name q.lead
   cut_of name q =
       let c = cut_there words scenario first rows map logs known quiet name q in
-      record { cut = c.0; among = c.1; named = c.2; is = placed_group words scenario first rows map logs known quiet name q c.0 c.2 }
+      record { cut = c.0; among = c.1; named = c.2; fact = placed_group words scenario first rows map logs known quiet name q c.0 c.2 }
 
   has_inside : (group : Group) (cut : Cut) → Among cut world.ring → effective world cut.group ≡ Some group → group.core.arc ≡ cut.arc → InsideOf group.core.arc group.pairs
-  has_inside group cut among is arc =
-      subst (λ a. InsideOf a group.pairs) (sym arc) (subst (InsideOf cut.arc) (sym (map.parts cut among group is)) (inside_part cut.arc (contents_after empty world.history)))
+  has_inside group cut among fact arc =
+      subst (λ a. InsideOf a group.pairs) (sym arc) (subst (InsideOf cut.arc) (sym (map.parts cut among group fact)) (inside_part cut.arc (contents_after empty world.history)))
 
   -- what it has lies on its arc
   pub keys_of : (name : Draw) (q : StandsQuiet (replicas_after scenario rows) name) → InsideOf q.lead.group.core.arc q.lead.group.pairs
   keys_of name q =
       let mine = cut_of name q in
       let placed = map.placed mine.cut mine.among in
-      let my_group = mine.is placed in
-      has_inside q.lead.group mine.cut mine.among (placed.is ∙ ap Some my_group) (ap (λ (g : Group). g.core.arc) (sym my_group) ∙ placed.arc)
+      let my_group = mine.fact placed in
+      has_inside q.lead.group mine.cut mine.among (placed.fact ∙ ap Some my_group) (ap (λ (g : Group). g.core.arc) (sym my_group) ∙ placed.arc)
 
   -- ---- two groups, one behind the other
 
@@ -86,7 +86,7 @@ module _ (words : ℕ → ℕ → ℕ × ℕ) (scenario : Scenario) (first : Bas
     placed = map.placed mine.cut mine.among
 
     my_group : placed.group ≡ q.lead.group
-    my_group = mine.is placed
+    my_group = mine.fact placed
 
     behind_named : placed.succ.0.group ≡ q.lead.group.core.succ.group
     behind_named = sym placed.succ.3 ∙ ap (λ (g : Group). g.core.succ.group) my_group
@@ -95,7 +95,7 @@ module _ (words : ℕ → ℕ → ℕ × ℕ) (scenario : Scenario) (first : Bas
     behind = map.placed placed.succ.0 placed.succ.1
 
     its_group : behind.group ≡ s.lead.group
-    its_group = same_Some behind.group s.lead.group (sym behind.is ∙ (ap (effective world) behind_named ∙ effective_is words scenario first rows map logs known quiet q.lead.group.core.succ.group s))
+    its_group = same_Some behind.group s.lead.group (sym behind.fact ∙ (ap (effective world) behind_named ∙ effective_is words scenario first rows map logs known quiet q.lead.group.core.succ.group s))
 
     -- the one behind begins where the other ends
     pub meets : s.lead.group.core.arc.lo ≡ end_of q.lead.group.core.arc
@@ -121,7 +121,7 @@ module _ (words : ℕ → ℕ → ℕ × ℕ) (scenario : Scenario) (first : Bas
     its_arc = subst (λ (a : Arc). IsArc a × (a.lo < 2 ^ 32)) (sym behind.arc ∙ ap (λ (g : Group). g.core.arc) its_group) (map.covers.arcs placed.succ.0 placed.succ.1)
 
     on_ring : (arc : Arc) → IsArc arc × (arc.lo < 2 ^ 32) → IsOnRing arc
-    on_ring arc is = record { lo_fits = is.1; some = is.0.some; len_fits = is.0.most }
+    on_ring arc fact = record { lo_fits = fact.1; some = fact.0.some; len_fits = fact.0.most }
 
     held_by : (arc other : Arc) (p : ℕ) → arc ≡ other → Holds arc p → IsTrue (holds other p)
     held_by arc other p e h = subst (λ a. IsTrue (holds a p)) e (lt-ltb (offset arc p) arc.len h)
@@ -138,6 +138,6 @@ module _ (words : ℕ → ℕ → ℕ × ℕ) (scenario : Scenario) (first : Bas
           room = room_of q.lead.group.core.arc s.lead.group.core.arc (on_ring q.lead.group.core.arc my_arc) (on_ring s.lead.group.core.arc its_arc) meets (λ p low h i. (
               let one : mine.cut ≡ placed.succ.0 = map.covers.only p low mine.cut placed.succ.0 mine.among placed.succ.1 (held_by q.lead.group.core.arc mine.cut.arc p my h) (held_by s.lead.group.core.arc placed.succ.0.arc p its i) in
               other (sym mine.named ∙ (ap (λ (c : Cut). c.group) one ∙ behind_named))));
-          inside = has_inside q.lead.group mine.cut mine.among (placed.is ∙ ap Some my_group) my;
-          its_inside = has_inside s.lead.group placed.succ.0 placed.succ.1 (behind.is ∙ ap Some its_group) its;
+          inside = has_inside q.lead.group mine.cut mine.among (placed.fact ∙ ap Some my_group) my;
+          its_inside = has_inside s.lead.group placed.succ.0 placed.succ.1 (behind.fact ∙ ap Some its_group) its;
         }

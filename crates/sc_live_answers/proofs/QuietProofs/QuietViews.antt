@@ -40,8 +40,8 @@ module _ (all_bounded : ValidScenariosAreBounded) (named : LawfulReplicasAreName
       let same : base ≡ first = cc in
       let f = from_map (client_seat (route_of base)) scenario.clients seat a in
       let p = quiet.players f.0 f.1 in
-      let is : value player_table seat rows ≡ Client p.0 = ap (λ x. value player_table x rows) (sym f.2) ∙ (ap (λ (x : Base). value player_table (client_seat (route_of x) f.0) rows) same ∙ p.1) in
-      subst (λ player. Among r (chart_replicas player)) is here
+      let fact : value player_table seat rows ≡ Client p.0 = ap (λ x. value player_table x rows) (sym f.2) ∙ (ap (λ (x : Base). value player_table (client_seat (route_of x) f.0) rows) same ∙ p.1) in
+      subst (λ player. Among r (chart_replicas player)) fact here
 
   -- each replica is one that is seen of its group
   pub all_seen : (r : ReplicaState) → Among r all → (me : ℕ) × (seen_at (name_of r) me ≡ Some r)

@@ -9,7 +9,7 @@ use Rattle.sc_node_table.specs.Definitions.{ReplicaState, next}
 use Rattle.sc_meaning.specs.sound.Definitions.{as_nodes}
 use Rattle.sc_live_steps.specs.calm.Definitions.{IsAtRest}
 use Rattle.sc_law_entries.specs.logs.Definitions.{Rows}
-use Rattle.sc_live_steps.specs.following.Definitions.{Sets, Course, members_at, Tellers, IsMemberBy}
+use Rattle.sc_live_steps.specs.following.Definitions.{Sets, Course, members_at, SlotLeaders, IsMemberBy}
 use Rattle.sc_live_journals.specs.groups.Definitions.{RestsCleared, IsSlotKept}
 use Rattle.sc_live_journals.proofs.GroupsProofs.Lemmas.{kept_leaders_rest, scenarios_kept_born}
 use Rattle.sc_live_answers.specs.Definitions.{state_at, ReplicasRunLogs, replicas_at, IsQuietGroup, IsDone, QuietReplicasRest}
@@ -17,7 +17,7 @@ use Rattle.sc_live_answers.proofs.RestProofs.FreeLeavers.{leavers_free}
 use Rattle.sc_live_journals.specs.mail.Definitions.{IsPlainlyKept}
 use Rattle.sc_live_answers.proofs.QuietProofs.QuietGroupReplicas.{at, over, all, view, even, knows, place, kept, plain, room, ran}
 
-module _ (run : ReplicasRunLogs) (by : Tellers) (words : ℕ → ℕ → ℕ × ℕ) (scenario : Scenario) (journal prefix : Rows) (base : Base) (course : Course) (q : IsQuietGroup by words scenario journal prefix base course)
+module _ (run : ReplicasRunLogs) (by : SlotLeaders) (words : ℕ → ℕ → ℕ × ℕ) (scenario : Scenario) (journal prefix : Rows) (base : Base) (course : Course) (q : IsQuietGroup by words scenario journal prefix base course)
     (free : (state_at as_nodes base journal course.newest).core.lock ≡ Free) (done : IsDone (replicas_at scenario prefix) base) (node : ℕ) (r : ReplicaState) (e : view by words scenario journal prefix base course q node ≡ Some r) where
   abbrev sets : Sets
   sets = at by words scenario journal prefix base course q
@@ -27,11 +27,11 @@ module _ (run : ReplicasRunLogs) (by : Tellers) (words : ℕ → ℕ → ℕ × 
 
   -- the state of one that is not as far is that after an entry by which its node went
   free_behind : (slot : ℕ) → next r ≡ suc slot → next r < course.newest → (state_at as_nodes base journal (suc slot)).core.lock ≡ Free
-  free_behind slot is low = elim (cases_Bool (is_member (members_at sets (suc slot)) node)) [
-    | inl member ↦ (let more = knows by words scenario journal prefix base course q node (suc slot) (omega (arith, low, is)) member in
+  free_behind slot fact low = elim (cases_Bool (is_member (members_at sets (suc slot)) node)) [
+    | inl member ↦ (let more = knows by words scenario journal prefix base course q node (suc slot) (omega (arith, low, fact)) member in
         let here = place by words scenario journal prefix base course q node r e in
-        absurd (omega (arith, more, here, is)))
-    | inr out ↦ leavers_free as_nodes words scenario journal base q.group slot node (was_member (q.taught.learnt node slot (place by words scenario journal prefix base course q node r e ∙ is)) out) out
+        absurd (omega (arith, more, here, fact)))
+    | inr out ↦ leavers_free as_nodes words scenario journal base q.group slot node (was_member (q.taught.learnt node slot (place by words scenario journal prefix base course q node r e ∙ fact)) out) out
   ]
     where
       was_member : IsMemberBy sets node slot → is_member (members_at sets (suc slot)) node ≡ false → is_member (members_at sets slot) node ≡ true
@@ -42,12 +42,12 @@ module _ (run : ReplicasRunLogs) (by : Tellers) (words : ℕ → ℕ → ℕ × 
   state_free = elim (cases_lt (next r) course.newest) [
     | inl low ↦ (let some = ran_here.0 in
         let k = next r - 1 in
-        let is : next r ≡ suc k = omega (arith, some) in
-        subst (λ n. (state_at as_nodes base journal n).core.lock ≡ Free) (sym is) (free_behind k is low))
+        let fact : next r ≡ suc k = omega (arith, some) in
+        subst (λ n. (state_at as_nodes base journal n).core.lock ≡ Free) (sym fact) (free_behind k fact low))
     | inr ge ↦ (let most = (even by words scenario journal prefix base course q).even.most node in
         let here = place by words scenario journal prefix base course q node r e in
-        let is : next r ≡ course.newest = omega (arith, ge, most, here) in
-        subst (λ n. (state_at as_nodes base journal n).core.lock ≡ Free) (sym is) free)
+        let fact : next r ≡ course.newest = omega (arith, ge, most, here) in
+        subst (λ n. (state_at as_nodes base journal n).core.lock ≡ Free) (sym fact) free)
   ]
 
   lock_free : r.group.core.lock ≡ Free
@@ -62,10 +62,10 @@ module _ (run : ReplicasRunLogs) (by : Tellers) (words : ℕ → ℕ → ℕ × 
   -- one that runs is the leader
   cleared : r.running ≡ true → RestsCleared r
   cleared runs =
-      let is : node ≡ course.ballot.node = (even by words scenario journal prefix base course q).alone node r e runs in
+      let fact : node ≡ course.ballot.node = (even by words scenario journal prefix base course q).alone node r e runs in
       let stands : course.gone ≡ false = (q.led.followed.given.gives node r e runs).0.stands in
       kept_leaders_rest sets (over by words scenario journal prefix base course q) by words (all by words scenario journal prefix base course q) prefix base course r (scenarios_kept_born scenario) q.one.log.rosters q.timely q.quiet q.strangers q.led stands
-      (subst (λ n. view by words scenario journal prefix base course q n ≡ Some r) is e) (room by words scenario journal prefix base course q node r e)
+      (subst (λ n. view by words scenario journal prefix base course q n ≡ Some r) fact e) (room by words scenario journal prefix base course q node r e)
 
   at_rest : IsAtRest r
   at_rest = record {

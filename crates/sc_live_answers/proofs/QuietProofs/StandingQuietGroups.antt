@@ -12,7 +12,7 @@ use Rattle.sc_node_table.specs.Definitions.{ReplicaState, next, members}
 use Rattle.sc_meaning.specs.sound.Definitions.{as_nodes}
 use Rattle.sc_live_steps.specs.calm.Definitions.{IsLinked, IsBelow, MayVote, IsUpToDate, StandsQuiet, IsGoneQuiet}
 use Rattle.sc_law_entries.specs.logs.Definitions.{Rows}
-use Rattle.sc_live_steps.specs.following.Definitions.{Sets, Course, Progress, members_at, IsOpen, IsEvenLed, Tellers, IsLeadOf, AreAt}
+use Rattle.sc_live_steps.specs.following.Definitions.{Sets, Course, Progress, members_at, IsOpen, IsEvenLed, SlotLeaders, IsLeadOf, AreAt}
 use Rattle.sc_live_steps.proofs.FollowingProofs.Lemmas.{least_in}
 use Rattle.sc_live_journals.specs.rows.Definitions.{promise_in}
 use Rattle.sc_live_journals.proofs.RowsProofs.Lemmas.{same_some}
@@ -23,7 +23,7 @@ use Rattle.sc_live_answers.proofs.QuietProofs.QuietGroupReplicas.{opens_same, se
 use Rattle.sc_live_answers.proofs.QuietProofs.QuietPrefixGroupLogs.{none_taken}
 use Rattle.sc_law_walks.proofs.Lemmas.{some_there}
 
-module _ (run : ReplicasRunLogs) (by : Tellers) (words : ℕ → ℕ → ℕ × ℕ) (scenario : Scenario) (journal prefix : Rows) (base : Base) (course : Course) (q : IsQuietGroup by words scenario journal prefix base course) where
+module _ (run : ReplicasRunLogs) (by : SlotLeaders) (words : ℕ → ℕ → ℕ × ℕ) (scenario : Scenario) (journal prefix : Rows) (base : Base) (course : Course) (q : IsQuietGroup by words scenario journal prefix base course) where
   abbrev sets : Sets
   sets = at by words scenario journal prefix base course q
 
@@ -62,7 +62,7 @@ module _ (run : ReplicasRunLogs) (by : Tellers) (words : ℕ → ℕ → ℕ × 
 
     -- the leader's own node holds the leader
     is_lead : (node : ℕ) (r : ReplicaState) → see node ≡ Some r → node ≡ lead.me → r ≡ lead
-    is_lead node r e is = same_some (see lead.me) r lead (subst (λ n. see n ≡ Some r) is e) own_place
+    is_lead node r e fact = same_some (see lead.me) r lead (subst (λ n. see n ≡ Some r) fact e) own_place
 
     lead_votes : IsOpen sets course.newest lead.me → MayVote lead lead
     lead_votes open_ = record {
@@ -75,7 +75,7 @@ module _ (run : ReplicasRunLogs) (by : Tellers) (words : ℕ → ℕ → ℕ × 
 
     votes : (node : ℕ) (r : ReplicaState) → see node ≡ Some r → IsOpen sets course.newest node → MayVote lead r
     votes node r e open_ = elim (cases_eq node lead.me) [
-      | inl is ↦ subst (MayVote lead) (sym (is_lead node r e is)) (lead_votes (subst (IsOpen sets course.newest) is open_))
+      | inl fact ↦ subst (MayVote lead) (sym (is_lead node r e fact)) (lead_votes (subst (IsOpen sets course.newest) fact open_))
       | inr ne ↦ led.voter node r e (own_me node r e) open_ ne
     ]
 

@@ -1,6 +1,6 @@
 -- What a group that is well led is in a quiet journal, as the definition of a quiet journal asks it.
 use Rattle.sc_live_answers.proofs.QuietProofs.StandingQuietGroups.{quiet_groups_stand as quiet_groups_stand_by, quiet_groups_are_gone as quiet_groups_are_gone_by}
-use Rattle.sc_live_answers.proofs.GroupsProofs.LedGroupLaws.{replicas_run_logs}
+use Rattle.sc_live_answers.proofs.LedGroupsProofs.LedGroupLaws.{replicas_run_logs}
 use Rattle.sc_live_answers.specs.Definitions.{QuietGroupsStand, QuietGroupsAreGone, QuietReplicasRest, QuietReplicasAreKept}
 use Rattle.sc_live_answers.proofs.QuietProofs.RestingReplicas.{quiet_replicas_rest as quiet_replicas_rest_by}
 use Rattle.sc_live_answers.proofs.QuietProofs.QuietReplicaInvariants.{quiet_replicas_are_kept as quiet_replicas_are_kept_by}

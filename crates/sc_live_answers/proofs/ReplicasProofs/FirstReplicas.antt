@@ -17,18 +17,18 @@ use Rattle.sc_live_plain.specs.Definitions.{replicas_after}
 use Rattle.sc_live_answers.specs.Definitions.{IsCalmJournal, IsPrefixOf, PrefixesAreFound, FirstGroupsAreReached}
 use Rattle.sc_live_answers.proofs.LinksProofs.LinkLogs.{of_up_to}
 
-module _ (bounded : ValidScenariosAreBounded) (finds : PrefixesAreFound) (words : ℕ → ℕ → ℕ × ℕ) (scenario : Scenario) (journal prefix : Rows) (calm : IsCalmJournal words scenario journal) (is : IsPrefixOf journal prefix) where
+module _ (bounded : ValidScenariosAreBounded) (finds : PrefixesAreFound) (words : ℕ → ℕ → ℕ × ℕ) (scenario : Scenario) (journal prefix : Rows) (calm : IsCalmJournal words scenario journal) (fact : IsPrefixOf journal prefix) where
   bound : IsBounded scenario
   bound = bounded scenario calm.valid
 
   timely : AreInTime (players words (births as_nodes scenario)) prefix
-  timely = λ before row after e. calm.timely before row (after ++ is.more) (is.is ∙ (ap (λ rows. rows ++ is.more) e ∙ append_assoc before (row ∷ after) is.more))
+  timely = λ before row after e. calm.timely before row (after ++ fact.more) (fact.fact ∙ (ap (λ rows. rows ++ fact.more) e ∙ append_assoc before (row ∷ after) fact.more))
 
   of_member : (base : Base) → Among base scenario.groups → (node : ℕ) → is_member base.core.members node ≡ true → HasReplica (replicas_after scenario prefix) base.core.id node
   of_member base a node m =
       let one = view_born scenario bound base a node ∙ cond-true (is_member base.core.members node) (Some (born_replica slots_ahead node base)) None m in
       let later = replicas_last words scenario [] prefix base.core.id node (born_replica slots_ahead node base) timely one in
-      (later.0, (finds words scenario journal prefix calm is).views base.core.id node ∙ later.1)
+      (later.0, (finds words scenario journal prefix calm fact).views base.core.id node ∙ later.1)
 
   some_member : (base : Base) → Among base scenario.groups → 1 ≤ length base.core.members
   some_member base a =
@@ -43,6 +43,6 @@ module _ (bounded : ValidScenariosAreBounded) (finds : PrefixesAreFound) (words 
 
 pub first_groups_are_reached : ValidScenariosAreBounded → PrefixesAreFound → FirstGroupsAreReached
 first_groups_are_reached bounded finds = record {
-  members = λ words scenario journal prefix base calm is a node m. of_member bounded finds words scenario journal prefix calm is base a node m;
-  first = λ words scenario journal prefix first others calm is e. of_first bounded finds words scenario journal prefix calm is first others e;
+  members = λ words scenario journal prefix base calm fact a node m. of_member bounded finds words scenario journal prefix calm fact base a node m;
+  first = λ words scenario journal prefix first others calm fact e. of_first bounded finds words scenario journal prefix calm fact first others e;
 }

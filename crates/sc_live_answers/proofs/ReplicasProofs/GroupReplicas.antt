@@ -12,13 +12,13 @@ use Rattle.sc_live_steps.specs.calm.Definitions.{players, HasReplica}
 use Rattle.sc_law_entries.specs.logs.Definitions.{Rows, Descends, AreFound}
 use Rattle.sc_law_entries.specs.names.Definitions.{OtherNamesAreFree, TakenOrdersAreAllowed, TakenWishesAreAllowed, WishesAreAtPositions}
 use Rattle.sc_law_groups.specs.whole.Definitions.{ValidScenariosBeginWell}
-use Rattle.sc_live_steps.specs.following.Definitions.{Tells, Mark, reached}
+use Rattle.sc_live_steps.specs.following.Definitions.{Teaches, Mark, reached}
 use Rattle.sc_live_journals.specs.rows.Definitions.{view_at, marks_at, next_in}
 use Rattle.sc_live_journals.proofs.RowsProofs.Lemmas.{view_born}
 use Rattle.sc_live_journals.proofs.MailProofs.Lemmas.{replicas_last}
 use Rattle.sc_live_journals.specs.groups.Definitions.{ScenariosAreWellBorn}
 use Rattle.sc_live_answers.specs.Definitions.{GroupsBeginTaught, slot_leaders_at, IsBirth, IsQuietPrefix, IsFoundPrefix, PrefixesAreFound, GroupsAreAskedThrough, NoMailForStrangers, ChildrenAreMade, PrefixGroupsHaveReplicas, PrefixMembersHaveReplicas}
-use Rattle.sc_live_answers.proofs.GroupsProofs.GroupBeginnings.{begun_first}
+use Rattle.sc_live_answers.proofs.LedGroupsProofs.GroupBeginnings.{begun_first}
 use Rattle.sc_live_answers.proofs.QuietProofs.QuietGroupReplicas.{none}
 use Rattle.sc_live_journals.specs.scenes.Definitions.{IsThere}
 use Rattle.sc_live_answers.proofs.ChildrenProofs.NamedChildren.{birth_slot}
@@ -59,17 +59,17 @@ module _ (bounded : ValidScenariosAreBounded) (begin : ValidScenariosBeginWell) 
       let k = executed wb begin_taught through no_mail words scenario journal prefix parent q finds here has in
       let by = slot_leaders_at as_nodes scenario parent journal in
       let t = q.sent parent (seen.later parent here) in
-      let on = made words by scenario journal prefix q.begins.more parent k.0.quiet.group q.begins.is timely t.one t.so in
+      let on = made words by scenario journal prefix q.begins.more parent k.0.quiet.group q.begins.fact timely t.one t.so in
       let last = newest_there by words scenario journal prefix parent k.0.course k.0.quiet in
       let silent : (who_ : ℕ) → marks_at (players words (births as_nodes scenario)) prefix parent.core.id who_ ≡ [] = λ who_. none by words scenario journal prefix parent k.0.course k.0.quiet who_ in
       let within : next_in parent last.0 (view_at (births as_nodes scenario) prefix parent.core.id last.0) ≤ on.course.newest =
       subst (λ (ms : List Mark). reached (next_in parent last.0 (view_at (births as_nodes scenario) prefix parent.core.id last.0)) ms ≤ on.course.newest) (silent last.0) (on.led.followed.follows.within last.0) in
-      let is = ap (next_in parent last.0) last.2 in
+      let fact = ap (next_in parent last.0) last.2 in
       let top = last.3 in
       let log = k.1 in
-      elim (on.born slot base who b (omega (arith, within, is, top, log, low)) member) [
+      elim (on.born slot base who b (omega (arith, within, fact, top, log, low)) member) [
         | inl found_one ↦ found_one
-        | inr a ↦ absurd (subst (Among (Tells slot)) (silent who) a)
+        | inr a ↦ absurd (subst (Among (Teaches slot)) (silent who) a)
       ]
 
   descends : (depth : ℕ) (base : Base) → Descends as_nodes scenario.groups prefix depth base → HasAll base

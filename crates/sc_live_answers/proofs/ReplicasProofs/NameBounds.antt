@@ -23,7 +23,7 @@ use Rattle.sc_live_answers.proofs.OrdersProofs.OrderDeliveries.{there_or}
 use Rattle.sc_live_answers.proofs.AnswersProofs.RestingCharts.{led_is_there, there_is_led}
 use Rattle.sc_live_answers.proofs.RestProofs.GoneGroupsInPrefixes.{once_among}
 use Rattle.sc_live_answers.proofs.ReplicasProofs.NameLists.{apart_few, once_apart, once_split}
-use Rattle.sc_live_answers.proofs.GroupsProofs.GuidedGroups.{named_there}
+use Rattle.sc_live_answers.proofs.LedGroupsProofs.GuidedGroups.{named_there}
 
 -- ---- lists
 
@@ -66,7 +66,7 @@ module _ (all_bounded : ValidScenariosAreBounded) (led_once : LedStandOnce) (fou
 
   of_scenario : (group : Draw) → Among group (names_at all []) → Among group ids
   of_scenario group a =
-      let found = found_law words scenario journal [] calm (record { more = journal; is = refl }) in
+      let found = found_law words scenario journal [] calm (record { more = journal; fact = refl }) in
       let there = there_led [] group (is_led_born group a) in
       let of = found.replicas group there.0 there.1 (found.views group there.0 ∙ there.2) in
       subst (λ n. Among n ids) of.named (map_among (λ (base : Base). base.core.id) scenario.groups of.base of.among)
@@ -115,7 +115,7 @@ module _ (all_bounded : ValidScenariosAreBounded) (led_once : LedStandOnce) (fou
         keeps (inl same) = (let grown = names_grow all rows row in by grown.0 (grown.1 ∙ ap (λ l. l ++ grown.0) same) grown.2)
           where
             is_new : (name : Draw) (more : List Draw) → names_at all (rows ++ row ∷ []) ≡ names_at all quiet ++ more → is_led all (rows ++ row ∷ []) name ≡ true → Among name more → name ≡ task.name
-            is_new name more e led a = elim (old_or name led) [ inl old ↦ absurd (new_name (names_at all quiet) more e name led a old) | inr is ↦ is ]
+            is_new name more e led a = elim (old_or name led) [ inl old ↦ absurd (new_name (names_at all quiet) more e name led a old) | inr fact ↦ fact ]
 
             by : (more : List Draw) → names_at all (rows ++ row ∷ []) ≡ names_at all quiet ++ more → Each (λ name. is_led all (rows ++ row ∷ []) name ≡ true) more → HasNamesSince all quiet (rows ++ row ∷ []) task
             by [] e led = inl (e ∙ append-nil (names_at all quiet))
@@ -130,7 +130,7 @@ module _ (all_bounded : ValidScenariosAreBounded) (led_once : LedStandOnce) (fou
             by [] e led = inr (e ∙ append-nil (names_at all quiet ++ task.name ∷ []))
             by (name ∷ more) e led = absurd (new_name (names_at all quiet ++ task.name ∷ []) (name ∷ more) e name led.0 (inl refl) (elim (old_or name led.0) [
               | inl old ↦ Among-left name (names_at all quiet) (task.name ∷ []) old
-              | inr is ↦ Among-right name (names_at all quiet) (task.name ∷ []) (inl (sym is))
+              | inr fact ↦ Among-right name (names_at all quiet) (task.name ∷ []) (inl (sym fact))
             ]))
 
 -- one name more for one order more

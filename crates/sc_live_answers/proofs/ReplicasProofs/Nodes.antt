@@ -23,5 +23,5 @@ node_replays who sent (row ∷ rows) node = by (eqb row.who who) (λ later. node
 
 pub node_value : NodesKeepTops → NodesAreBornTopped → (scenario : Scenario) (rows : Rows) (me : ℕ) → (node : NodeState) × (value player_table (node_seat as_nodes scenario.groups scenario.policy me) rows ≡ Node node) × (node.me ≡ me)
 node_value keep born scenario rows me =
-    let is = node_replays me [] rows (born_node slots_ahead me scenario.groups scenario.policy) in
-    (is.0, is.1, (keep (node_seat as_nodes scenario.groups scenario.policy me) rows (born_node slots_ahead me scenario.groups scenario.policy) is.0 refl (born me scenario.groups scenario.policy) is.1).1)
+    let fact = node_replays me [] rows (born_node slots_ahead me scenario.groups scenario.policy) in
+    (fact.0, fact.1, (keep (node_seat as_nodes scenario.groups scenario.policy me) rows (born_node slots_ahead me scenario.groups scenario.policy) fact.0 refl (born me scenario.groups scenario.policy) fact.1).1)

@@ -1,17 +1,15 @@
 -- What of a replica's table leaves its group and its log, and so is no entry.
-use Rattle.std.proofs.Common.{ℕ, ◌+◌, ◌-◌, ◌^◌, ◌&&◌, not, nat_le, eqb, Bool, true, false, cond, List, [], ◌∷◌, Option, Some, None}
-use Rattle.std.specs.Prelude.{is_some}
-use Rattle.std.specs.List.{filter, list_any}
-use Rattle.sc_node_table.specs.Values.{Ballot, Command, Noop, Call, Join, Leave, Split, Begin, Prepared, RecordVote, GiveUp, Finish, Watched, RecordWatch, Effect, Route, OrderResult, AnswerBody, PrepareAnswer, AcceptAnswer, Must, Gap, Report}
+use Rattle.std.proofs.Common.{ℕ, ◌-◌, ◌^◌, ◌&&◌, not, nat_le, eqb, Bool, true, false, cond, List, [], ◌∷◌, Option, Some, None}
+use Rattle.std.specs.List.{filter}
+use Rattle.sc_node_table.specs.Values.{Ballot, Command, Noop, Call, Join, Leave, Split, Begin, Prepared, RecordVote, GiveUp, Finish, Watched, RecordWatch, Effect, Route, OrderResult, AnswerBody, PrepareAnswer, AcceptAnswer, Report}
 use Rattle.sc_mail.specs.declared.bodies.AnswerBody.TheVariants as Answers
 use Rattle.sc_base.specs.Definitions.{is_member, least_of}
 use Rattle.sc_words.specs.declared.paxos.answers.PrepareAnswer.TheVariants as Prepared
 use Rattle.sc_words.specs.declared.paxos.answers.AcceptAnswer.TheVariants as Asked
-use Rattle.sc_words.specs.declared.paxos.answers.Must.TheVariants.{Value, Free as Open}
-use Rattle.sc_words.specs.paxos.Definitions.{AcceptorState, accepted as accepted_by, below, LeaderState, promise_counted, must, prepared}
-use Rattle.sc_node_table.specs.Definitions.{elected, ended, stopped, saw, answer_of, answered_or_put_back, order_result, effect_reported, announced, learnt_to, welcomed, slot_lost, left_gone, left, is_among, looked_for, looked, install_to, asked_to_promise, welcomed_all, Found, is_act, from_backlog, from_acts, from_queues, found_by, found_for, offered, pumped_from, pumped, put_back, ReplicaState, Place, next, members, settled, may_offer, taken_at, under_way, is_idle, last_slot, ask_row, spoken, hinted, promise_to, promised, prepare_row, accepted_to, took, accept_row, leads, promise_row, nack_row}
+use Rattle.sc_words.specs.paxos.Definitions.{AcceptorState, accepted as accepted_by, below, LeaderState, promise_counted, prepared}
+use Rattle.sc_node_table.specs.Definitions.{elected, ended, stopped, saw, answer_of, answered_or_put_back, order_result, effect_reported, announced, learnt_to, welcomed, slot_lost, left_gone, left, is_among, looked_for, looked, install_to, asked_to_promise, welcomed_all, offered, pumped, put_back, ReplicaState, Place, members, ask_row, spoken, hinted, promise_to, promised, prepare_row, accepted_to, took, accept_row, leads, promise_row, nack_row}
 use Rattle.sc_node_table.specs.declared.Before.{Before}
-use Rattle.sc_law_walks.proofs.Lemmas.{asked_place, either_way}
+use Rattle.sc_law_walks.proofs.Lemmas.{asked_place, pumped_freely, either_way}
 
 -- P speaks of a replica's group, its log and its number alone
 module _ (P : ReplicaState → Type 0) (any : (r : ReplicaState) (acceptor : AcceptorState Command) (hint : Option ℕ) (top : Ballot) (running : Bool) (leader : LeaderState Command) (ready : List (ℕ × Command)) (acts backlog : List Command) (waits : ℕ)
@@ -60,49 +58,12 @@ module _ (P : ReplicaState → Type 0) (any : (r : ReplicaState) (acceptor : Acc
 
   -- ---- the pump
 
-  abbrev FF : Found → Type 0
-  FF found = F found.1
-
-  calls_find : (place : Place) → F place → FF (from_backlog place)
-  unfolding from_backlog
-  calls_find (r, mails) p = any r r.acceptor r.hint r.top r.running r.leader r.ready r.acts _ r.waits p
-
-  acts_find : (acts : List Command) (place : Place) → F place → FF (from_acts acts place)
-  acts_find [] place p = calls_find place p
-  acts_find (act ∷ acts) (r, mails) p = either_way FF (is_idle r) (Some act, (record r { acts = acts }, mails)) (None, (r, mails)) (any r r.acceptor r.hint r.top r.running r.leader r.ready acts r.backlog r.waits p) p
-
-  queues_find : (place : Place) → F place → FF (from_queues place)
-  unfolding from_queues
-  queues_find (r, mails) p = either_way FF (list_any is_act (under_way r)) _ _ p (acts_find r.acts (r, mails) p)
-
-  by_must : (m : Must Command) (place : Place) → F place → FF (found_by m place)
-  by_must (Value command) place p = p
-  by_must Gap place p = p
-  by_must Open place p = queues_find place p
-
-  slot_finds : (slot : ℕ) (place : Place) → F place → FF (found_for slot place)
-  unfolding found_for
-  slot_finds slot (r, mails) p = by_must (must slot r.leader) (r, mails) p
-
   slot_offered : (slot : ℕ) (set : List ℕ) (command : Command) (place : Place) → F place → F (offered slot set command place)
   unfolding offered
   slot_offered slot set command (r, mails) p = any r r.acceptor r.hint r.top r.running _ r.ready r.acts r.backlog r.waits p
 
-  pump_by : (slot : ℕ) (set : List ℕ) (sets : List (List ℕ)) (found : Found) → FF found → ((place : Place) → F place → F (pumped_from (slot + 1) sets place))
-      → F (elim (found.0) [ None ↦ found.1 | Some command ↦ pumped_from (slot + 1) sets (offered slot set command found.1) ])
-  pump_by slot set sets (None, place) p more = p
-  pump_by slot set sets (Some command, place) p more = more (offered slot set command place) (slot_offered slot set command place p)
-
-  from_pumps : (slot : ℕ) (sets : List (List ℕ)) (place : Place) → F place → F (pumped_from slot sets place)
-  unfolding pumped_from
-  from_pumps slot [] place p = p
-  from_pumps slot (set ∷ sets) place p =
-      either_way F (is_some (taken_at place.0 slot)) _ _ (from_pumps (slot + 1) sets place p)
-      (either_way F (may_offer place.0 set) _ _ (pump_by slot set sets (found_for slot place) (slot_finds slot place p) (λ q k. from_pumps (slot + 1) sets q k)) p)
-
   pub pumps : (place : Place) → F place → F (pumped place)
-  unfolding pumped
-  pumps place p = either_way F (settled place.0 && nat_le (next place.0) last_slot) (pumped_from (next place.0) place.0.sets place) place (from_pumps (next place.0) place.0.sets place p) p
+  pumps place p = pumped_freely F (λ r mails more acts backlog q. any r r.acceptor r.hint r.top r.running r.leader r.ready acts backlog r.waits q) slot_offered place p
 
   -- ---- an entry, but for the entry itself
 

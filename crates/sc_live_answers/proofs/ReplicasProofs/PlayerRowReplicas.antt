@@ -11,7 +11,7 @@ use Rattle.sc_node_table.specs.Definitions.{NodeState, replica_of, with_replica,
 use Rattle.sc_law_walks.proofs.Lemmas.{either_way}
 use Rattle.sc_meaning.specs.sound.Definitions.{Player, player_table}
 use Rattle.sc_live_steps.specs.calm.Definitions.{players, Rows}
-use Rattle.sc_live_steps.proofs.CalmProofs.Lemmas.{put_others}
+use Rattle.sc_live_steps.proofs.CalmStepsProofs.Lemmas.{put_others}
 use Rattle.sc_live_journals.specs.rows.Definitions.{view_at, IsSeat, with_event}
 use Rattle.sc_live_journals.proofs.RowsProofs.Lemmas.{names_stay, found_name, rows_replicas, view_was, new_is, child_me as born_me}
 use Rattle.sc_live_journals.specs.scenes.Definitions.{IsTaking}
@@ -36,11 +36,11 @@ born_there who kid node me = by (replica_of kid.core.id node.replicas) refl
 
 child_there : (who : ℕ) (kid : Base) (children : List Base) (node : NodeState) → node.me ≡ who → Among kid children → (y : ReplicaState) × (replica_of kid.core.id (with_children children node).replicas ≡ Some y)
 unfolding with_children
-child_there who kid [] node me is = absurd is
+child_there who kid [] node me fact = absurd fact
 child_there who kid (child ∷ children) node me (inl e) =
     let there = born_there who child node me in
     subst (λ (b : Base). (y : ReplicaState) × (replica_of b.core.id (with_children children (with_born child node)).replicas ≡ Some y)) e (stays_there who child.core.id there.0 children (with_born child node) (born_me child node ∙ me) there.1)
-child_there who kid (child ∷ children) node me (inr is) = child_there who kid children (with_born child node) (born_me child node ∙ me) is
+child_there who kid (child ∷ children) node me (inr fact) = child_there who kid children (with_born child node) (born_me child node ∙ me) fact
 
 module _ (words : ℕ → ℕ → ℕ × ℕ) (births : List (Seat Player)) (rows : Rows) (seat : Seat Player) (number : ℕ) where
   -- the player's replicas stay
@@ -55,7 +55,7 @@ module _ (words : ℕ → ℕ → ℕ × ℕ) (births : List (Seat Player)) (row
     pub taking : IsTaking words births rows seat number mail group node
     pub here : replica_of group node.replicas ≡ Some r
     pub was : view_at births rows group seat.who ≡ Some r
-    pub is : view_at births (with_event rows seat (Deliver number)) group seat.who ≡ Some (mailed mail.from mail.body (r, [])).0.0
+    pub fact : view_at births (with_event rows seat (Deliver number)) group seat.who ≡ Some (mailed mail.from mail.body (r, [])).0.0
     pub others : (name : Draw) → (name ≡ group → ⊥) → OneOf name seat.who (mailed mail.from mail.body (r, [])).1 (view_at births (with_event rows seat (Deliver number)) name seat.who) (view_at births rows name seat.who)
     pub made : (kid : Base) → Among kid (mailed mail.from mail.body (r, [])).1 → (kid.core.id ≡ group → ⊥) → (x : ReplicaState) × (view_at births (with_event rows seat (Deliver number)) kid.core.id seat.who ≡ Some x)
 
@@ -73,9 +73,9 @@ module _ (words : ℕ → ℕ → ℕ × ℕ) (births : List (Seat Player)) (row
 
   module _ (born : IsSeat births seat) (timely : AreInTime (players words births) (with_event rows seat (Deliver number))) (mail : Mail) (at : numbered (mails rows) number ≡ Some mail)
       (unanswered : (group : Draw) (seq : ℕ) (answer : AnswerBody) → mail.body ≡ Answer group seq answer → ⊥) (me : (node : NodeState) → value player_table seat rows ≡ Node node → node.me ≡ seat.who) where
-    module _ (node : NodeState) (is : value player_table seat rows ≡ Node node) where
+    module _ (node : NodeState) (fact : value player_table seat rows ≡ Node node) where
       now : (step : NodeState × List Mail) → on_mail mail.from mail.body node ≡ step → (name : Draw) → view_at births (with_event rows seat (Deliver number)) name seat.who ≡ replica_of name step.0.replicas
-      now step e name = now_is births rows seat (Deliver number) node born is step (Some (Got mail)) (ap (option_map Got) at) (ap (λ (x : NodeState × List Mail). (Node x.0, x.1)) e) name
+      now step e name = now_is births rows seat (Deliver number) node born fact step (Some (Got mail)) (ap (option_map Got) at) (ap (λ (x : NodeState × List Mail). (Node x.0, x.1)) e) name
 
       module _ (group : Draw) (t : IsTaking words births rows seat number mail group node) where
         some_takes : (r : ReplicaState) → replica_of group node.replicas ≡ Some r → Takes mail
@@ -83,17 +83,17 @@ module _ (words : ℕ → ℕ → ℕ × ℕ) (births : List (Seat Player)) (row
             let made : Executed = mailed mail.from mail.body (r, []) in
             let put : NodeState = record node { replicas = with_replica group made.0.0 node.replicas } in
             let own = found_name group node.replicas r here in
-            let row = rows_replicas.taken births rows seat number mail group node r born is at t.comes t.named here in
+            let row = rows_replicas.taken births rows seat number mail group node r born fact at t.comes t.named here in
             record {
               group = group;
               node = node;
               r = r;
               taking = t;
               here = here;
-              was = view_was births rows seat Go group born (Node node) is ∙ here;
-              is = row.is;
+              was = view_was births rows seat Go group born (Node node) fact ∙ here;
+              fact = row.fact;
               others = λ name ne.
-                  subst (λ (o : Option ReplicaState). OneOf name seat.who made.1 (view_at births (with_event rows seat (Deliver number)) name seat.who) o) (sym (view_was births rows seat Go name born (Node node) is))
+                  subst (λ (o : Option ReplicaState). OneOf name seat.who made.1 (view_at births (with_event rows seat (Deliver number)) name seat.who) o) (sym (view_was births rows seat Go name born (Node node) fact))
                   (subst (λ (o : Option ReplicaState). OneOf name seat.who made.1 o (replica_of name node.replicas)) (sym (now (with_children made.1 put, made.0.1) (mail_taken mail.from mail.body node group t.named t.comes (Some r) here) name))
                   (subst (λ (o : Option ReplicaState). OneOf name seat.who made.1 (replica_of name (with_children made.1 put).replicas) o) (put_others group name made.0.0 node.replicas (names_stay.mailed mail.from mail.body r ∙ own) ne)
                   (all_children seat.who name made.1 put t.me_is)));
@@ -101,10 +101,10 @@ module _ (words : ℕ → ℕ → ℕ × ℕ) (births : List (Seat Player)) (row
             }
 
         others_stay : replica_of group node.replicas ≡ None → (name : Draw) → (name ≡ group → ⊥) → view_at births (with_event rows seat (Deliver number)) name seat.who ≡ view_at births rows name seat.who
-        others_stay here name ne = now (unknown mail.from mail.body node) (mail_taken mail.from mail.body node group t.named t.comes None here) name ∙ ((unknown_apart name group ne node mail.from mail.body t.named).0 ∙ sym (view_was births rows seat Go name born (Node node) is))
+        others_stay here name ne = now (unknown mail.from mail.body node) (mail_taken mail.from mail.body node group t.named t.comes None here) name ∙ ((unknown_apart name group ne node mail.from mail.body t.named).0 ∙ sym (view_was births rows seat Go name born (Node node) fact))
 
         all_stay : replica_of group node.replicas ≡ None → (unknown mail.from mail.body node).0 ≡ node → AllStay
-        all_stay here e name = now (unknown mail.from mail.body node) (mail_taken mail.from mail.body node group t.named t.comes None here) name ∙ (ap (λ (n : NodeState). replica_of name n.replicas) e ∙ sym (view_was births rows seat Go name born (Node node) is))
+        all_stay here e name = now (unknown mail.from mail.body node) (mail_taken mail.from mail.body node group t.named t.comes None here) name ∙ (ap (λ (n : NodeState). replica_of name n.replicas) e ∙ sym (view_was births rows seat Go name born (Node node) fact))
 
         none_takes : (b : MailBody) → mail.body ≡ b → replica_of group node.replicas ≡ None → RowKind mail
         none_takes (Install n slot state sets) e here =
@@ -119,17 +119,17 @@ module _ (words : ℕ → ℕ → ℕ × ℕ) (births : List (Seat Player)) (row
         taken_so (Some r) here = inr (inl (some_takes r here))
 
       stays : on_mail mail.from mail.body node ≡ (node, []) → AllStay
-      stays e name = now (node, []) e name ∙ sym (view_was births rows seat Go name born (Node node) is)
+      stays e name = now (node, []) e name ∙ sym (view_was births rows seat Go name born (Node node) fact)
 
       mail_so : (b : Bool) → may_come mail.from mail.body ≡ b → (o : Option Draw) → group_of_mail mail.body ≡ o → RowKind mail
       mail_so false bar o e = inl (stays (cond-false (may_come mail.from mail.body) (routed (group_of_mail mail.body) mail.from mail.body node) (node, []) bar))
       mail_so true may None e =
           inl (stays (either_way (λ (step : NodeState × List Mail). step ≡ (node, [])) (may_come mail.from mail.body) (routed (group_of_mail mail.body) mail.from mail.body node) (node, []) (ap (λ g. routed g mail.from mail.body node) e) refl))
-      mail_so true may (Some group) e = taken_so group (record { seated = born; timely = timely; is_node = is; me_is = me node is; sent = at; comes = may; named = e }) (replica_of group node.replicas) refl
+      mail_so true may (Some group) e = taken_so group (record { seated = born; timely = timely; is_node = fact; me_is = me node fact; sent = at; comes = may; named = e }) (replica_of group node.replicas) refl
 
     player_so : (player : Player) → value player_table seat rows ≡ player → RowKind mail
-    player_so (Client client) is = inl (λ name. (client_leaves words births rows seat (Deliver number) born timely client is name (Got mail) (ap (option_map Got) at) (got_nothing mail.from mail.body client unanswered)).view)
-    player_so (Node node) is = mail_so node is (may_come mail.from mail.body) refl (group_of_mail mail.body) refl
+    player_so (Client client) fact = inl (λ name. (client_leaves words births rows seat (Deliver number) born timely client fact name (Got mail) (ap (option_map Got) at) (got_nothing mail.from mail.body client unanswered)).view)
+    player_so (Node node) fact = mail_so node fact (may_come mail.from mail.body) refl (group_of_mail mail.body) refl
 
     pub row_kind : RowKind mail
     row_kind = player_so (value player_table seat rows) refl

@@ -1,4 +1,5 @@
 -- The replicas of players are those of the nodes.
+use Rattle.sc_live_journals.proofs.LogsProofs.Lemmas.{no_client}
 use Rattle.std.proofs.Common.{◌≡◌, ℕ, ◌≤◌, eqb, cond, true, false, Bool, List, [], ◌∷◌, ◌++◌, find, map, Option, Some, None, inl, inr, refl, sym, ◌∙◌, ap, subst, arith}
 use Rattle.std.proofs.lemmas.Bool.{eqb-true}
 use Rattle.std.proofs.lemmas.Option.{none-some}
@@ -21,7 +22,6 @@ use Rattle.sc_live_journals.specs.charts.Definitions.{replicas_of as chart_repli
 use Rattle.sc_live_plain.specs.Definitions.{replicas_after, replicas_of as node_replicas}
 use Rattle.sc_live_plain.proofs.Lemmas.{IsStage, stage, in_numbers, node_born, node_number}
 use Rattle.sc_live_answers.specs.Definitions.{AreAtNodes, ViewsAgree}
-use Rattle.sc_live_answers.proofs.ErrandsProofs.NodeDeliveries.{roles_differ}
 
 -- ---- what a player has
 
@@ -97,9 +97,9 @@ module _ (scenario : Scenario) (bounded : IsBounded scenario) (rows : Rows) (nam
       by : (o : Option (Seat Player)) → find (λ (seat : Seat Player). eqb seat.who who) seats ≡ o → replica_in name rows o ≡ replicas_after scenario rows name who
       by None found = sym (none_after (λ one most. none-some (nseat who) (sym found ∙ seat_found seats (nseat who) (all_apart scenario bounded) (node_born (λ a b. (a, b)) scenario begins who one most))))
       by (Some seat) found =
-          let is = find_found (λ (s : Seat Player). eqb s.who who) seats seat found in
-          let mine = eqb-true seat.who who is.1 in
-          elim (Among-either seat (map nseat (numbers_from 1 scenario.nodes)) (map (client_seat (route_of begins.first)) scenario.clients) (subst (Among seat) begins.seats is.0)) [
+          let fact = find_found (λ (s : Seat Player). eqb s.who who) seats seat found in
+          let mine = eqb-true seat.who who fact.1 in
+          elim (Among-either seat (map nseat (numbers_from 1 scenario.nodes)) (map (client_seat (route_of begins.first)) scenario.clients) (subst (Among seat) begins.seats fact.0)) [
             | inl node ↦ (
                 let m = from_map nseat (numbers_from 1 scenario.nodes) seat node in
                 let within = in_numbers 1 scenario.nodes m.0 m.1 in
@@ -115,7 +115,7 @@ module _ (scenario : Scenario) (bounded : IsBounded scenario) (rows : Rows) (nam
           ]
         where
           no_both : (s : Seat Player) (asks : Asks) → client_seat (route_of begins.first) asks ≡ nseat who → ⊥
-          no_both s asks e = roles_differ (born_client asks.client asks.ops (route_of begins.first)) (born_node as_nodes.slots who scenario.groups scenario.policy) (ap (λ (x : Seat Player). x.actor) e)
+          no_both s asks e = no_client (born_client asks.client asks.ops (route_of begins.first)) (born_node as_nodes.slots who scenario.groups scenario.policy) (ap (λ (x : Seat Player). x.actor) e)
 
 -- After any rows of a scenario the replica of a player is that of the node with its number.
 pub views_agree : ViewsAgree

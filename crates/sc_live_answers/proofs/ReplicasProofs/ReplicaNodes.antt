@@ -29,15 +29,15 @@ client_who (base ∷ groups) clients seat a = (let f = from_map (client_seat (ro
 
 node_who : (groups : List Base) (policy : Bool) (count from : ℕ) (seat : Seat Player) → Among seat (map (node_seat as_nodes groups policy) (numbers_from from count)) → seat.who < from + count
 node_who groups policy zero from seat a = absurd a
-node_who groups policy (suc count) from seat (inl e) = (let is = ap (λ (s : Seat Player). s.who) e in omega (arith, is))
+node_who groups policy (suc count) from seat (inl e) = (let fact = ap (λ (s : Seat Player). s.who) e in omega (arith, fact))
 node_who groups policy (suc count) from seat (inr a) = (let more = node_who groups policy count (from + 1) seat a in omega (arith, more))
 
-module _ (bounded : ValidScenariosAreBounded) (words : ℕ → ℕ → ℕ × ℕ) (scenario : Scenario) (journal prefix : Rows) (calm : IsCalmJournal words scenario journal) (is : IsPrefixOf journal prefix) where
+module _ (bounded : ValidScenariosAreBounded) (words : ℕ → ℕ → ℕ × ℕ) (scenario : Scenario) (journal prefix : Rows) (calm : IsCalmJournal words scenario journal) (fact : IsPrefixOf journal prefix) where
   bound : IsBounded scenario
   bound = bounded scenario calm.valid
 
   timely : AreInTime (players words (births as_nodes scenario)) prefix
-  timely = λ before row after e. calm.timely before row (after ++ is.more) (is.is ∙ (ap (λ rows. rows ++ is.more) e ∙ append_assoc before (row ∷ after) is.more))
+  timely = λ before row after e. calm.timely before row (after ++ fact.more) (fact.fact ∙ (ap (λ rows. rows ++ fact.more) e ∙ append_assoc before (row ∷ after) fact.more))
 
   -- a member of a group of the scenario is one of its nodes
   member_in : (base : Base) → Among base scenario.groups → (node : ℕ) → is_member base.core.members node ≡ true → node ≤ scenario.nodes

@@ -26,7 +26,7 @@ no_owner group e = cc
 
 module _ (bounded : ValidScenariosAreBounded) (begin : ValidScenariosBeginWell) (allowed : TakenOrdersAreAllowed) (wishes : TakenWishesAreAllowed) (positions : WishesAreAtPositions) (free : OtherNamesAreFree) (names : NodesHaveNames) where
   module _ (words : ℕ → ℕ → ℕ × ℕ) (scenario : Scenario) (rows : Rows) (valid : IsValid scenario) (lawful : Lawful as_nodes words scenario rows) (seat : Seat Player) (seated : IsSeat (births as_nodes scenario) seat) (node : NodeState)
-      (is : value player_table seat rows ≡ Node node) where
+      (fact : value player_table seat rows ≡ Node node) where
     number_of : (n : ℕ) × (1 ≤ n) × (n ≤ scenario.nodes) × (value player_table (node_seat as_nodes scenario.groups scenario.policy n) rows ≡ Node node)
     number_of =
         let ready = begin (owner_in as_nodes scenario rows) (free as_nodes scenario rows) as_nodes refl scenario valid in
@@ -37,11 +37,11 @@ module _ (bounded : ValidScenariosAreBounded) (begin : ValidScenariosBeginWell) 
               let at = from_map (node_seat as_nodes scenario.groups scenario.policy) (numbers_from 1 scenario.nodes) seat a in
               let bounds = among_numbers 1 scenario.nodes at.0 at.1 in
               let most = bounds.1 in
-              (at.0, bounds.0, omega (arith, most), subst (λ (s : Seat Player). value player_table s rows ≡ Node node) (sym at.2) is))
+              (at.0, bounds.0, omega (arith, most), subst (λ (s : Seat Player). value player_table s rows ≡ Node node) (sym at.2) fact))
           | inr a ↦ (
               let at = from_map (client_seat (route_of ready.first)) scenario.clients seat a in
               let client = all.kept.clients at.0 at.1 in
-              absurd (no_client client.client node (sym client.value_is ∙ ap (λ (s : Seat Player). value player_table s rows) at.2 ∙ is)))
+              absurd (no_client client.client node (sym client.value_is ∙ ap (λ (s : Seat Player). value player_table s rows) at.2 ∙ fact)))
         ]
 
     -- its next name is new

@@ -15,9 +15,9 @@ use Rattle.sc_words.proofs.PaxosProofs.Lemmas.{Each-among}
 use Rattle.sc_client_table.specs.table.Definitions.{Client as ClientState, waiting_request, ClientStep, asked_of, sent_to, sent_where, chosen_for, request_sent, started, waits_for, was_asked, redirected, answer_taken, got}
 use Rattle.sc_scenario.specs.declared.scenario.scenarios.Asks.{Asks}
 use Rattle.sc_live_plain.specs.Definitions.{IsLinkedSetting, IsCalmClient, start_of, start_known, Setting, IsSetting, IsCalmMail, Frame, IsWaiting, IsBegun, Requests}
-use Rattle.sc_live_plain.proofs.Lemmas.{name_in, id_of, gap, learn_in_turn, chosen_is, some_is, map_among, near_behind, started_names as starting_names}
+use Rattle.sc_live_plain.proofs.Lemmas.{calm_says, CalmSays, name_in, id_of, gap, learn_in_turn, chosen_is, some_is, map_among, near_behind, started_names as starting_names}
 use Rattle.sc_live_answers.specs.Definitions.{IsLedAt, AsksLeaders, ClientsAskLeaders}
-use Rattle.sc_live_answers.proofs.RequestsProofs.ClientAnswers.{chosen_known, RingKnown, ring_known, alone, Says, says_of, all_led, lacks}
+use Rattle.sc_live_answers.proofs.RequestsProofs.ClientAnswers.{chosen_known, RingKnown, ring_known, alone, all_led, lacks}
 
 -- ---- what is asked of groups, after changes
 
@@ -145,7 +145,7 @@ same_of_one (z ∷ []) x y few (inl e) (inr b) = absurd b
 same_of_one (z ∷ []) x y few (inr a) b = absurd a
 same_of_one (z ∷ w ∷ xs) x y few a b = absurd (omega (arith, few))
 
-module _ (set : Setting) (is : IsSetting set) (frame : Frame) (a : Among frame set.frames) (known : KnownGroups) (r : RingKnown set frame known) (p : ℕ) (c : chosen p known ≡ Some frame.core.id) (out : holds frame.core.arc p ≡ false) where
+module _ (set : Setting) (fact : IsSetting set) (frame : Frame) (a : Among frame set.frames) (known : KnownGroups) (r : RingKnown set frame known) (p : ℕ) (c : chosen p known ≡ Some frame.core.id) (out : holds frame.core.arc p ≡ false) where
   prefix_ring : (n : ℕ) (other : Frame) → Among other (take n r.ring) → Among other r.ring
   prefix_ring n other b = subst (Among other) (take-append-drop n r.ring) (Among-left other (take n r.ring) (drop n r.ring) b)
 
@@ -156,7 +156,7 @@ module _ (set : Setting) (is : IsSetting set) (frame : Frame) (a : Among frame s
       (f.0, prefix_ring n f.0 f.1, ap (λ (s : Draw × ℕ). s.0) f.2, ap (λ (s : Draw × ℕ). s.1) f.2)
 
   apart : (one other : Frame) → Among one r.ring → Among other r.ring → one.core.id ≡ other.core.id → one ≡ other
-  apart one other x y e = is.apart one other (r.within one x) (r.within other y) e
+  apart one other x y e = fact.apart one other (r.within one x) (r.within other y) e
 
   -- none that is known is nearer
   nearest : (g : Frame) → Among g r.ring → Among g.core.id (map name_in known) → gap p frame.core.arc.lo ≤ gap p g.core.arc.lo
@@ -226,10 +226,10 @@ started_leads set seq client entry one = lone_waits set (started seq client).0 e
 
 -- ---- each answer
 
-module _ (begun : Requests) (set : Setting) (is : IsSetting set) (linked : IsLinkedSetting set) (asks : Asks) (gone : Bool) (client : ClientState) (k : IsCalmClient set asks gone client) (w : IsWaiting client) (mail : Mail) (m : IsCalmMail begun set mail) (to : mail.to ≡ client_actor client.me)
+module _ (begun : Requests) (set : Setting) (fact : IsSetting set) (linked : IsLinkedSetting set) (asks : Asks) (gone : Bool) (client : ClientState) (k : IsCalmClient set asks gone client) (w : IsWaiting client) (mail : Mail) (m : IsCalmMail begun set mail) (to : mail.to ≡ client_actor client.me)
     (asked_right : (seq : ℕ) (op : Op) → begun client.me seq op → slice_get client.requests (seq - 1) ≡ Some op) (from : mail.from ≡ w.target) (leads : AsksLeaders set client) where
   abbrev SaysIt : AnswerBody → Type 0
-  SaysIt answer = Says begun set is linked asks gone client k w mail m to asked_right from (Answer w.group w.seq answer)
+  SaysIt answer = CalmSays begun set mail.from mail.to (Answer w.group w.seq answer)
 
   abbrev Leads : ClientStep → Type 0
   Leads step = AsksLeaders set step.0
@@ -245,7 +245,7 @@ module _ (begun : Requests) (set : Setting) (is : IsSetting set) (linked : IsLin
 
   by_value : (reply : Reply) → SaysIt (Value reply) → Leads (started (w.seq + 1) (record client { replies = client.replies ++ reply ∷ [] }))
   by_value reply s w_ group node t =
-      inl (all_led begun set is linked asks gone client k w mail m to asked_right from leads reply s group node (ap (target_in group) (sym (started_known (w.seq + 1) (record client { replies = client.replies ++ reply ∷ [] }))) ∙ t))
+      inl (all_led begun set fact linked asks gone client k w mail m to asked_right from leads reply s group node (ap (target_in group) (sym (started_known (w.seq + 1) (record client { replies = client.replies ++ reply ∷ [] }))) ∙ t))
 
   by_hint : (hint : ℕ) → Leads (sent_to w.group (record client { known = preferring w.group hint client.known }))
   by_hint hint w_ group node t =
@@ -267,7 +267,7 @@ module _ (begun : Requests) (set : Setting) (is : IsSetting set) (linked : IsLin
       let known_is : learnt_from_not_mine w.group arc succ client.known ≡ learnt_from_not_mine frame.core.id frame.core.arc frame.core.succ client.known =
       ap (λ d. learnt_from_not_mine d arc succ client.known) s.says.0
       ∙ (ap (λ (x : Arc). learnt_from_not_mine frame.core.id x succ client.known) s.says.1.says.1 ∙ ap (λ (x : Link). learnt_from_not_mine frame.core.id frame.core.arc x client.known) s.says.1.says.2) in
-      subst (λ l. Leads (request_sent (record client { known = l }))) (sym known_is) (by_frame frame s.is_frame s.says.0 s.says.1.from_is (lacks begun set is linked asks gone client k w mail m to asked_right from arc succ s))
+      subst (λ l. Leads (request_sent (record client { known = l }))) (sym known_is) (by_frame frame s.is_frame s.says.0 s.says.1.from_is (lacks begun set fact linked asks gone client k w mail m to asked_right from arc succ s))
     where
       by_frame : (frame : Frame) → Among frame set.frames → w.group ≡ frame.core.id → mail.from ≡ frame.lead → holds frame.core.arc (pos_of (key_of w.op)) ≡ false → Leads (request_sent (record client { known = learnt_from_not_mine frame.core.id frame.core.arc frame.core.succ client.known }))
       by_frame frame a name lead out w_ group node t =
@@ -281,13 +281,13 @@ module _ (begun : Requests) (set : Setting) (is : IsSetting set) (linked : IsLin
           let choice : chosen (pos_of (key_of w.op)) known ≡ Some w_.group = ap (chosen (pos_of (key_of w.op))) (sym known_is) ∙ (ap (λ o. chosen (pos_of (key_of o)) (request_sent before).0.known) (sym op_is) ∙ w_.chosen_is) in
           elim (learnt_target frame.core.id frame.core.arc frame.core.succ client.known group node (ap (target_in group) (sym known_is) ∙ t)) [
             | inl old ↦ inl (led_by frame a name lead group node old)
-            | inr new ↦ inr (new.0 ∙ sym (learnt_chosen set is frame a client.known (ring_known begun set is linked asks gone client k w frame a name) (pos_of (key_of w.op)) (w.chosen_is ∙ ap Some name) out w_.group new.1 choice))
+            | inr new ↦ inr (new.0 ∙ sym (learnt_chosen set fact frame a client.known (ring_known begun set fact linked asks gone client k w frame a name) (pos_of (key_of w.op)) (w.chosen_is ∙ ap Some name) out w_.group new.1 choice))
           ]
 
   by_gone : (into : Route) → SaysIt (Gone into) → Leads (request_sent (record client { known = learnt_from_gone w.group into client.known }))
   by_gone into (inl s) = absurd (s.says.1.says)
   by_gone into (inr s) =
-      let one = alone begun set is linked asks gone client k w into s.says in
+      let one = alone begun set fact linked asks gone client k w into s.says in
       let known : KnownGroups = (into.group, new_way into.lo into.members) ∷ [] in
       let removed : remove_entry (same_draw w.group) ((w.group, one.0) ∷ []) ≡ [] = cond-true (same_draw w.group w.group) [] ((w.group, one.0) ∷ []) (same_name w.group w.group refl) in
       let known_is : learnt_from_gone w.group into client.known ≡ known = ap (learnt_from_gone w.group into) one.1 ∙ ap (group_learnt into.group into.lo into.members) removed in
@@ -305,11 +305,11 @@ module _ (begun : Requests) (set : Setting) (is : IsSetting set) (linked : IsLin
   pub answer_leads : (answer : AnswerBody) → mail.body ≡ Answer w.group w.seq answer → AsksLeaders set (got mail.from mail.body client).0
   answer_leads answer e =
       subst (λ (b : MailBody). Leads (got mail.from b client)) (sym e)
-      (cond_both (waits_for client.waiting w.seq) (answer_taken mail.from w.group w.seq answer client) (client, []) Leads (λ _. taken answer (says_of begun set is linked asks gone client k w mail m to asked_right from (Answer w.group w.seq answer) e)) (λ _. leads))
+      (cond_both (waits_for client.waiting w.seq) (answer_taken mail.from w.group w.seq answer client) (client, []) Leads (λ _. taken answer (calm_says begun set mail m (Answer w.group w.seq answer) e)) (λ _. leads))
 
 -- Clients go on to ask leaders: of each group that one knows, but for that which it asked last, it would ask the node that leads, once it goes and by each answer that it waits for.
 pub ask_leaders : ClientsAskLeaders
 ask_leaders = record {
   go = λ set asks client entry k one. started_leads set 1 client entry one;
-  takes = λ scenario rows set asks gone client mail is linked k m to asked_right leads a. answer_leads (IsBegun scenario rows) set is linked asks gone client k a.waits mail m to asked_right a.from_is leads a.answer a.body_is;
+  takes = λ scenario rows set asks gone client mail fact linked k m to asked_right leads a. answer_leads (IsBegun scenario rows) set fact linked asks gone client k a.waits mail m to asked_right a.from_is leads a.answer a.body_is;
 }

@@ -7,7 +7,7 @@ use Rattle.std.proofs.lemmas.Bool.{cases_Bool, cases_eq, cond-false, and_parts, 
 use Rattle.std.proofs.lemmas.List.{length_push}
 use Rattle.std.proofs.lemmas.Option.{none-some, same_Some}
 use Rattle.sc_base.specs.Definitions.{Among, client_actor}
-use Rattle.sc_node_table.specs.Values.{Op, Base, OrderLine, Mail, Request, Client, Seat, Event, Input, Got, Row}
+use Rattle.sc_node_table.specs.Values.{Op, Base, OrderLine, Mail, Request, Client, Seat, Event, Input, Row}
 use Rattle.sc_actor.specs.declared.rows.Event.TheVariants as Comes
 use Rattle.sc_actor.specs.declared.rows.Input.TheVariants.{Go}
 use Rattle.sc_actor.specs.declared.rows.Input.TheVariants.{Told as ToldInput}
@@ -29,7 +29,8 @@ use Rattle.sc_live_steps.specs.calm.Definitions.{players, Rows}
 use Rattle.sc_live_plain.specs.Definitions.{begun_ones, waiting_ones, begun_of}
 use Rattle.sc_live_plain.proofs.Lemmas.{map_among}
 use Rattle.sc_live_answers.specs.Definitions.{IssuedAreBegun}
-use Rattle.sc_live_steps.proofs.CalmProofs.Totals.{or_assoc}
+use Rattle.sc_live_steps.proofs.CalmStepsProofs.Totals.{or_assoc}
+use Rattle.sc_law_walks.proofs.Lemmas.{got_no_go}
 
 -- ---- a client's own row
 
@@ -39,8 +40,8 @@ IsNext None n = Unit {0}
 IsNext (Some seq) n = seq ≡ n + 1
 
 next_of : (o : Option ℕ) (n m : ℕ) → (o ≡ Some m) ⊎ (o ≡ None) → m ≡ n + 1 → IsNext o n
-next_of o n m (inl e) is = subst (λ x. IsNext x n) (sym e) is
-next_of o n m (inr e) is = subst (λ x. IsNext x n) (sym e) tt
+next_of o n m (inl e) fact = subst (λ x. IsNext x n) (sym e) fact
+next_of o n m (inr e) fact = subst (λ x. IsNext x n) (sym e) tt
 
 -- what a turn keeps
 record IsTurned (client after : ClientState) (sent : List Mail) : Type 0 where
@@ -49,10 +50,10 @@ record IsTurned (client after : ClientState) (sent : List Mail) : Type 0 where
   issued : (seq : ℕ) → list_any (λ mail. asks_for client.me seq mail.body) sent ≡ true → seq ≤ begun_ones after
 
 waiting_low : (o : Option ℕ) (n seq : ℕ) → o ≡ Some seq → IsNext o n → seq ≡ n + 1
-waiting_low o n seq e is = subst (λ x. IsNext x n) e is
+waiting_low o n seq e fact = subst (λ x. IsNext x n) e fact
 
 ones_of : (o : Option ℕ) (seq : ℕ) → o ≡ Some seq → (n : ℕ) (client : ClientState) → client.waiting ≡ o → length client.replies ≡ n → begun_ones client ≡ n + 1
-ones_of o seq e n client is len = ap (λ (x : Option ℕ). length client.replies + waiting_ones x) (is ∙ e) ∙ ap (λ m. m + 1) len
+ones_of o seq e n client fact len = ap (λ (x : Option ℕ). length client.replies + waiting_ones x) (fact ∙ e) ∙ ap (λ m. m + 1) len
 
 pair : {X Y : Type 0} (x y : X) (z w : Y) → x ≡ y → z ≡ w → ◌≡◌ {A = X × Y} (x, z) (y, w)
 pair x y z w e f = cc
@@ -90,10 +91,10 @@ module _ (client : ClientState) (input : Input Mail OrderLine) (waits : IsNext c
     | inr s ↦ (
         let request = s.2 in
         let one : (asks_for client.me seq (Request s.0 after.me request.0 request.1) || false) ≡ true = ap (list_any (λ (mail : Mail). asks_for client.me seq mail.body)) (sym s.4) ∙ t in
-        let is : (request.0 ≡ seq) × (after.waiting ≡ Some request.0) = (number seq request.0 after.me client.me one, waits_for_it after.waiting after.requests request s.3) in
-        let next = waiting_low after.waiting (length after.replies) request.0 is.1 waits_after in
-        let ones = ones_of (Some request.0) request.0 refl (length after.replies) after is.1 refl in
-        let same = is.0 in
+        let fact : (request.0 ≡ seq) × (after.waiting ≡ Some request.0) = (number seq request.0 after.me client.me one, waits_for_it after.waiting after.requests request s.3) in
+        let next = waiting_low after.waiting (length after.replies) request.0 fact.1 waits_after in
+        let ones = ones_of (Some request.0) request.0 refl (length after.replies) after fact.1 refl in
+        let same = fact.0 in
         omega (arith, next, ones, same))
   ]
     where
@@ -131,7 +132,7 @@ module _ (client : ClientState) (input : Input Mail OrderLine) (waits : IsNext c
 -- what holds of a client after some rows
 record IsIssuing (asks : Asks) (seat : Seat Player) (rows : Rows) : Type 0 where
   client : ClientState
-  is : value player_table seat rows ≡ Client client
+  fact : value player_table seat rows ≡ Client client
   me : client.me ≡ asks.client
   waits : IsNext client.waiting (length client.replies)
   fresh : has_started rows (client_actor asks.client) ≡ false → (client.waiting ≡ None) × (client.replies ≡ [])
@@ -153,21 +154,17 @@ or_now_some None false n at e = cc
 is_told_one : (line : OrderLine) (input : Input Mail OrderLine) → Some (ToldInput line) ≡ Some input → input ≡ Go → ⊥
 is_told_one line input e f = (let bad : Some (ToldInput line) ≡ Some Go = e ∙ ap Some f in cc)
 
-is_got : (o : Option Mail) (input : Input Mail OrderLine) → option_map Got o ≡ Some input → input ≡ Go → ⊥
-is_got None input e f = absurd (none-some input e)
-is_got (Some mail) input e f = (let bad : Some (Got mail) ≡ Some Go = e ∙ ap Some f in cc)
-
 -- what an input leaves of a client, if there is one
 record IsActed (client : ClientState) (o : Option (Input Mail OrderLine)) (step : Player × List Mail) : Type 0 where
   after : ClientState
-  is : step.0 ≡ Client after
+  fact : step.0 ≡ Client after
   me : after.me ≡ client.me
   turned : IsTurned client after step.1
   stays : ((input : Input Mail OrderLine) → o ≡ Some input → input ≡ Go → ⊥) → client.waiting ≡ None → client.replies ≡ [] → (after.waiting ≡ None) × (after.replies ≡ [])
 
 acts : (client : ClientState) (o : Option (Input Mail OrderLine)) → IsNext client.waiting (length client.replies) → ((input : Input Mail OrderLine) → o ≡ Some input → input ≡ Go → (client.waiting ≡ None) × (client.replies ≡ [])) → IsActed client o (acted player_table (Client client) o)
-acts client None waits fresh = record { after = client; is = refl; me = refl; turned = record { waits = waits; grows = omega arith; issued = λ seq t. absurd (true≢false (sym t)) }; stays = λ other none empty. (none, empty) }
-acts client (Some input) waits fresh = record { after = (table client input).0; is = refl; me = (sends_in_turn client input).me; turned = turned client input waits (fresh input refl); stays = λ other. stays client input waits (fresh input refl) (other input refl) }
+acts client None waits fresh = record { after = client; fact = refl; me = refl; turned = record { waits = waits; grows = omega arith; issued = λ seq t. absurd (true≢false (sym t)) }; stays = λ other none empty. (none, empty) }
+acts client (Some input) waits fresh = record { after = (table client input).0; fact = refl; me = (sends_in_turn client input).me; turned = turned client input waits (fresh input refl); stays = λ other. stays client input waits (fresh input refl) (other input refl) }
 
 module _ (words : ℕ → ℕ → ℕ × ℕ) (scenario : Scenario) (first : Base) (others : List Base) (apart : are_apart (births as_nodes scenario) ≡ true) (groups : scenario.groups ≡ first ∷ others) (asks : Asks) (a : Among asks scenario.clients) where
   abbrev seats : List (Seat Player)
@@ -182,30 +179,30 @@ module _ (words : ℕ → ℕ → ℕ × ℕ) (scenario : Scenario) (first : Bas
       (subst (λ bases. Among seat (client_seats bases scenario.clients)) (sym groups) (map_among (client_seat (route_of first)) scenario.clients asks a)))
 
   begins : IsIssuing asks seat []
-  begins = record { client = born_client asks.client asks.ops (route_of first); is = refl; me = refl; waits = tt; fresh = λ f. (refl, refl); issued = λ seq at e. absurd (none-some at e) }
+  begins = record { client = born_client asks.client asks.ops (route_of first); fact = refl; me = refl; waits = tt; fresh = λ f. (refl, refl); issued = λ seq at e. absurd (none-some at e) }
 
   module _ (rows : Rows) (event : Event OrderLine) (calm : IsCalmEvent (players words seats) rows seat.who event) (k : IsIssuing asks seat rows) where
     abbrev row : Row Mail OrderLine
     row = row_of player_table seat rows event
 
     fresh_now : (e : Event OrderLine) → IsCalmEvent (players words seats) rows seat.who e → (input : Input Mail OrderLine) → input_of (mails rows) e ≡ Some input → input ≡ Go → (k.client.waiting ≡ None) × (k.client.replies ≡ [])
-    fresh_now (Comes.Deliver number) c input e f = absurd (is_got _ input e f)
+    fresh_now (Comes.Deliver number) c input e f = absurd (got_no_go _ input e f)
     fresh_now Comes.Go c input e f = k.fresh c
     fresh_now (Comes.Told line) c input e f = absurd (is_told_one line input e f)
     fresh_now _ c input e f = absurd c
 
     did : IsActed k.client (input_of (mails rows) event) (acted player_table (value player_table seat rows) (input_of (mails rows) event))
-    did = subst (λ p. IsActed k.client (input_of (mails rows) event) (acted player_table p (input_of (mails rows) event))) (sym k.is) (acts k.client (input_of (mails rows) event) k.waits (fresh_now event calm))
+    did = subst (λ p. IsActed k.client (input_of (mails rows) event) (acted player_table p (input_of (mails rows) event))) (sym k.fact) (acts k.client (input_of (mails rows) event) k.waits (fresh_now event calm))
 
     became : value player_table seat (rows ++ row ∷ []) ≡ Client did.after
     became =
         value-snoc player_table seat rows row
-        ∙ (ap (λ b. cond b (acted player_table (value player_table seat rows) (input_of (mails rows) event)).0 (value player_table seat rows)) (eq-eqb seat.who seat.who refl) ∙ did.is)
+        ∙ (ap (λ b. cond b (acted player_table (value player_table seat rows) (input_of (mails rows) event)).0 (value player_table seat rows)) (eq-eqb seat.who seat.who refl) ∙ did.fact)
 
     own_row : IsIssuing asks seat (rows ++ row ∷ [])
     own_row = record {
       client = did.after;
-      is = became;
+      fact = became;
       me = did.me ∙ k.me;
       waits = did.turned.waits;
       fresh = λ f. fresh_after f;
@@ -216,7 +213,7 @@ module _ (words : ℕ → ℕ → ℕ × ℕ) (scenario : Scenario) (first : Bas
     }
       where
         no_go : (e : Event OrderLine) → IsCalmEvent (players words seats) rows seat.who e → is_go e ≡ false → (input : Input Mail OrderLine) → input_of (mails rows) e ≡ Some input → input ≡ Go → ⊥
-        no_go (Comes.Deliver number) c s input w g = is_got _ input w g
+        no_go (Comes.Deliver number) c s input w g = got_no_go _ input w g
         no_go Comes.Go c s input w g = true≢false s
         no_go (Comes.Told line) c s input w g = is_told_one line input w g
         no_go _ c s input w g = c
@@ -232,7 +229,7 @@ module _ (words : ℕ → ℕ → ℕ × ℕ) (scenario : Scenario) (first : Bas
   other_row : (rows : Rows) (row : Row Mail OrderLine) → (row.who ≡ seat.who → ⊥) → IsIssuing asks seat rows → IsIssuing asks seat (rows ++ row ∷ [])
   other_row rows row ne k = record {
     client = k.client;
-    is = value-snoc player_table seat rows row ∙ (cond-false (eqb row.who seat.who) (acted player_table (value player_table seat rows) (input_of (mails rows) row.event)).0 (value player_table seat rows) (ne_eqb row.who seat.who ne) ∙ k.is);
+    fact = value-snoc player_table seat rows row ∙ (cond-false (eqb row.who seat.who) (acted player_table (value player_table seat rows) (input_of (mails rows) row.event)).0 (value player_table seat rows) (ne_eqb row.who seat.who ne) ∙ k.fact);
     me = k.me;
     waits = k.waits;
     fresh = λ f. k.fresh (or_parts (has_started rows (client_actor asks.client)) (eqb row.who (client_actor asks.client) && is_go row.event) (sym (any_push (λ (x : Row Mail OrderLine). eqb x.who (client_actor asks.client) && is_go x.event) rows row) ∙ f)).0;
@@ -247,8 +244,8 @@ module _ (words : ℕ → ℕ → ℕ × ℕ) (scenario : Scenario) (first : Bas
       let calm = (last_in_time (players words seats) rows row timely).0 in
       elim (cases_eq calm.seat.who seat.who) [
         | inl same ↦ (
-            let is : calm.seat ≡ seat = same_Some calm.seat seat (sym calm.born ∙ (ap (λ n. find (λ (other : Seat Player). eqb other.who n) seats) same ∙ seated)) in
-            subst (λ r. IsIssuing asks seat (rows ++ r ∷ [])) (sym (calm.row_is ∙ ap (λ s. row_of player_table s rows calm.event) is))
+            let fact : calm.seat ≡ seat = same_Some calm.seat seat (sym calm.born ∙ (ap (λ n. find (λ (other : Seat Player). eqb other.who n) seats) same ∙ seated)) in
+            subst (λ r. IsIssuing asks seat (rows ++ r ∷ [])) (sym (calm.row_is ∙ ap (λ s. row_of player_table s rows calm.event) fact))
             (own_row rows calm.event (subst (λ n. IsCalmEvent (players words seats) rows n calm.event) same calm.calm) k))
         | inr ne ↦ other_row rows row (λ e. ne (sym (ap (λ (r : Row Mail OrderLine). r.who) calm.row_is) ∙ e)) k
       ]
@@ -260,5 +257,5 @@ pub issued_are_begun : ValidScenariosAreBounded → IssuedAreBegun
 issued_are_begun bounded words scenario first others rows asks seq at valid groups timely a e =
     let k = issuing words scenario first others (all_apart scenario (bounded scenario valid)) groups asks a rows timely in
     let low = k.issued seq at e in
-    let is = ap begun_of k.is in
-    omega (arith, low, is)
+    let fact = ap begun_of k.fact in
+    omega (arith, low, fact)

@@ -1,9 +1,9 @@
 -- What a client finds in the answer that it waits for.
-use Rattle.std.proofs.Common.{◌≡◌, ℕ, ◌-◌, ◌<◌, Bool, false, List, [], ◌∷◌, length, map, take, drop, Some, ◌⊎◌, inl, inr, refl, sym, ◌∙◌, ap, subst, arith, take-append-drop}
+use Rattle.std.proofs.Common.{◌≡◌, ℕ, ◌-◌, ◌<◌, Bool, false, List, [], ◌∷◌, length, map, take, drop, Some, inl, inr, refl, sym, ◌∙◌, ap, subst, arith, take-append-drop}
 use Rattle.std.specs.Prelude.{slice_get}
 use Rattle.std.proofs.lemmas.Option.{slice_get_within}
 use Rattle.sc_base.specs.Definitions.{Among, Arc, client_actor, key_of, pos_of}
-use Rattle.sc_node_table.specs.Values.{Draw, Op, Reply, Link, Route, AnswerBody, Value, NotLeader, NotMine, Gone, Stale, Mail, MailBody, Answer}
+use Rattle.sc_node_table.specs.Values.{Draw, Op, Reply, Link, Route, AnswerBody, Value, NotLeader, NotMine, Gone, Stale, Mail, Answer}
 use Rattle.sc_words.specs.ideal.Definitions.{holds_key}
 use Rattle.sc_client_table.specs.lookup.Definitions.{KnownGroups, way_to, chosen, target_in}
 use Rattle.sc_client_table.specs.declared.lookup.ways.Way.{Way}
@@ -11,10 +11,11 @@ use Rattle.sc_paxos_law.proofs.Lemmas.{from_map, Among-left}
 use Rattle.sc_client_table.specs.table.Definitions.{Client as ClientState}
 use Rattle.sc_scenario.specs.declared.scenario.scenarios.Asks.{Asks}
 use Rattle.sc_live_steps.specs.calm.Definitions.{Chart, AsksWithin, IsInTurn, LearnsOf, LeavesFor, MayHear, HearsCalmly}
-use Rattle.sc_live_plain.specs.Definitions.{IsLinkedSetting, Knows, IsCalmClient, FollowedBy, AreRoundRing, KnowsFirst, Setting, HasGoneTo, IsSetting, IsAsideBody, IsCalmMail, Frame, IsWaiting, IsBegun, Requests, IsPlainBody}
-use Rattle.sc_live_plain.proofs.Lemmas.{unasked, name_in, id_of, learn_in_turn, some_is}
+use Rattle.sc_live_plain.specs.Definitions.{IsLinkedSetting, Knows, IsCalmClient, FollowedBy, AreRoundRing, KnowsFirst, Setting, HasGoneTo, IsSetting, IsCalmMail, Frame, IsWaiting, IsBegun, Requests}
+use Rattle.sc_live_plain.proofs.CalmProofs.CalmClients.{SaysPlain}
+use Rattle.sc_live_plain.proofs.Lemmas.{calm_says, CalmSays, unasked, name_in, id_of, learn_in_turn, some_is}
 use Rattle.sc_live_answers.specs.Definitions.{CountsAs, IsLedAt, AreReached, AsksLeaders, AnswersAreHeardCalmly, ClientsGoCalmly}
-pub use Rattle.sc_live_plain.proofs.CalmProofs.CalmClients.{chosen_among as chosen_known}
+pub use Rattle.sc_live_plain.proofs.CalmProofs.ChosenGroups.{chosen_among as chosen_known}
 
 -- the group behind one that stands, round the ring
 pub record Behind (set : Setting) (frame : Frame) : Type 0 where
@@ -31,7 +32,7 @@ pub record RingKnown (set : Setting) (frame : Frame) (known : KnownGroups) : Typ
   pub reached : ℕ
   pub first : KnowsFirst ring reached known
 
-module _ (begun : Requests) (set : Setting) (is : IsSetting set) (linked : IsLinkedSetting set) where
+module _ (begun : Requests) (set : Setting) (fact : IsSetting set) (linked : IsLinkedSetting set) where
   pub behind : (frame : Frame) → Among frame set.frames → Behind set frame
   behind frame a = (let ring = linked.rings frame a in by ring.0 ring.1.round ring.1.within)
     where
@@ -62,7 +63,7 @@ module _ (begun : Requests) (set : Setting) (is : IsSetting set) (linked : IsLin
             let among = subst (Among frame.core.id) r.first.names (chosen_known (pos_of (key_of w.op)) client.known frame.core.id chosen_here) in
             let f = from_map id_of (take r.reached r.ring) frame.core.id among in
             let in_ring : Among f.0 r.ring = subst (Among f.0) (take-append-drop r.reached r.ring) (Among-left f.0 (take r.reached r.ring) (drop r.reached r.ring) f.1) in
-            let same : f.0 ≡ frame = is.apart f.0 frame (r.is_ring.within f.0 in_ring) a f.2 in
+            let same : f.0 ≡ frame = fact.apart f.0 frame (r.is_ring.within f.0 in_ring) a f.2 in
             record { ring = r.ring; round = r.is_ring.round; within = r.is_ring.within; among = subst (λ (x : Frame). Among x r.ring) same in_ring; reached = r.reached; first = r.first }
 
     -- where a group that is gone was asked, it is known alone
@@ -81,21 +82,6 @@ module _ (begun : Requests) (set : Setting) (is : IsSetting set) (linked : IsLin
             absurd (linked.stand f.0 into (r.is_ring.within f.0 in_ring) (subst (λ d. HasGoneTo set d into) (sym f.2) went))
 
     module _ (mail : Mail) (m : IsCalmMail begun set mail) (to : mail.to ≡ client_actor client.me) (asked_right : (seq : ℕ) (op : Op) → begun client.me seq op → slice_get client.requests (seq - 1) ≡ Some op) (from : mail.from ≡ w.target) where
-      -- what a body says
-      pub record SaysPlain (body : MailBody) : Type 0 where
-        pub frame : Frame
-        pub is_frame : Among frame set.frames
-        pub says : IsPlainBody begun frame mail.from mail.to body
-
-      abbrev pub Says : MailBody → Type 0
-      Says body = SaysPlain body ⊎ IsAsideBody begun set mail.from mail.to body
-
-      pub says_of : (body : MailBody) → mail.body ≡ body → Says body
-      says_of body e = elim m [
-        | inl q ↦ inl (record { frame = q.frame; is_frame = q.is_frame; says = subst (IsPlainBody begun q.frame mail.from mail.to) e q.says })
-        | inr a ↦ inr (subst (IsAsideBody begun set mail.from mail.to) e a)
-      ]
-
       -- the request of an answer to the client is the one that waits
       pub op_same : (who : ℕ) (op : Op) → mail.to ≡ client_actor who → begun who w.seq op → op ≡ w.op
       op_same who op receiver b =
@@ -103,7 +89,7 @@ module _ (begun : Requests) (set : Setting) (is : IsSetting set) (linked : IsLin
           some_is (sym (asked_right w.seq op (subst (λ c. begun c w.seq op) same b)) ∙ w.op_is)
 
       -- a reply comes from the leader: each group is asked there
-      pub all_led : AsksLeaders set client → (reply : Reply) → Says (Answer w.group w.seq (Value reply)) → (group : Draw) (node : ℕ) → target_in group client.known ≡ Some node → IsLedAt set group node
+      pub all_led : AsksLeaders set client → (reply : Reply) → CalmSays begun set mail.from mail.to (Answer w.group w.seq (Value reply)) → (group : Draw) (node : ℕ) → target_in group client.known ≡ Some node → IsLedAt set group node
       all_led leads reply (inr s) group node t = absurd (s.says)
       all_led leads reply (inl s) group node t = elim (leads w group node t) [
         | inl led ↦ led
@@ -113,11 +99,11 @@ module _ (begun : Requests) (set : Setting) (is : IsSetting set) (linked : IsLin
       ]
 
       -- the key is not that group's
-      pub lacks : (arc : Arc) (succ : Link) (s : SaysPlain (Answer w.group w.seq (NotMine arc succ))) → holds_key s.frame.core.arc (key_of w.op) ≡ false
+      pub lacks : (arc : Arc) (succ : Link) (s : SaysPlain begun set mail.from mail.to (Answer w.group w.seq (NotMine arc succ))) → holds_key s.frame.core.arc (key_of w.op) ≡ false
       lacks arc succ s = (let reply = s.says.1 in ap (λ x. holds_key s.frame.core.arc (key_of x)) (sym (op_same reply.client reply.op reply.to_is reply.is_begun)) ∙ reply.says.0)
 
       module _ (chart : Chart) (counts : CountsAs set chart) (reached : AreReached set) (leads : AsksLeaders set client) where
-        within : (reply : Reply) → Says (Answer w.group w.seq (Value reply)) → AsksWithin chart.ways 0 client
+        within : (reply : Reply) → CalmSays begun set mail.from mail.to (Answer w.group w.seq (Value reply)) → AsksWithin chart.ways 0 client
         within reply s group node t =
             let led = all_led leads reply s group node t in
             let far = counts.far group node in
@@ -125,7 +111,7 @@ module _ (begun : Requests) (set : Setting) (is : IsSetting set) (linked : IsLin
             let there : set.ways.far led.frame.core.id led.frame.lead ≡ set.ways.far group node = ap (λ d. set.ways.far d led.frame.lead) led.name ∙ ap (set.ways.far group) led.lead in
             omega (arith, far, none, there)
 
-        learns : (arc : Arc) (succ : Link) → Says (Answer w.group w.seq (NotMine arc succ)) → LearnsOf chart.reach succ.group client
+        learns : (arc : Arc) (succ : Link) → CalmSays begun set mail.from mail.to (Answer w.group w.seq (NotMine arc succ)) → LearnsOf chart.reach succ.group client
         learns arc succ (inr s) = absurd (s.says)
         learns arc succ (inl s) =
             let frame : Frame = s.frame in
@@ -140,7 +126,7 @@ module _ (begun : Requests) (set : Setting) (is : IsSetting set) (linked : IsLin
               ends = ap chart.reach.ends (sym name) ∙ stands.1;
             }
 
-        leaves : (into : Route) → Says (Answer w.group w.seq (Gone into)) → LeavesFor chart.reach w.group into.group client
+        leaves : (into : Route) → CalmSays begun set mail.from mail.to (Answer w.group w.seq (Gone into)) → LeavesFor chart.reach w.group into.group client
         leaves into (inl s) = absurd (s.says.1.says)
         leaves into (inr s) =
             let one = alone into s.says in
@@ -150,7 +136,7 @@ module _ (begun : Requests) (set : Setting) (is : IsSetting set) (linked : IsLin
         in_turn : IsInTurn client
         in_turn seq e = (let same = some_is (sym w.waits ∙ e) in sym w.number ∙ same)
 
-        may : (answer : AnswerBody) → Says (Answer w.group w.seq answer) → MayHear chart.ways chart.reach mail.from w.group w.seq client answer
+        may : (answer : AnswerBody) → CalmSays begun set mail.from mail.to (Answer w.group w.seq answer) → MayHear chart.ways chart.reach mail.from w.group w.seq client answer
         may (Value reply) s = (in_turn, within reply s)
         may (NotLeader hint) s = tt
         may (NotMine arc succ) s = λ _. learns arc succ s
@@ -158,13 +144,13 @@ module _ (begun : Requests) (set : Setting) (is : IsSetting set) (linked : IsLin
         may (Stale last) s = tt
 
         pub hears : (answer : AnswerBody) → mail.body ≡ Answer w.group w.seq answer → HearsCalmly chart.ways chart.reach mail.from mail.body client
-        hears answer e = record { group = w.group; seq = w.seq; answer = answer; body_is = e; may = may answer (says_of (Answer w.group w.seq answer) e) }
+        hears answer e = record { group = w.group; seq = w.seq; answer = answer; body_is = e; may = may answer (calm_says begun set mail m (Answer w.group w.seq answer) e) }
 
 -- A client that asks leaders finds what it needs in the answer that it waits for.
 pub answers_heard : AnswersAreHeardCalmly
-answers_heard scenario rows set chart elsewhere asks gone client mail is linked reached counts k m to asked_right leads a =
-    hears (IsBegun scenario rows) set is linked asks gone client k a.waits mail m to asked_right a.from_is chart counts reached leads a.answer a.body_is
+answers_heard scenario rows set chart elsewhere asks gone client mail fact linked reached counts k m to asked_right leads a =
+    hears (IsBegun scenario rows) set fact linked asks gone client k a.waits mail m to asked_right a.from_is chart counts reached leads a.answer a.body_is
 
 -- One that has not started may start, where it is sent on no more often than the chart allows.
 pub clients_go : ClientsGoCalmly
-clients_go set chart asks client k near = (let none = unasked set asks client k.state in record { idle = none.0; none = none.1; near = near })
+clients_go set chart asks client k near = (let none = unasked client k.state in record { idle = none.0; none = none.1; near = near })

@@ -13,7 +13,7 @@ use Rattle.sc_scenario.specs.declared.scenario.scenarios.Scenario.{Scenario}
 use Rattle.sc_scenario.specs.scenario.Definitions.{ValidScenariosAreBounded}
 use Rattle.sc_meaning.specs.sound.Definitions.{groups_at, Player, player_table, births, as_nodes}
 use Rattle.sc_live_steps.specs.calm.Definitions.{Chart, players, FindsCalm, Rows}
-use Rattle.sc_live_steps.specs.following.Definitions.{Mark, Asks, Votes, Tells, mark_of, marks_of, named_mark}
+use Rattle.sc_live_steps.specs.following.Definitions.{Mark, Asks, Votes, Teaches, mark_of, marks_of, named_mark}
 use Rattle.sc_live_journals.specs.rows.Definitions.{IsSeat}
 use Rattle.sc_live_journals.specs.mail.Definitions.{SlotsAreLeft, ReplicasLast}
 use Rattle.sc_live_answers.specs.Definitions.{IsQuietWhileYoung, CountsAs, NodesMayPump, AreNear, MayBegin, RequestRowsFindCalm, QuietJournalsKnowOne, LawfulQuietJournalsCountOnce, QuietGroupsHaveCuts, StandingGroupsAreRound, QuietChartsCount, frames_after, QuietJournalsHaveFrames, QuietSettingsAreLinked, IsCalmJournal, IsPrefixOf, RestsAt, ChartHintsRise, ViewsAgree, setting_of, IsKnownPrefix, IsRequested, RequestsBegin, RequestsStay, RequestsFindCalm, RequestsLeaveYoung}
@@ -29,10 +29,10 @@ none_behind (y ∷ prefix) x back e = cc
 
 -- first rows of a journal in time are in time
 pub prefix_timely : (words : ℕ → ℕ → ℕ × ℕ) (scenario : Scenario) (journal rows : Rows) → IsCalmJournal words scenario journal → IsPrefixOf journal rows → AreInTime (players words (births as_nodes scenario)) rows
-prefix_timely words scenario journal rows calm prefix before row after e = calm.timely before row (after ++ prefix.more) (prefix.is ∙ (ap (λ l. l ++ prefix.more) e ∙ append_assoc before (row ∷ after) prefix.more))
+prefix_timely words scenario journal rows calm prefix before row after e = calm.timely before row (after ++ prefix.more) (prefix.fact ∙ (ap (λ l. l ++ prefix.more) e ∙ append_assoc before (row ∷ after) prefix.more))
 
 pub prefix_short : (words : ℕ → ℕ → ℕ × ℕ) (scenario : Scenario) (journal rows : Rows) → IsCalmJournal words scenario journal → IsPrefixOf journal rows → length rows ≤ 2 ^ 28
-prefix_short words scenario journal rows calm prefix = (let long = ap length prefix.is in let sum = length-append rows prefix.more in let short = calm.short in omega (arith, long, sum, short))
+prefix_short words scenario journal rows calm prefix = (let long = ap length prefix.fact in let sum = length-append rows prefix.more in let short = calm.short in omega (arith, long, sum, short))
 
 -- what a setting with other ways counts as
 other_ways : (set other : Setting) (chart : Chart) → other.frames ≡ set.frames → other.at ≡ set.at → ((group : Draw) (node : ℕ) → other.ways.far group node ≡ set.ways.far group node) → CountsAs set chart → CountsAs other chart
@@ -47,7 +47,7 @@ other_ways set other chart frames at far c = record {
 -- ---- mail of requests has no mark for a group that has no frame
 
 no_mark : (name : Draw) (begun : ℕ → ℕ → Op → Type 0) (set : Setting) (mail : Mail) → ((frame : Frame) → Among frame set.frames → frame.core.id ≡ name → ⊥) → IsCalmMail begun set mail → mark_of name mail.from mail.body ≡ None
-no_mark name begun set mail apart (inl plain) = of mail.body (λ is. apart plain.frame plain.is_frame is) plain.says
+no_mark name begun set mail apart (inl plain) = of mail.body (λ fact. apart plain.frame plain.is_frame fact) plain.says
   where
     unnamed : (group : Draw) (m : Mark) → (group ≡ name → ⊥) → named_mark name group m ≡ None
     unnamed group m ne = by (same_draw group name) refl
@@ -61,7 +61,7 @@ no_mark name begun set mail apart (inl plain) = of mail.body (λ is. apart plain
     of (Answer group seq answer) ne says = refl
     of (Accept group ballot slot command) ne says = unnamed group (Asks ballot slot) (λ e. ne (sym says.0 ∙ e))
     of (Accepted group ballot slot) ne says = unnamed group (Votes mail.from ballot slot) (λ e. ne (sym says.0 ∙ e))
-    of (Learn group slot command) ne says = unnamed group (Tells slot) (λ e. ne (sym says.0 ∙ e))
+    of (Learn group slot command) ne says = unnamed group (Teaches slot) (λ e. ne (sym says.0 ∙ e))
     of _ ne says = absurd says
 no_mark name begun set mail apart (inr aside) = of mail.body aside
   where
@@ -145,15 +145,15 @@ module _ (all_bounded : ValidScenariosAreBounded) (frames_law : QuietJournalsHav
             let still = quiet_of.own_prefix words scenario quiet rests.calm in
             other_ways (setting_at (replicas_after scenario quiet) (frames_after scenario quiet) (chart_at far sent s rows).ways) set (chart_at far sent s rows) refl refl
             (λ group node. ap (λ q. far_at far (births as_nodes scenario) q group node) (still ∙ sym own))
-            (count_law words scenario first others quiet rows far sent (frames_after scenario quiet) rests.turn calm.valid groups lawful rests.is (known.homes quiet rests.prefix) frames rests.reach known.agree own rests.turns)
+            (count_law words scenario first others quiet rows far sent (frames_after scenario quiet) rests.turn calm.valid groups lawful rests.fact (known.homes quiet rests.prefix) frames rests.reach known.agree own rests.turns)
 
         may : MayBegin words scenario set first quiet
         may = record {
           asking = quiet_of.asking all_bounded frames_law rise_law ask_law cuts_law round_law linked_law words scenario first others far sent journal quiet calm groups rests known;
           waits = quiet_of.waits all_bounded frames_law rise_law ask_law cuts_law round_law linked_law words scenario first others far sent journal quiet calm groups rests known;
-          knows = know_one words scenario first quiet rests.is;
+          knows = know_one words scenario first quiet rests.fact;
           once = λ asks a. count_once words scenario set first others quiet asks.client calm.valid groups
-              (quiet_of.asking all_bounded frames_law rise_law ask_law cuts_law round_law linked_law words scenario first others far sent journal quiet calm groups rests known) rests.is
+              (quiet_of.asking all_bounded frames_law rise_law ask_law cuts_law round_law linked_law words scenario first others far sent journal quiet calm groups rests known) rests.fact
               (quiet_of.lawful all_bounded frames_law rise_law ask_law cuts_law round_law linked_law words scenario first others far sent journal quiet calm groups rests known);
         }
 
@@ -166,12 +166,12 @@ module _ (all_bounded : ValidScenariosAreBounded) (frames_law : QuietJournalsHav
 
     -- no frame has the name of a group that was nowhere
     nowhere_apart : (name : Draw) → IsNowhere (births as_nodes scenario) quiet name → (frame : Frame) → Among frame set.frames → frame.core.id ≡ name → ⊥
-    nowhere_apart name none frame a is =
+    nowhere_apart name none frame a fact =
         let frames = quiet_of.frames all_bounded frames_law rise_law ask_law cuts_law round_law linked_law words scenario first others far sent journal quiet calm groups rests known in
         let f = frames.are frame a in
         let lead = f.1.lead in
-        let named : lead.group.core.id ≡ f.0 = (rests.is.kept f.0 lead.me lead f.1.newest.is_there).name_is in
-        let same : f.0 ≡ name = sym named ∙ (ap (λ (x : Frame). x.core.id) f.2 ∙ is) in
+        let named : lead.group.core.id ≡ f.0 = (rests.fact.kept f.0 lead.me lead f.1.newest.is_there).name_is in
+        let same : f.0 ≡ name = sym named ∙ (ap (λ (x : Frame). x.core.id) f.2 ∙ fact) in
         let there : replicas_after scenario quiet name lead.me ≡ Some lead = subst (λ n. replicas_after scenario quiet n lead.me ≡ Some lead) same f.1.newest.is_there in
         none-some lead (sym (none lead.me) ∙ (views.nodes scenario quiet name lead.me (all_bounded scenario calm.valid) (known.homes quiet rests.prefix) ∙ there))
 

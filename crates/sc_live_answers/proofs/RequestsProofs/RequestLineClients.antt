@@ -22,7 +22,7 @@ use Rattle.sc_law_entries.proofs.NamesProofs.Lemmas.{Each-drop}
 
 -- ---- what a line keeps
 
-module _ (words : ℕ → ℕ → ℕ × ℕ) (scenario : Scenario) (begins : IsStage scenario) (set : Setting) (is : IsSetting set) (linked : IsLinkedSetting set) (R : Journal → Type 0)
+module _ (words : ℕ → ℕ → ℕ × ℕ) (scenario : Scenario) (begins : IsStage scenario) (set : Setting) (fact : IsSetting set) (linked : IsLinkedSetting set) (R : Journal → Type 0)
     (step : (rows : Journal) → IsTidy rows → IsAsking words scenario set begins.first rows → AreFarFromLast scenario set rows → (row : Row Mail OrderLine) → IsOrderly (system_of as_nodes words scenario) rows row → R rows → R (rows ++ row ∷ [])) where
   abbrev Holds : Journal → Type 0
   Holds rows = IsAsking words scenario set begins.first rows × R rows
@@ -32,7 +32,7 @@ module _ (words : ℕ → ℕ → ℕ × ℕ) (scenario : Scenario) (begins : Is
     line_keeps prefix [] e h = subst (λ (l : Journal). Holds (before ++ l)) (sym (e ∙ append-nil prefix)) h
     line_keeps prefix (row ∷ back) e h =
         let r = requests prefix back row e in
-        let then_ : IsAsking words scenario set begins.first ((before ++ prefix) ++ row ∷ []) = clients_of.asking_row words scenario begins set is linked (before ++ prefix) r.0 h.0 r.1 row r.2 in
+        let then_ : IsAsking words scenario set begins.first ((before ++ prefix) ++ row ∷ []) = clients_of.asking_row words scenario begins set fact linked (before ++ prefix) r.0 h.0 r.1 row r.2 in
         let kept = step (before ++ prefix) r.0 h.0 r.1 row r.2 h.1 in
         let place : (before ++ prefix) ++ row ∷ [] ≡ before ++ (prefix ++ row ∷ []) = append_assoc before prefix (row ∷ []) in
         line_keeps (prefix ++ row ∷ []) back (e ∙ sym (append_assoc prefix (row ∷ []) back)) (subst Holds place (then_, kept))
@@ -47,19 +47,19 @@ filter_to : {X : Type 0} (P Q : X → Type 0) (p : X → Bool) (xs : List X) →
 filter_to P Q p [] f e = tt
 filter_to P Q p (x ∷ xs) f e = cond_both (p x) (x ∷ filter p xs) (filter p xs) (Each Q) (λ t. (f x e.0 t, filter_to P Q p xs f e.1)) (λ _. filter_to P Q p xs f e.1)
 
-module _ (begun : Requests) (frame : Frame) (is : IsFrame frame) (from to : ℕ) (name : Draw) (away : (slot : ℕ) → is_member (frame.at slot) to ≡ true → ⊥) where
+module _ (begun : Requests) (frame : Frame) (fact : IsFrame frame) (from to : ℕ) (name : Draw) (away : (slot : ℕ) → is_member (frame.at slot) to ≡ true → ⊥) where
   member_away : is_member frame.core.members to ≡ true → ⊥
-  member_away m = away (frame.from + slots_ahead) (ap (λ ms. is_member ms to) (is.later (frame.from + slots_ahead) (omega arith)) ∙ m)
+  member_away m = away (frame.from + slots_ahead) (ap (λ ms. is_member ms to) (fact.later (frame.from + slots_ahead) (omega arith)) ∙ m)
 
   nothing_to : (body : MailBody) → IsPlainBody begun frame from to body → mark_of name from body ≡ Other
   nothing_to (Request group client seq op) b = refl
   nothing_to (Answer group seq answer) b = refl
   nothing_to (Accept group ballot slot command) b = absurd (away slot b.2.to_in)
-  nothing_to (Accepted group ballot slot) b = absurd (member_away (ap (is_member frame.core.members) b.2 ∙ is.leads))
+  nothing_to (Accepted group ballot slot) b = absurd (member_away (ap (is_member frame.core.members) b.2 ∙ fact.leads))
   nothing_to (Learn group slot command) b = absurd (member_away b.1.to_in)
   nothing_to _ b = absurd b
 
-module _ (words : ℕ → ℕ → ℕ × ℕ) (scenario : Scenario) (begins : IsStage scenario) (set : Setting) (is : IsSetting set) (linked : IsLinkedSetting set) (seated : AreSeated scenario set) where
+module _ (words : ℕ → ℕ → ℕ × ℕ) (scenario : Scenario) (begins : IsStage scenario) (set : Setting) (fact : IsSetting set) (linked : IsLinkedSetting set) (seated : AreSeated scenario set) where
   abbrev sys : System Player Mail OrderLine
   sys = system_of as_nodes words scenario
 
@@ -71,7 +71,7 @@ module _ (words : ℕ → ℕ → ℕ × ℕ) (scenario : Scenario) (begins : Is
 
   calm_nothing : (begun : Requests) (who : ℕ) → is_born (system_of as_nodes words scenario) who ≡ false → (mail : Mail) → IsCalmMail begun set mail → mail.to ≡ who → IsNothing mail
   calm_nothing begun who away mail (inl p) to name =
-      nothing_to begun p.frame (is.are p.frame p.is_frame) mail.from mail.to name
+      nothing_to begun p.frame (fact.are p.frame p.is_frame) mail.from mail.to name
       (λ slot m. (let at = seated.voters p.frame slot mail.to p.is_frame m in both_ways (is_born sys who) away (ap (is_born sys) (sym to) ∙ node_is_born words scenario begins mail.to at.0 at.1))) mail.body p.says
   calm_nothing begun who away mail (inr s) to name = aside_mark begun set name mail mail.body refl s
 
@@ -97,15 +97,15 @@ module _ (words : ℕ → ℕ → ℕ × ℕ) (scenario : Scenario) (begins : Is
       node_sent : (event : Event OrderLine) → IsInOrder (system_of as_nodes words scenario) rows me event → (who : ℕ) → is_born (system_of as_nodes words scenario) who ≡ false
           → Each IsNothing (mail_for (system_of as_nodes words scenario) who (row_of player_table (node_seat as_nodes scenario.groups scenario.policy me) rows event).sent)
       node_sent (Deliver number) fine who away =
-          let n = turns_of.n words scenario begins set is rows t j room me one most born in
-          let first = turns_of.first words scenario begins set is rows t j room me one most born number fine in
-          let turn = turns_of.turn words scenario begins set is rows t j room me one most born number fine in
-          let calm = stays_by (IsBegun scenario rows) set is n.node n.calm first.mail (turns_of.to_me words scenario begins set is rows t j room me one most born number fine) (turns_of.not_client words scenario begins set is rows t j room me one most born)
-          (turns_of.in_time words scenario begins set is rows t j room me one most born number fine) turn in
-          subst (λ (l : List Mail). Each IsNothing (mail_for sys who l)) (sym (turns_of.sends words scenario begins set is rows t j room me one most born number fine)) (calm_sent (IsBegun scenario rows) (node_table n.node (Got first.mail)).1 calm.1 who away)
+          let n = turns_of.n words scenario begins set fact rows t j room me one most born in
+          let first = turns_of.first words scenario begins set fact rows t j room me one most born number fine in
+          let turn = turns_of.turn words scenario begins set fact rows t j room me one most born number fine in
+          let calm = stays_by (IsBegun scenario rows) set fact n.node n.calm first.mail (turns_of.to_me words scenario begins set fact rows t j room me one most born number fine) (turns_of.not_client words scenario begins set fact rows t j room me one most born)
+          (turns_of.in_time words scenario begins set fact rows t j room me one most born number fine) turn in
+          subst (λ (l : List Mail). Each IsNothing (mail_for sys who l)) (sym (turns_of.sends words scenario begins set fact rows t j room me one most born number fine)) (calm_sent (IsBegun scenario rows) (node_table n.node (Got first.mail)).1 calm.1 who away)
       node_sent Go fine who away =
-          let n = turns_of.n words scenario begins set is rows t j room me one most born in
-          let acted_go : acted player_table (value player_table (nseat me) rows) (input_of {O = OrderLine} (mails rows) Go) ≡ (Node n.node, []) = ap (λ p. acted player_table p (Some GoInput)) n.is in
+          let n = turns_of.n words scenario begins set fact rows t j room me one most born in
+          let acted_go : acted player_table (value player_table (nseat me) rows) (input_of {O = OrderLine} (mails rows) Go) ≡ (Node n.node, []) = ap (λ p. acted player_table p (Some GoInput)) n.fact in
           subst (λ (l : List Mail). Each IsNothing (mail_for sys who l)) (sym (ap (λ (p : Player × List Mail). p.1) acted_go)) tt
       node_sent Tick fine who away = absurd fine
       node_sent _ fine who away = absurd fine
@@ -121,12 +121,12 @@ module _ (words : ℕ → ℕ → ℕ × ℕ) (scenario : Scenario) (begins : Is
       client_sent : (event : Event OrderLine) → IsInOrder (system_of as_nodes words scenario) rows (client_actor asks.client) event → (who : ℕ)
           → Each IsNothing (mail_for (system_of as_nodes words scenario) who (row_of player_table (client_seat (route_of begins.first) asks) rows event).sent)
       client_sent (Deliver number) fine who =
-          let c = clients_of.c words scenario begins set is linked rows t j asks a born in
-          let first = clients_of.first words scenario begins set is linked rows t j asks a born number fine in
-          sent_only (table c.client (Got first.mail)) (Deliver number) (clients_of.got_is words scenario begins set is linked rows t j asks a born number fine) (takes_only first.mail c.client) who
+          let c = clients_of.c words scenario begins set fact linked rows t j asks a born in
+          let first = clients_of.first words scenario begins set fact linked rows t j asks a born number fine in
+          sent_only (table c.client (Got first.mail)) (Deliver number) (clients_of.got_is words scenario begins set fact linked rows t j asks a born number fine) (takes_only first.mail c.client) who
       client_sent Go fine who =
-          let c = clients_of.c words scenario begins set is linked rows t j asks a born in
-          sent_only (table c.client GoInput) Go (clients_of.go_is words scenario begins set is linked rows t j asks a born fine) (go_only c.client) who
+          let c = clients_of.c words scenario begins set fact linked rows t j asks a born in
+          sent_only (table c.client GoInput) Go (clients_of.go_is words scenario begins set fact linked rows t j asks a born fine) (go_only c.client) who
       client_sent Tick fine who = absurd fine
       client_sent _ fine who = absurd fine
 
@@ -137,8 +137,8 @@ module _ (words : ℕ → ℕ → ℕ × ℕ) (scenario : Scenario) (begins : Is
           let c = j.clients asks a in
           let same : b.asks ≡ asks = begins.once b.asks asks b.is_asks a (b.client_is ∙ (let k = e in omega (arith, k))) in
           let first : b.first ≡ begins.first = (let k : b.first ∷ b.others ≡ begins.first ∷ begins.others = sym b.groups_are ∙ begins.groups_are in cc) in
-          let none = unasked set asks c.client (subst (λ g. IsCalmClient set asks g c.client) not_gone c.calm).state in
-          let player : value player_table (client_seat (route_of b.first) b.asks) rows ≡ Client c.client = ap (λ (x : Asks). value player_table (client_seat (route_of b.first) x) rows) same ∙ (ap (λ (x : Base). value player_table (client_seat (route_of x) asks) rows) first ∙ c.is) in
+          let none = unasked c.client (subst (λ g. IsCalmClient set asks g c.client) not_gone c.calm).state in
+          let player : value player_table (client_seat (route_of b.first) b.asks) rows ≡ Client c.client = ap (λ (x : Asks). value player_table (client_seat (route_of b.first) x) rows) same ∙ (ap (λ (x : Base). value player_table (client_seat (route_of x) asks) rows) first ∙ c.fact) in
           let count = ap begun_of player in
           let waits = ap waiting_ones none.0 in
           let replies = ap length none.1 in
@@ -154,14 +154,14 @@ module _ (words : ℕ → ℕ → ℕ × ℕ) (scenario : Scenario) (begins : Is
       no_mail : has_started rows (client_actor asks.client) ≡ false → (mail : Mail) → mail.to ≡ client_actor asks.client → IsCalmMail (IsBegun scenario rows) set mail → ⊥
       no_mail not_gone mail to (inr s) = aside_none mail.body mail.from mail.to to not_gone s
       no_mail not_gone mail to (inl p) =
-          let for : IsFor (IsBegun scenario rows) set.frames is.are is.apart p.frame mail.from mail.to mail.body = for_node (IsBegun scenario rows) set.frames is.are is.apart p.frame (is.are p.frame p.is_frame) mail.from mail.to mail.body p.says (λ c n op b e. begun_none not_gone c n op b (sym to ∙ e)) in
-          both_ways (is_node (client_actor asks.client)) (client_number words scenario begins asks a) (ap is_node (sym to) ∙ (is.are p.frame p.is_frame).nodes for.slot mail.to for.member)
+          let for : IsFor (IsBegun scenario rows) set.frames fact.are fact.apart p.frame mail.from mail.to mail.body = for_node (IsBegun scenario rows) set.frames fact.are fact.apart p.frame (fact.are p.frame p.is_frame) mail.from mail.to mail.body p.says (λ c n op b e. begun_none not_gone c n op b (sym to ∙ e)) in
+          both_ways (is_node (client_actor asks.client)) (client_number words scenario begins asks a) (ap is_node (sym to) ∙ (fact.are p.frame p.is_frame).nodes for.slot mail.to for.member)
 
       own_fresh : {X : Type 0} (event : Event OrderLine) → IsInOrder (system_of as_nodes words scenario) rows (client_actor asks.client) event
           → has_started (rows ++ row_of player_table (client_seat (route_of begins.first) asks) rows event ∷ []) (client_actor asks.client) ≡ false → X
       own_fresh (Deliver number) fine not_gone =
-          let first = clients_of.first words scenario begins set is linked rows t j asks a born number fine in
-          absurd (no_mail (sym (started_still words scenario begins rows (row_of player_table (cseat asks) rows (Deliver number)) (client_actor asks.client) refl) ∙ not_gone) first.mail first.receiver (clients_of.is_calm words scenario begins set is linked rows t j asks a born number fine))
+          let first = clients_of.first words scenario begins set fact linked rows t j asks a born number fine in
+          absurd (no_mail (sym (started_still words scenario begins rows (row_of player_table (cseat asks) rows (Deliver number)) (client_actor asks.client) refl) ∙ not_gone) first.mail first.receiver (clients_of.is_calm words scenario begins set fact linked rows t j asks a born number fine))
       own_fresh Go fine not_gone =
           let gone_now : has_started (rows ++ row_of player_table (cseat asks) rows Go ∷ []) (client_actor asks.client) ≡ true =
           list_any-append (λ (r : Row Mail OrderLine). eqb r.who (client_actor asks.client) && is_go r.event) rows (row_of player_table (cseat asks) rows Go ∷ [])

@@ -54,9 +54,9 @@ pub line_ends : (words : ℕ → ℕ → ℕ × ℕ) (scenario : Scenario) (begi
     → IsSetting (setting_at (replicas_after scenario before) frames ways) → IsLinkedSetting (setting_at (replicas_after scenario before) frames ways) → IsAsking words scenario (setting_at (replicas_after scenario before) frames ways) begins.first before
     → AreRequests words scenario (setting_at (replicas_after scenario before) frames ways) before after
     → IsAsking words scenario (setting_at (replicas_after scenario before) frames ways) begins.first (before ++ after) × HaveServed scenario (setting_at (replicas_after scenario before) frames ways) (before ++ after)
-line_ends words scenario begins before after frames ways q s is linked j requests =
+line_ends words scenario begins before after frames ways q s fact linked j requests =
     let set = setting_at (replicas_after scenario before) frames ways in
-    line_serves words scenario begins set is linked before after requests [] after refl
+    line_serves words scenario begins set fact linked before after requests [] after refl
     (subst (λ (l : Journal). IsAsking words scenario set begins.first l × HaveServed scenario set l) (sym (append-nil before)) (j, at_first words scenario begins.first before q frames ways s))
 
 pub replicas_quiet : ValidScenariosAreBounded → LinesLeaveReplicasQuiet

@@ -13,6 +13,7 @@ use Rattle.sc_scenario.specs.declared.scenario.scenarios.Scenario.{Scenario}
 use Rattle.sc_scenario.specs.scenario.Definitions.{ValidScenariosAreBounded}
 use Rattle.sc_meaning.specs.sound.Definitions.{Player, player_table, node_seat, client_seat, route_of, births, system_of, as_nodes}
 use Rattle.sc_live_orderly.specs.Definitions.{IsTidy, IsOrderly, IsInOrder, owed}
+use Rattle.sc_live_plain.proofs.PlainProofs.BegunRequestCounts.{begun_right}
 use Rattle.sc_live_plain.specs.Definitions.{IsAsking, AreFarFromLast, AreRequests, AreSeated, NobodyWaits, IsLinkedSetting, Setting, IsSetting}
 use Rattle.sc_live_plain.proofs.CalmProofs.RequestPhaseClients as clients_of
 use Rattle.sc_live_plain.proofs.Lemmas.{AreSought, IsStage, stage, node_number, client_number, value_others, Journal, of_player, client_is}
@@ -22,7 +23,7 @@ use Rattle.sc_live_answers.proofs.RequestsProofs.RequestLineClients.{line_keeps,
 use Rattle.sc_live_answers.proofs.LinesProofs.JournalTokens.{falls}
 use Rattle.sc_live_answers.proofs.LinesProofs.SingleTokens.{first_is, sought_on}
 
-module _ (words : ℕ → ℕ → ℕ × ℕ) (scenario : Scenario) (begins : IsStage scenario) (set : Setting) (is : IsSetting set) (linked : IsLinkedSetting set) (seated : AreSeated scenario set) where
+module _ (words : ℕ → ℕ → ℕ × ℕ) (scenario : Scenario) (begins : IsStage scenario) (set : Setting) (fact : IsSetting set) (linked : IsLinkedSetting set) (seated : AreSeated scenario set) where
   abbrev sys : System Player Mail OrderLine
   sys = system_of as_nodes words scenario
 
@@ -37,7 +38,7 @@ module _ (words : ℕ → ℕ → ℕ × ℕ) (scenario : Scenario) (begins : Is
 
   -- what holds after each row
   record Holds (rows : Journal) : Type 0 where
-    sought : AreSought words scenario begins set is linked rows
+    sought : AreSought words scenario begins set fact linked rows
     few : (asks : Asks) → Among asks scenario.clients → owed (system_of as_nodes words scenario) (token_owing asks.client) rows ≤ 1
     fresh : KnowOne scenario begins.first rows
     leads : AllAskLeaders scenario set begins.first rows
@@ -50,20 +51,20 @@ module _ (words : ℕ → ℕ → ℕ × ℕ) (scenario : Scenario) (begins : Is
       own_leads : (event : Event OrderLine) → IsInOrder (system_of as_nodes words scenario) rows (client_actor asks.client) event → (client : ClientState)
           → value player_table (client_seat (route_of begins.first) asks) (rows ++ row_of player_table (client_seat (route_of begins.first) asks) rows event ∷ []) ≡ Client client → AsksLeaders set client
       own_leads (Deliver number) fine client v =
-          let c = clients_of.c words scenario begins set is linked rows t j asks a born in
-          let first = clients_of.first words scenario begins set is linked rows t j asks a born number fine in
+          let c = clients_of.c words scenario begins set fact linked rows t j asks a born in
+          let first = clients_of.first words scenario begins set fact linked rows t j asks a born number fine in
           let step = table c.client (Got first.mail) in
-          let became = clients_of.became words scenario begins set is linked rows t j asks a born (Deliver number) fine step (clients_of.got_is words scenario begins set is linked rows t j asks a born number fine) (clients_of.got_more words scenario begins set is linked rows t j asks a born number fine) in
-          let answer = first_is words scenario begins set is linked seated rows t j h.sought asks a (h.few asks a) number fine c.client c.is first.mail first.sent in
+          let became = clients_of.became words scenario begins set fact linked rows t j asks a born (Deliver number) fine step (clients_of.got_is words scenario begins set fact linked rows t j asks a born number fine) (clients_of.got_more words scenario begins set fact linked rows t j asks a born number fine) in
+          let answer = first_is words scenario begins set fact linked seated rows t j h.sought asks a (h.few asks a) number fine c.client c.fact first.mail first.sent in
           subst (AsksLeaders set) (client_is (sym became ∙ v))
-          (ask_leaders.takes scenario rows set asks (has_started rows (client_actor asks.client)) c.client first.mail is linked c.calm (clients_of.is_calm words scenario begins set is linked rows t j asks a born number fine) (first.receiver ∙ ap client_actor (sym c.calm.me_is))
-          (clients_of.asked_right words scenario begins set is linked rows t j asks a born number fine) (h.leads asks c.client a c.is) answer)
+          (ask_leaders.takes scenario rows set asks (has_started rows (client_actor asks.client)) c.client first.mail fact linked c.calm (clients_of.is_calm words scenario begins set fact linked rows t j asks a born number fine) (first.receiver ∙ ap client_actor (sym c.calm.me_is))
+          (begun_right scenario rows begins.once asks a c.client c.calm.me_is c.calm.requests_are) (h.leads asks c.client a c.fact) answer)
       own_leads Go fine client v =
-          let c = clients_of.c words scenario begins set is linked rows t j asks a born in
+          let c = clients_of.c words scenario begins set fact linked rows t j asks a born in
           let step = table c.client GoInput in
-          let became = clients_of.became words scenario begins set is linked rows t j asks a born Go fine step (clients_of.go_is words scenario begins set is linked rows t j asks a born fine) (clients_of.go_more words scenario begins set is linked rows t j asks a born fine) in
-          let one = h.fresh asks c.client a fine c.is in
-          subst (AsksLeaders set) (client_is (sym became ∙ v)) (ask_leaders.go set asks c.client one.0 (clients_of.fresh words scenario begins set is linked rows t j asks a born fine) one.1)
+          let became = clients_of.became words scenario begins set fact linked rows t j asks a born Go fine step (clients_of.go_is words scenario begins set fact linked rows t j asks a born fine) (clients_of.go_more words scenario begins set fact linked rows t j asks a born fine) in
+          let one = h.fresh asks c.client a fine c.fact in
+          subst (AsksLeaders set) (client_is (sym became ∙ v)) (ask_leaders.go set asks c.client one.0 (clients_of.fresh words scenario begins set fact linked rows t j asks a born fine) one.1)
       own_leads Tick fine client v = absurd fine
       own_leads _ fine client v = absurd fine
 
@@ -88,9 +89,9 @@ module _ (words : ℕ → ℕ → ℕ × ℕ) (scenario : Scenario) (begins : Is
 
     holds_row : (row : Row Mail OrderLine) → IsOrderly (system_of as_nodes words scenario) rows row → Holds (rows ++ row ∷ [])
     holds_row row o = record {
-      sought = sought_on words scenario begins set is linked seated rows t j room row o h.sought;
-      few = λ asks a. (let le = h.few asks a in let fall = falls asks.client words scenario begins set is linked rows t j room row o in omega (arith, le, fall));
-      fresh = fresh_row words scenario begins set is linked seated rows t j room One row o h.fresh;
+      sought = sought_on words scenario begins set fact linked seated rows t j room row o h.sought;
+      few = λ asks a. (let le = h.few asks a in let fall = falls asks.client words scenario begins set fact linked rows t j room row o in omega (arith, le, fall));
+      fresh = fresh_row words scenario begins set fact linked seated rows t j room One row o h.fresh;
       leads = leads_row row o;
     }
 
@@ -103,13 +104,13 @@ module _ (words : ℕ → ℕ → ℕ × ℕ) (scenario : Scenario) (begins : Is
         fresh = fresh;
         leads = λ asks client a e w. (let bad : None ≡ Some w.seq = sym (still asks client a e) ∙ w.waits in cc);
       } in
-      (line_keeps words scenario begins set is linked Holds (λ rows t k room row o h. holds_row rows t k room h row o) before after requests [] after refl
+      (line_keeps words scenario begins set fact linked Holds (λ rows t k room row o h. holds_row rows t k room h row o) before after requests [] after refl
       (subst (λ (l : Journal). IsAsking words scenario set begins.first l × Holds l) (sym (append-nil before)) (j, start))).1.leads
 
 pub lines_lead : ValidScenariosAreBounded → LinesAskLeaders
-lines_lead all_bounded words scenario set first others before after valid groups is linked seated j still fresh requests few =
+lines_lead all_bounded words scenario set first others before after valid groups fact linked seated j still fresh requests few =
     let begins = stage scenario (all_bounded scenario valid) in
     let same : first ≡ begins.first = (let e : first ∷ others ≡ begins.first ∷ begins.others = sym groups ∙ begins.groups_are in cc) in
     subst (λ (f : Base). AllAskLeaders scenario set f (before ++ after)) (sym same)
-    (line_asks words scenario begins set is linked seated before after requests (subst (λ (f : Base). IsAsking words scenario set f before) same j) (subst (λ (f : Base). NobodyWaits scenario f before) same still)
+    (line_asks words scenario begins set fact linked seated before after requests (subst (λ (f : Base). IsAsking words scenario set f before) same j) (subst (λ (f : Base). NobodyWaits scenario f before) same still)
     (subst (λ (f : Base). KnowOne scenario f before) same fresh) few)

@@ -179,10 +179,10 @@ module _ (words : ℕ → ℕ → ℕ × ℕ) (scenario : Scenario) (set : Setti
 
 -- ---- each row of a line
 
-module _ (words : ℕ → ℕ → ℕ × ℕ) (scenario : Scenario) (begins : IsStage scenario) (set : Setting) (is : IsSetting set) (linked : IsLinkedSetting set) where
+module _ (words : ℕ → ℕ → ℕ × ℕ) (scenario : Scenario) (begins : IsStage scenario) (set : Setting) (fact : IsSetting set) (linked : IsLinkedSetting set) where
   by_leaves : (rows later : Journal) → ((frame : Frame) → Among frame set.frames → IsGroupAt words scenario rows frame) → HaveServed scenario set rows → RowLeaves words scenario set.frames rows later → HaveServed scenario set later
   by_leaves rows later groups all (inl same) = all_stay scenario set rows later same all
-  by_leaves rows later groups all (inr one) = one_changes words scenario set is.apart rows later one groups all
+  by_leaves rows later groups all (inr one) = one_changes words scenario set fact.apart rows later one groups all
 
   abbrev Holds : Journal → Type 0
   Holds rows = IsAsking words scenario set begins.first rows × HaveServed scenario set rows
@@ -192,7 +192,7 @@ module _ (words : ℕ → ℕ → ℕ × ℕ) (scenario : Scenario) (begins : Is
     line_serves prefix [] e h = subst (λ (l : Journal). Holds (before ++ l)) (sym (e ∙ append-nil prefix)) h
     line_serves prefix (row ∷ back) e h =
         let r = requests prefix back row e in
-        let then_ : IsAsking words scenario set begins.first ((before ++ prefix) ++ row ∷ []) = asking_row words scenario begins set is linked (before ++ prefix) r.0 h.0 r.1 row r.2 in
-        let served = by_leaves (before ++ prefix) ((before ++ prefix) ++ row ∷ []) (λ frame a. h.0.groups frame a) h.1 (row_leaves words scenario begins set is (before ++ prefix) r.0 h.0 r.1 row r.2) in
+        let then_ : IsAsking words scenario set begins.first ((before ++ prefix) ++ row ∷ []) = asking_row words scenario begins set fact linked (before ++ prefix) r.0 h.0 r.1 row r.2 in
+        let served = by_leaves (before ++ prefix) ((before ++ prefix) ++ row ∷ []) (λ frame a. h.0.groups frame a) h.1 (row_leaves words scenario begins set fact (before ++ prefix) r.0 h.0 r.1 row r.2) in
         let place : (before ++ prefix) ++ row ∷ [] ≡ before ++ (prefix ++ row ∷ []) = append_assoc before prefix (row ∷ []) in
         line_serves (prefix ++ row ∷ []) back (e ∙ sym (append_assoc prefix (row ∷ []) back)) (subst Holds place (then_, served))

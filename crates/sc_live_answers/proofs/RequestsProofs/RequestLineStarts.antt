@@ -36,7 +36,7 @@ none_with : {M : Type 0} (to : M → ℕ) (born : ℕ → Bool) (sent : List M) 
 none_with to born [] counts none = refl
 none_with to born (m ∷ sent) [] none = refl
 none_with to born (m ∷ sent) (c ∷ counts) none =
-    let rec = none_with to born sent counts (λ who is. (no_append (cond (eqb (to m) who) (replicate c m) []) (mail_with (λ x. eqb (to x) who) sent counts) (none who is)).1) in
+    let rec = none_with to born sent counts (λ who fact. (no_append (cond (eqb (to m) who) (replicate c m) []) (mail_with (λ x. eqb (to x) who) sent counts) (none who fact)).1) in
     elim (cases_Bool (born (to m))) [
       | inl t ↦ (
           let mine = (no_append (cond (eqb (to m) (to m)) (replicate c m) []) (mail_with (λ x. eqb (to x) (to m)) sent counts) (none (to m) t)).0 in
@@ -86,7 +86,7 @@ pub count_once : ValidScenariosAreBounded → QuietJournalsCountOnce
 count_once all_bounded words scenario set first others rows c valid groups j q once =
     let begins = stage scenario (all_bounded scenario valid) in
     idle_once all_bounded words scenario set first others rows c valid groups j
-    (λ me node low high is. none_of_all c node.replicas (λ r a.
+    (λ me node low high fact. none_of_all c node.replicas (λ r a.
     none_at_rest c r (q.quiet.at_rest (name_of r) me r
-    (replica_is words scenario rows (name_of r) me (Node node) (node_number words scenario begins me low high) is ∙ named_found node.replicas (once me node low high is) r a))))
+    (replica_is words scenario rows (name_of r) me (Node node) (node_number words scenario begins me low high) fact ∙ named_found node.replicas (once me node low high fact) r a))))
     (no_mail words scenario first rows q)

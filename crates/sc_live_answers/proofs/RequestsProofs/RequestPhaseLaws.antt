@@ -5,12 +5,12 @@ use Rattle.sc_law_groups.proofs.WholeProofs.Lemmas.{valid_journals_are_sound, va
 use Rattle.sc_live_answers.specs.Definitions.{RestingPrefixesAreKnown, SentNodesMayPump, RequestsBeginAsked, RequestsStayAsked, AskedRowsGoOn, AskedRowsFindCalm, RequestsKeepGroups, RequestsRestAgain}
 use Rattle.sc_scenario.proofs.ScenarioProofs.Lemmas.{valid_scenarios_are_bounded}
 use Rattle.sc_live_answers.proofs.RequestsProofs.RequestLaws.{lawful_replicas_are_named_once}
-use Rattle.sc_live_answers.proofs.MailProofs.GroupMail.{sent_replicas}
+use Rattle.sc_live_answers.proofs.LedMailProofs.GroupMail.{sent_replicas}
 use Rattle.sc_live_answers.proofs.RequestsProofs.RequestPhases.{begin_asked, stay_asked, rows_asked, asked_find, keep_groups, rest_again}
 use Rattle.sc_live_answers.proofs.RequestsProofs.RequestInvariantLaws.{requests_begin, requests_stay, requests_leave_young, requests_find_calm}
 use Rattle.sc_live_answers.proofs.BallotsProofs.HintLaws.{requests_keep_ballots, next_rows_rise}
 use Rattle.sc_live_journals.proofs.MailProofs.Lemmas.{slots_are_left, replicas_last}
-use Rattle.sc_live_answers.proofs.MailProofs.GroupMailLaws.{next_rows_are_sent}
+use Rattle.sc_live_answers.proofs.LedMailProofs.GroupMailLaws.{next_rows_are_sent}
 use Rattle.sc_live_answers.proofs.LinesProofs.SettingLaws.{quiet_journals_have_frames}
 use Rattle.sc_live_answers.proofs.AnswersProofs.CalmRowLaws.{chart_hints_rise}
 use Rattle.sc_live_plain.proofs.Lemmas.{quiet_journals_ask}

@@ -23,7 +23,7 @@ use Rattle.sc_live_plain.specs.Definitions.{IsAskingNode, replicas_after, QuietJ
 use Rattle.sc_live_answers.specs.Definitions.{over_at, slot_leaders_at, IsSentStep, NextRowsAreSent, QuietGroupsHaveCuts, StandingGroupsAreRound, QuietJournalsHaveFrames, QuietSettingsAreLinked, ChartHintsRise, NextRowsRise, IsRisingOn, IsBallotSince, RequestsKeepBallots, RoundsAreSeen, StillPrefixesAreFree, IsQuietPrefix, IsFoundPrefix, PrefixesAreFound, NoGroupEnds, PrefixesStayInTurn, NoMailForStrangers, IsCalmJournal, IsPrefixOf, AreSent, RestsAt, RequestsLeaveResting, setting_of, RequestsBegin, RequestsStay, RequestsFindCalm, RequestsLeaveYoung, RestingPrefixesAreKnown, SentNodesMayPump, IsAskedSince, RequestsBeginAsked, RequestsStayAsked, AskedRowsGoOn, AskedRowsFindCalm, RequestsKeepGroups, RequestsRestAgain}
 use Rattle.sc_live_answers.proofs.RestProofs.Prefixes.{journal_group, journal_few, quiet_marks, untold_in_order}
 use Rattle.sc_live_answers.proofs.RequestsProofs.RequestInvariant.{prefix_timely}
-use Rattle.sc_live_answers.proofs.GroupsProofs.GuidedGroups.{named_there}
+use Rattle.sc_live_answers.proofs.LedGroupsProofs.GuidedGroups.{named_there}
 use Rattle.sc_live_answers.proofs.LinesProofs.Setting as quiet_of
 use Rattle.sc_live_answers.proofs.LinesProofs.Frames.{nodes_numbered}
 
@@ -91,7 +91,7 @@ module _ (all_bounded : ValidScenariosAreBounded) (found_law : PrefixesAreFound)
       let n = asked.requested.asking.nodes who home.0 home.1 in
       record {
         asking = n;
-        here = sym (ap (λ (player : Player). replica_of name (replicas_of player)) n.is)
+        here = sym (ap (λ (player : Player). replica_of name (replicas_of player)) n.fact)
             ∙ (sym (ap (λ b. cond b (replica_of name (replicas_of (value player_table (node_seat as_nodes scenario.groups scenario.policy who) rows))) None) (nodes_numbered all_bounded scenario calm.valid who home.0 home.1)) ∙ at);
       }
 
@@ -123,12 +123,12 @@ module _ (all_bounded : ValidScenariosAreBounded) (found_law : PrefixesAreFound)
   pub none_work : (name : Draw) (who : ℕ) (r : ReplicaState) → view_at all rows name who ≡ Some r → r.running ≡ true → works r ≡ []
   none_work name who r e runs = (let l = led_at name who r e runs in plain_works (IsBegun scenario rows) l.frame l.at r runs l.plain)
 
-  module _ (is : IsSetting set) where
+  module _ (fact : IsSetting set) where
     pub none_goes : NoGroupEnds scenario quiet (quiet ++ after)
     none_goes name node r into at went = elim (cases_Bool r.running) [
       | inl runs ↦ (
           let l = led_at name node r view runs in
-          let stands : r.group.core.gone ≡ None = ap (λ (c : Core). c.gone) (plain_core (IsBegun scenario rows) l.frame l.at r runs l.plain) ∙ (is.are l.frame l.among).stands in
+          let stands : r.group.core.gone ≡ None = ap (λ (c : Core). c.gone) (plain_core (IsBegun scenario rows) l.frame l.at r runs l.plain) ∙ (fact.are l.frame l.among).stands in
           absurd (none-some into (sym stands ∙ went)))
       | inr off ↦ (let h = subst (KnowsBetter set name r) went (stopped_at name node r view off) in (h.node, h.r, into, h.is_there, h.went))
     ]
@@ -139,7 +139,7 @@ module _ (all_bounded : ValidScenariosAreBounded) (found_law : PrefixesAreFound)
     -- a group that has a replica had one in the quiet
     pub was_there : (name : Draw) → IsThere all (quiet ++ after) name → IsThere all quiet name
     was_there name there = elim (cases_Bool there.1.running) [
-      | inl runs ↦ (let l = led_at name there.0 there.1 there.2 runs in let h = is.leads l.frame l.among in back l.frame.lead h.r (subst (λ n. set.at n l.frame.lead ≡ Some h.r) l.named h.is_there))
+      | inl runs ↦ (let l = led_at name there.0 there.1 there.2 runs in let h = fact.leads l.frame l.among in back l.frame.lead h.r (subst (λ n. set.at n l.frame.lead ≡ Some h.r) l.named h.is_there))
       | inr off ↦ by there.1.group.core.gone (stopped_at name there.0 there.1 there.2 off)
     ]
       where
@@ -199,7 +199,7 @@ module _ (all_bounded : ValidScenariosAreBounded) (found_law : PrefixesAreFound)
   steps : (base : Base) (among : Among base (groups_at as_nodes scenario.groups journal))
       → IsSentStep (logged_sets as_nodes base journal) (over_at as_nodes base journal) (slot_leaders_at as_nodes scenario base journal) words (births as_nodes scenario) (quiet ++ after) seat event base (asked.sent base among).course
   steps base among =
-      next_law words scenario journal base (journal_group words scenario journal calm base among) calm.timely (journal_few few_law words scenario journal calm base) (quiet ++ after) prefix.more seat event prefix.is seated (asked.sent base among)
+      next_law words scenario journal base (journal_group words scenario journal calm base among) calm.timely (journal_few few_law words scenario journal calm base) (quiet ++ after) prefix.more seat event prefix.fact seated (asked.sent base among)
       (young_law words scenario first others far sends journal quiet after base calm groups asked.rests asked.prefix asked.known asked.requested among)
 
   held : IsHeld words scenario first journal quiet asked.rests (with_event (quiet ++ after) seat event)

@@ -25,7 +25,7 @@ owes_same r after off still gone =
     let c = ap (idle_owes false) gone in
     omega (arith, a, b, c)
 
-module _ (begun : Requests) (frame : Frame) (is : IsFrame frame) where
+module _ (begun : Requests) (frame : Frame) (fact : IsFrame frame) where
   -- a row of a plain replica takes nobody's lead away
   plain_owes : (me : ℕ) (r after : ReplicaState) → IsPlainAt begun frame me r → IsPlainAt begun frame me after → (is_member frame.core.members me ≡ false → after.group ≡ r.group) → group_owes r ≤ group_owes after
   plain_owes me r after (inl (p, inl k)) later same = owes_none r (group_owes after) k.1.leader.running
@@ -34,15 +34,15 @@ module _ (begun : Requests) (frame : Frame) (is : IsFrame frame) where
       owes_same r after f.1.stopped g.1.stopped (ap (λ (core : Core). core.gone) (q.group.core_is ∙ sym p.group.core_is))
   plain_owes me r after (inl (p, inr f)) (inr left) same =
       owes_same r after f.1.stopped left.follower.stopped (ap (λ (group : Group). group.core.gone) (same left.left))
-  plain_owes me r after (inr left) (inl (q, inl k)) same = absurd (both_ways (is_member frame.core.members me) left.left (ap (is_member frame.core.members) k.0 ∙ is.leads))
+  plain_owes me r after (inr left) (inl (q, inl k)) same = absurd (both_ways (is_member frame.core.members me) left.left (ap (is_member frame.core.members) k.0 ∙ fact.leads))
   plain_owes me r after (inr left) (inl (q, inr g)) same = owes_same r after left.follower.stopped g.1.stopped (ap (λ (group : Group). group.core.gone) (same left.left))
   plain_owes me r after (inr left) (inr stays) same = owes_same r after left.follower.stopped stays.follower.stopped (ap (λ (group : Group). group.core.gone) (same left.left))
 
   away : (me : ℕ) → is_member frame.core.members me ≡ false → me ≡ frame.lead → ⊥
-  away me left e = both_ways (is_member frame.core.members me) left (ap (is_member frame.core.members) e ∙ is.leads)
+  away me left e = both_ways (is_member frame.core.members me) left (ap (is_member frame.core.members) e ∙ fact.leads)
 
   -- at a node that left, only what is to be accepted comes, which leaves the state as it is
-  group_same : (me from : ℕ) (body : MailBody) (r : ReplicaState) (place : Place) → is_member frame.core.members me ≡ false → IsPlainBody begun frame from me body → Does begun frame is me r from body place → place.0.group ≡ r.group
+  group_same : (me from : ℕ) (body : MailBody) (r : ReplicaState) (place : Place) → is_member frame.core.members me ≡ false → IsPlainBody begun frame from me body → Does begun frame fact me r from body place → place.0.group ≡ r.group
   group_same me from (Accept group ballot slot command) r place left b response = response.group_is
   group_same me from (Request group client seq op) r place left b response = absurd (away me left response.0)
   group_same me from (Accepted group ballot slot) r place left b response = absurd (away me left response.0)
@@ -53,36 +53,36 @@ module _ (begun : Requests) (frame : Frame) (is : IsFrame frame) where
     -- what a plain replica finds in a mail of its group
     may_take : (me from : ℕ) (body : MailBody) (r : ReplicaState) → IsPlainAt begun frame me r → IsPlainBody begun frame from me body → IsDue r body → ((client seq : ℕ) (op : Op) → begun client seq op → me ≡ client_actor client → ⊥) → MayTake ways r body
     may_take me from (Request group client seq op) r k b due n =
-        let leads = leading_at begun frame is me r b.1.to_is k in
+        let leads = leading_at begun frame fact me r b.1.to_is k in
         let name : name_of r ≡ group = ap (λ (c : Core). c.id) leads.0.group.core_is ∙ sym b.0 in
-        (name, may_pump ways begun frame is bounded r leads.0 leads.1, subst (λ d. Points ways d r) name (runs ways begun frame is bounded r leads.0 leads.1))
+        (name, may_pump ways begun frame fact bounded r leads.0 leads.1, subst (λ d. Points ways d r) name (runs ways begun frame fact bounded r leads.0 leads.1))
     may_take me from (Accepted group ballot slot) r k b due n =
-        let leads = leading_at begun frame is me r b.2 k in
-        inr (inl (serves_all ways begun frame is bounded r leads.0 leads.1))
-    may_take me from (Accept group ballot slot command) r k b due n = ap (λ (x : Ballot). r.running && below r.leader.ballot x) b.1 ∙ none_stops begun frame is me r k
+        let leads = leading_at begun frame fact me r b.2 k in
+        inr (inl (serves_all ways begun frame fact bounded r leads.0 leads.1))
+    may_take me from (Accept group ballot slot command) r k b due n = ap (λ (x : Ballot). r.running && below r.leader.ballot x) b.1 ∙ none_stops begun frame fact me r k
     may_take me from (Learn group slot command) r k b due n =
-        let c = call_is begun frame is 0 0 [] 0 (λ x y. ⊥) command b.1.is_call in
+        let c = call_is begun frame fact 0 0 [] 0 (λ x y. ⊥) command b.1.is_call in
         let call : IsPlainCall begun frame c.0 c.1 c.2 = subst (IsPlainCommand begun frame) c.3 b.1.is_call in
-        let f = following_at begun frame is me r b.1.to_in b.1.other k in
-        inr (subst (λ (x : Command). Follows x r × (slot ≤ next r)) (sym c.3) (follows ways begun frame is bounded me c.0 c.1 c.2 r f.0 f.1 call, omega (arith, due)))
+        let f = following_at begun frame fact me r b.1.to_in b.1.other k in
+        inr (subst (λ (x : Command). Follows x r × (slot ≤ next r)) (sym c.3) (follows ways begun frame fact bounded me c.0 c.1 c.2 r f.0 f.1 call, omega (arith, due)))
     may_take me from (Answer group seq answer) r k b due n = absurd (n b.1.client seq b.1.op b.1.is_begun b.1.to_is)
     may_take me from _ r k b due n = absurd b
 
-module _ (begun : Requests) (set : Setting) (is : IsSetting set) (chart : Chart) (counts : CountsAs set chart) (elsewhere : Elsewhere) (node : NodeState) (n : IsCalmNode begun set node) (pumps : Each MayPump node.replicas) (mail : Mail) (to : mail.to ≡ node.me)
+module _ (begun : Requests) (set : Setting) (fact : IsSetting set) (chart : Chart) (counts : CountsAs set chart) (elsewhere : Elsewhere) (node : NodeState) (n : IsCalmNode begun set node) (pumps : Each MayPump node.replicas) (mail : Mail) (to : mail.to ≡ node.me)
     (not_client : (client seq : ℕ) (op : Op) → begun client seq op → node.me ≡ client_actor client → ⊥) (due : ComesInTime begun set node mail) where
   abbrev Finds : Type 0
   Finds = IsCalmMailAt chart.ways chart.groups elsewhere mail.from mail.body node
 
   plain_finds : IsPlainMail begun set.frames mail → Finds
   plain_finds m =
-      let frame_is : IsFrame m.frame = is.are m.frame m.is_frame in
+      let frame_is : IsFrame m.frame = fact.are m.frame m.is_frame in
       let says : IsPlainBody begun m.frame mail.from node.me mail.body = subst (λ who. IsPlainBody begun m.frame mail.from who mail.body) to m.says in
-      let for : IsFor begun set.frames is.are is.apart m.frame mail.from node.me mail.body = for_node begun set.frames is.are is.apart m.frame frame_is mail.from node.me mail.body says not_client in
+      let for : IsFor begun set.frames fact.are fact.apart m.frame mail.from node.me mail.body = for_node begun set.frames fact.are fact.apart m.frame frame_is mail.from node.me mail.body says not_client in
       let here = n.plain.has m.frame for.slot m.is_frame for.member in
       let k = n.plain.replicas m.frame here.0 m.is_frame here.1 in
       let d = due m.frame here.0 m.is_frame m.says here.1 in
       let row = replica_row begun m.frame frame_is here.0 mail.from d.1 node.me mail.body k says d.0 not_client in
-      let home = is.leads m.frame m.is_frame in
+      let home = fact.leads m.frame m.is_frame in
       Takes m.frame.core.id here.0 (counts.named m.frame.core.id m.frame.lead home) (record {
         stays = record {
           taken = record { comes = for.may; named = for.group; found = here.1 };
@@ -105,7 +105,7 @@ module _ (begun : Requests) (set : Setting) (is : IsSetting set) (chart : Chart)
       let two = counts.far group r.me in
       (better.0, better.1, omega (arith, near, one, two))
 
-  aside_finds : StepsAside begun set is node n mail to not_client due → Finds
+  aside_finds : StepsAside begun set fact node n mail to not_client due → Finds
   aside_finds a =
       let own = n.own a.group a.r a.found in
       let name : name_of a.r ≡ a.group = draw_is (name_of a.r) a.group (find_found (λ (x : ReplicaState). same_draw (name_of x) a.group) node.replicas a.r a.found).1 in
@@ -124,12 +124,12 @@ module _ (begun : Requests) (set : Setting) (is : IsSetting set) (chart : Chart)
       }))
 
   finds : IsCalmMail begun set mail → Finds
-  finds m = elim (turns begun set is node n mail to not_client due m) [
+  finds m = elim (turns begun set fact node n mail to not_client due m) [
     | inl k ↦ plain_finds (record { frame = k.frame; is_frame = k.is_frame; says = k.says })
     | inr a ↦ aside_finds a
   ]
 
 -- While clients ask alone, a node whose replicas may pump finds what it needs in each mail that comes to it when it is due.
 pub requests_taken : RequestsAreTakenCalmly
-requests_taken scenario rows set chart elsewhere node mail is counts n pumps m to not_client due =
-    (to, finds (IsBegun scenario rows) set is chart counts elsewhere node n pumps mail to not_client due m)
+requests_taken scenario rows set chart elsewhere node mail fact counts n pumps m to not_client due =
+    (to, finds (IsBegun scenario rows) set fact chart counts elsewhere node n pumps mail to not_client due m)

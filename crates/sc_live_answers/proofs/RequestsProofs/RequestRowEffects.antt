@@ -10,7 +10,7 @@ use Rattle.sc_node_table.specs.Definitions.{ReplicaState, Place, next, last_slot
 use Rattle.sc_live_plain.specs.Definitions.{Frame, IsFrame, Requests, IsPlainCall, IsPlainCommand, IsPlainBody, AreTaken, IsPlainLeader, IsPlainFollower, IsPlainVoter, IsPlainReplica, IsPlainAt, IsDue}
 use Rattle.sc_live_plain.proofs.Lemmas.{as_voter, learn_is, learnt_plain, learnt_follower, learnt_next, IsRun, call_is, DidRefuse, DidQueue, DidCount, following_at, none_stops, replica_row, taken_once}
 use Rattle.sc_live_answers.proofs.LinesProofs.CallEffects.{knows, Leaves, leaves_itself, leaves_bare, request_kept, vote_goes}
-use Rattle.sc_live_plain.proofs.RowsProofs.AcceptAndLearnRows.{accepted_state}
+use Rattle.sc_live_plain.proofs.PlainRowsProofs.PlainAcceptAndLearnRows.{accepted_state}
 use Rattle.sc_live_plain.proofs.Lemmas.{accept_is}
 use Rattle.sc_live_answers.proofs.LinesProofs.AcceptAndLearnRows.{learn_leaves}
 use Rattle.sc_live_answers.proofs.AnswersProofs.ChartSequence.{split_among}
@@ -50,14 +50,14 @@ pub rests_itself : (r : ReplicaState) → Rests r r
 rests_itself r = record { sets_are = refl; group_is = refl; acts_are = refl; waits_are = refl; next_is = refl; floor_is = refl }
 
 -- one that may vote at a slot
-pub voter_at : (begun : Requests) (frame : Frame) (is : IsFrame frame) (me : ℕ) (r : ReplicaState) (slot : ℕ) → is_member (frame.at slot) me ≡ true → IsPlainAt begun frame me r → IsPlainVoter frame me r
-voter_at begun frame is me r slot m (inl p) = as_voter begun frame is me r p.0
-voter_at begun frame is me r slot m (inr left) = left.voter slot m
+pub voter_at : (begun : Requests) (frame : Frame) (fact : IsFrame frame) (me : ℕ) (r : ReplicaState) (slot : ℕ) → is_member (frame.at slot) me ≡ true → IsPlainAt begun frame me r → IsPlainVoter frame me r
+voter_at begun frame fact me r slot m (inl p) = as_voter begun frame fact me r p.0
+voter_at begun frame fact me r slot m (inr left) = left.voter slot m
 
-module _ (begun : Requests) (frame : Frame) (is : IsFrame frame) (r : ReplicaState) (from : ℕ) (room : next r + slots_ahead ≤ last_slot) where
+module _ (begun : Requests) (frame : Frame) (fact : IsFrame frame) (r : ReplicaState) (from : ℕ) (room : next r + slots_ahead ≤ last_slot) where
   -- one that takes it at the leading node
   by_run : (body : MailBody) (me taken bound : ℕ) (held : List _) (wanted : ℕ → ℕ → Type 0) (place : Place) → me ≡ frame.lead → IsPlainReplica begun frame frame.lead r → IsPlainLeader begun frame taken r
-      → IsRun begun frame is (next r) (next r + taken) held bound wanted place → Leaves r place.0 → Serves frame me body r place.0
+      → IsRun begun frame fact (next r) (next r + taken) held bound wanted place → Leaves r place.0 → Serves frame me body r place.0
   by_run body me taken bound held wanted place e p l run leaves = record {
     next_up = run.leads.low;
     hint_was = p.hint_is;
@@ -68,7 +68,7 @@ module _ (begun : Requests) (frame : Frame) (is : IsFrame frame) (r : ReplicaSta
     promised = inl leaves.promised;
     leader = leaves.leader;
     accepted = λ report a. inl (leaves.accepted report a);
-    rest = inr (ap (is_member frame.core.members) e ∙ is.leads);
+    rest = inr (ap (is_member frame.core.members) e ∙ fact.leads);
     bound = λ _ t a. (run.taken, run.leads.leader.slots, (let same = taken_once r t taken a l.slots in let more = run.leads.more in omega (arith, same, more)));
   }
 
@@ -89,19 +89,19 @@ module _ (begun : Requests) (frame : Frame) (is : IsFrame frame) (r : ReplicaSta
     bound = λ _ t a. (t, a, omega arith);
   }
 
-  by_request : (me : ℕ) (body : MailBody) (client seq : ℕ) (op : Op) (place : Place) → IsPlainAt begun frame me r → Leaves r place.0 → (me ≡ frame.lead) × (DidRefuse begun frame is r client seq op place ⊎ DidQueue begun frame is r client seq op place)
+  by_request : (me : ℕ) (body : MailBody) (client seq : ℕ) (op : Op) (place : Place) → IsPlainAt begun frame me r → Leaves r place.0 → (me ≡ frame.lead) × (DidRefuse begun frame fact r client seq op place ⊎ DidQueue begun frame fact r client seq op place)
       → Serves frame me body r place.0
   by_request me body client seq op place k leaves (e, inl refused) =
       subst (λ (p : Place). Serves frame me body r p.0) (sym refused.place_is) (stays me body (hint_of k))
     where
       hint_of : IsPlainAt begun frame me r → r.hint ≡ Some frame.lead
       hint_of (inl p) = p.0.hint_is
-      hint_of (inr left) = absurd (both_ways (is_member frame.core.members me) left.left (ap (is_member frame.core.members) e ∙ is.leads))
+      hint_of (inr left) = absurd (both_ways (is_member frame.core.members me) left.left (ap (is_member frame.core.members) e ∙ fact.leads))
   by_request me body client seq op place k leaves (e, inr q) = by_run body me q.taken _ _ _ place e q.plain q.leader q.run leaves
 
   -- ---- a vote
 
-  by_vote : (me : ℕ) (body : MailBody) (slot : ℕ) (place : Place) → (DidCount begun frame is r from slot place → Leaves r place.0) → (me ≡ frame.lead) × DidCount begun frame is r from slot place → Serves frame me body r place.0
+  by_vote : (me : ℕ) (body : MailBody) (slot : ℕ) (place : Place) → (DidCount begun frame fact r from slot place → Leaves r place.0) → (me ≡ frame.lead) × DidCount begun frame fact r from slot place → Serves frame me body r place.0
   by_vote me body slot place leaves (e, c) = by_run body me c.taken _ _ _ place e c.plain c.leader c.counted.run (leaves c)
 
   -- ---- an accept
@@ -137,7 +137,7 @@ module _ (begun : Requests) (frame : Frame) (is : IsFrame frame) (r : ReplicaSta
   by_accept : (me : ℕ) (group : Draw) (slot : ℕ) (command : Command) → IsPlainAt begun frame me r → is_member (frame.at slot) me ≡ true → next r ≤ slot → Serves frame me (Accept group frame.ballot slot command) r (mailed from (Accept group frame.ballot slot command) (r, [])).0.0
   unfolding mailed
   by_accept me group slot command k m low =
-      subst (λ (p : Place). Serves frame me (Accept group frame.ballot slot command) r p.0) (sym (accept_is frame is me r (voter_at begun frame is me r slot m k) from slot command low (none_stops begun frame is me r k))) (accepted_serves me group frame.ballot slot command (voter_at begun frame is me r slot m k).hint_is)
+      subst (λ (p : Place). Serves frame me (Accept group frame.ballot slot command) r p.0) (sym (accept_is frame fact me r (voter_at begun frame fact me r slot m k) from slot command low (none_stops begun frame fact me r k))) (accepted_serves me group frame.ballot slot command (voter_at begun frame fact me r slot m k).hint_is)
 
   -- ---- a decided command
 
@@ -146,11 +146,11 @@ module _ (begun : Requests) (frame : Frame) (is : IsFrame frame) (r : ReplicaSta
   unfolding mailed
   by_learn me group slot client seq op p f member ne c at =
       let low : next r ≤ last_slot = omega (arith, room) in
-      let after = learnt_plain begun frame is me r p f is.leads client seq op c low in
-      let stopped = learnt_follower begun frame is me r p f is.leads client seq op c low in
-      let up = learnt_next begun frame is me r p f is.leads client seq op c low in
-      let place_is = learn_is begun frame is me r p f is.leads client seq op c low from slot at in
-      let leaves = subst (λ (place : Place). Leaves r place.0) place_is (learn_leaves begun frame is me r p f client seq op c from slot low at) in
+      let after = learnt_plain begun frame fact me r p f fact.leads client seq op c low in
+      let stopped = learnt_follower begun frame fact me r p f fact.leads client seq op c low in
+      let up = learnt_next begun frame fact me r p f fact.leads client seq op c low in
+      let place_is = learn_is begun frame fact me r p f fact.leads client seq op c low from slot at in
+      let leaves = subst (λ (place : Place). Leaves r place.0) place_is (learn_leaves begun frame fact me r p f client seq op c from slot low at) in
       subst (λ (place : Place). Serves frame me (Learn group slot (Call client seq op)) r place.0) (sym place_is) (record {
         next_up = omega (arith, up);
         hint_was = p.hint_is;
@@ -170,17 +170,17 @@ module _ (begun : Requests) (frame : Frame) (is : IsFrame frame) (r : ReplicaSta
   pub serves_row : (me : ℕ) (body : MailBody) → IsPlainAt begun frame me r → IsPlainBody begun frame from me body → IsDue r body → ((client seq : ℕ) (op : Op) → begun client seq op → me ≡ client_actor client → ⊥) → Serves frame me body r (mailed from body (r, [])).0.0
   unfolding mailed
   serves_row me (Request group client seq op) k b due not_client =
-      by_request me (Request group client seq op) client seq op (mailed from (Request group client seq op) (r, [])).0 k (leaves_bare r _ (request_kept client seq op r [])) (replica_row begun frame is r from room me (Request group client seq op) k b due not_client).0.response
+      by_request me (Request group client seq op) client seq op (mailed from (Request group client seq op) (r, [])).0 k (leaves_bare r _ (request_kept client seq op r [])) (replica_row begun frame fact r from room me (Request group client seq op) k b due not_client).0.response
   serves_row me (Accepted group ballot slot) k b due not_client =
       by_vote me (Accepted group ballot slot) slot (mailed from (Accepted group ballot slot) (r, [])).0
-      (λ c. (vote_goes begun frame is r r (record { group = c.plain.group; me_is = c.plain.me_is; running = c.leader.running; ready = c.leader.ready; leaves = leaves_itself r }) c.leader.flights from ballot slot).leaves)
-      (replica_row begun frame is r from room me (Accepted group ballot slot) k b due not_client).0.response
+      (λ c. (vote_goes begun frame fact r r (record { group = c.plain.group; me_is = c.plain.me_is; running = c.leader.running; ready = c.leader.ready; leaves = leaves_itself r }) c.leader.flights from ballot slot).leaves)
+      (replica_row begun frame fact r from room me (Accepted group ballot slot) k b due not_client).0.response
   serves_row me (Accept group ballot slot command) k b due not_client =
       subst (λ (x : Ballot). Serves frame me (Accept group x slot command) r (mailed from (Accept group x slot command) (r, [])).0.0) (sym b.1) (by_accept me group slot command k b.2.to_in due)
   serves_row me (Learn group slot command) k b due not_client =
-      let c = call_is begun frame is 0 0 [] 0 (λ x y. ⊥) command b.1.is_call in
+      let c = call_is begun frame fact 0 0 [] 0 (λ x y. ⊥) command b.1.is_call in
       let plain : IsPlainCall begun frame c.0 c.1 c.2 = subst (IsPlainCommand begun frame) c.3 b.1.is_call in
-      let follows = following_at begun frame is me r b.1.to_in b.1.other k in
+      let follows = following_at begun frame fact me r b.1.to_in b.1.other k in
       subst (λ (x : Command). Serves frame me (Learn group slot x) r (mailed from (Learn group slot x) (r, [])).0.0) (sym c.3) (by_learn me group slot c.0 c.1 c.2 follows.0 follows.1 b.1.to_in b.1.other plain due)
   serves_row me (Answer group seq answer) k b due not_client = absurd (not_client b.1.client seq b.1.op b.1.is_begun b.1.to_is)
   serves_row me _ k b due not_client = absurd b

@@ -31,10 +31,10 @@ pub record OneServes (frames : List Frame) (from : ℕ) (body : MailBody) (node 
   pub group : (slot : ℕ) → AsksAt body slot → mark frame.core.id (record { from = from; to = node.me; body = body }) ≡ AsksFor slot
   pub others : (name : Draw) → (name ≡ frame.core.id → ⊥) → replica_of name after.replicas ≡ replica_of name node.replicas
 
-module _ (begun : Requests) (set : Setting) (is : IsSetting set) (node : NodeState) (n : IsCalmNode begun set node) (mail : Mail) (to : mail.to ≡ node.me)
-    (not_client : (client seq : ℕ) (op : Op) → begun client seq op → node.me ≡ client_actor client → ⊥) (due : ComesInTime begun set node mail) (k : NodeRow begun set.frames is.are is.apart node mail (node_table node (Got mail))) where
+module _ (begun : Requests) (set : Setting) (fact : IsSetting set) (node : NodeState) (n : IsCalmNode begun set node) (mail : Mail) (to : mail.to ≡ node.me)
+    (not_client : (client seq : ℕ) (op : Op) → begun client seq op → node.me ≡ client_actor client → ⊥) (due : ComesInTime begun set node mail) (k : NodeRow begun set.frames fact.are fact.apart node mail (node_table node (Got mail))) where
   frame_is : IsFrame k.frame
-  frame_is = is.are k.frame k.is_frame
+  frame_is = fact.are k.frame k.is_frame
 
   says : IsPlainBody begun k.frame mail.from node.me mail.body
   says = subst (λ who. IsPlainBody begun k.frame mail.from who mail.body) to k.says
@@ -46,18 +46,18 @@ module _ (begun : Requests) (set : Setting) (is : IsSetting set) (node : NodeSta
   x = (mailed mail.from mail.body (k.r, [])).0.0
 
   serves : Serves k.frame node.me mail.body k.r x
-  serves = serves_row begun k.frame (is.are k.frame k.is_frame) k.r mail.from in_time.1 node.me mail.body (n.plain.replicas k.frame k.r k.is_frame k.found) says in_time.0 not_client
+  serves = serves_row begun k.frame (fact.are k.frame k.is_frame) k.r mail.from in_time.1 node.me mail.body (n.plain.replicas k.frame k.r k.is_frame k.found) says in_time.0 not_client
 
   childless_is : (mailed mail.from mail.body (k.r, [])).1 ≡ []
-  childless_is = (replica_row begun k.frame (is.are k.frame k.is_frame) k.r mail.from in_time.1 node.me mail.body (n.plain.replicas k.frame k.r k.is_frame k.found) says in_time.0 not_client).1
+  childless_is = (replica_row begun k.frame (fact.are k.frame k.is_frame) k.r mail.from in_time.1 node.me mail.body (n.plain.replicas k.frame k.r k.is_frame k.found) says in_time.0 not_client).1
 
   name_x : name_of x ≡ k.frame.core.id
   name_x = ap (λ (c : Core). c.id) serves.core_is ∙ draw_is (name_of k.r) k.frame.core.id (find_found (λ (y : ReplicaState). same_draw (name_of y) k.frame.core.id) node.replicas k.r k.found).1
 
   now : replica_of k.frame.core.id (node_table node (Got mail)).0.replicas ≡ Some x
   now =
-      let for : IsFor begun set.frames is.are is.apart k.frame mail.from mail.to mail.body = for_node begun set.frames is.are is.apart k.frame frame_is mail.from mail.to mail.body k.says (λ c s o b e. not_client c s o b (sym to ∙ e)) in
-      ap (λ (s : NodeState × List Mail). replica_of k.frame.core.id s.0.replicas) (mail_is begun set.frames is.are is.apart k.frame.core.id mail.from mail.body node k.r for.may for.group k.found childless_is)
+      let for : IsFor begun set.frames fact.are fact.apart k.frame mail.from mail.to mail.body = for_node begun set.frames fact.are fact.apart k.frame frame_is mail.from mail.to mail.body k.says (λ c s o b e. not_client c s o b (sym to ∙ e)) in
+      ap (λ (s : NodeState × List Mail). replica_of k.frame.core.id s.0.replicas) (mail_is begun set.frames fact.are fact.apart k.frame.core.id mail.from mail.body node k.r for.may for.group k.found childless_is)
       ∙ put_found k.frame.core.id x k.r node.replicas name_x k.found
 
   marked : (body : MailBody) (slot : ℕ) → IsPlainBody begun k.frame mail.from node.me body → AsksAt body slot → mark k.frame.core.id (record { from = mail.from; to = node.me; body = body }) ≡ AsksFor slot
@@ -75,7 +75,7 @@ module _ (begun : Requests) (set : Setting) (is : IsSetting set) (node : NodeSta
     now = now;
     serves = serves;
     group = λ slot a. marked mail.body slot says a;
-    others = others_after begun set.frames is.are is.apart node mail (node_table node (Got mail)) n.plain k;
+    others = others_after begun set.frames fact.are fact.apart node mail (node_table node (Got mail)) n.plain k;
   }
 
 -- ---- a row
@@ -102,7 +102,7 @@ pub record OneChanges (words : ℕ → ℕ → ℕ × ℕ) (scenario : Scenario)
 abbrev pub RowLeaves : (ℕ → ℕ → ℕ × ℕ) → Scenario → List Frame → Journal → Journal → Type 0
 RowLeaves words scenario frames rows later = AllStay scenario rows later ⊎ OneChanges words scenario frames rows later
 
-module _ (words : ℕ → ℕ → ℕ × ℕ) (scenario : Scenario) (stage : IsStage scenario) (set : Setting) (is : IsSetting set) (rows : Journal) (t : IsTidy rows) (j : IsAsking words scenario set stage.first rows) (room : AreFarFromLast scenario set rows) where
+module _ (words : ℕ → ℕ → ℕ × ℕ) (scenario : Scenario) (stage : IsStage scenario) (set : Setting) (fact : IsSetting set) (rows : Journal) (t : IsTidy rows) (j : IsAsking words scenario set stage.first rows) (room : AreFarFromLast scenario set rows) where
   abbrev sys : System Player Mail OrderLine
   sys = system_of as_nodes words scenario
 
@@ -114,10 +114,10 @@ module _ (words : ℕ → ℕ → ℕ × ℕ) (scenario : Scenario) (stage : IsS
 
   module _ (me : ℕ) (one : 1 ≤ me) (most : me ≤ scenario.nodes) (born : find (λ (other : Seat Player). eqb other.who me) (births as_nodes scenario) ≡ Some (node_seat as_nodes scenario.groups scenario.policy me)) where
     abbrev n : IsAskingNode scenario set rows me
-    n = turns_of.n words scenario stage set is rows t j room me one most born
+    n = turns_of.n words scenario stage set fact rows t j room me one most born
 
     number_is : is_node me ≡ true
-    number_is = turns_of.number_is words scenario stage set is rows t j room me one most born
+    number_is = turns_of.number_is words scenario stage set fact rows t j room me one most born
 
     abbrev later : Event OrderLine → Journal
     later event = rows ++ row_of player_table (node_seat as_nodes scenario.groups scenario.policy me) rows event ∷ []
@@ -129,36 +129,36 @@ module _ (words : ℕ → ℕ → ℕ × ℕ) (scenario : Scenario) (stage : IsS
 
     all_stay : (event : Event OrderLine) → value player_table (node_seat as_nodes scenario.groups scenario.policy me) (later event) ≡ Node n.node → AllStay scenario rows (later event)
     all_stay event v name node = elim (cases_eq node me) [
-      | inl here ↦ ap (replica_at scenario (later event) name) here ∙ (at_me event n.node v name ∙ (sym (replica_is words scenario rows name me (Node n.node) number_is n.is) ∙ ap (replica_at scenario rows name) (sym here)))
+      | inl here ↦ ap (replica_at scenario (later event) name) here ∙ (at_me event n.node v name ∙ (sym (replica_is words scenario rows name me (Node n.node) number_is n.fact) ∙ ap (replica_at scenario rows name) (sym here)))
       | inr ne ↦ replica_others words scenario rows (row_of player_table (nseat me) rows event) name node ne
     ]
 
     module _ (number : ℕ) (fine : kth (waiting (system_of as_nodes words scenario) rows (Some me)) 1 ≡ Some number) where
       abbrev mail : Mail
-      mail = (turns_of.first words scenario stage set is rows t j room me one most born number fine).mail
+      mail = (turns_of.first words scenario stage set fact rows t j room me one most born number fine).mail
 
       abbrev to_me : mail.to ≡ n.node.me
-      to_me = turns_of.to_me words scenario stage set is rows t j room me one most born number fine
+      to_me = turns_of.to_me words scenario stage set fact rows t j room me one most born number fine
 
       became : value player_table (node_seat as_nodes scenario.groups scenario.policy me) (later (Deliver number)) ≡ Node (node_table n.node (Got mail)).0
-      became = turns_of.became words scenario stage set is rows t j room me one most born number fine
+      became = turns_of.became words scenario stage set fact rows t j room me one most born number fine
 
-      by_turn : Turns (IsBegun scenario rows) set is n.node n.calm mail to_me (turns_of.not_client words scenario stage set is rows t j room me one most born) (turns_of.in_time words scenario stage set is rows t j room me one most born number fine)
+      by_turn : Turns (IsBegun scenario rows) set fact n.node n.calm mail to_me (turns_of.not_client words scenario stage set fact rows t j room me one most born) (turns_of.in_time words scenario stage set fact rows t j room me one most born number fine)
           → RowLeaves words scenario set.frames rows (later (Deliver number))
       by_turn (inr aside) =
           inl (all_stay (Deliver number) (became
-          ∙ ap (λ (s : NodeState × List Mail). Node s.0) (step_is (IsBegun scenario rows) set is n.node n.calm mail to_me (turns_of.not_client words scenario stage set is rows t j room me one most born) (turns_of.in_time words scenario stage set is rows t j room me one most born number fine) aside)))
+          ∙ ap (λ (s : NodeState × List Mail). Node s.0) (step_is (IsBegun scenario rows) set fact n.node n.calm mail to_me (turns_of.not_client words scenario stage set fact rows t j room me one most born) (turns_of.in_time words scenario stage set fact rows t j room me one most born number fine) aside)))
       by_turn (inl k) =
-          let o = one_serves (IsBegun scenario rows) set is n.node n.calm mail to_me (turns_of.not_client words scenario stage set is rows t j room me one most born) (turns_of.in_time words scenario stage set is rows t j room me one most born number fine) k in
+          let o = one_serves (IsBegun scenario rows) set fact n.node n.calm mail to_me (turns_of.not_client words scenario stage set fact rows t j room me one most born) (turns_of.in_time words scenario stage set fact rows t j room me one most born number fine) k in
           let g = j.groups o.frame o.is_frame in
-          let first = turns_of.first words scenario stage set is rows t j room me one most born number fine in
+          let first = turns_of.first words scenario stage set fact rows t j room me one most born number fine in
           inr (record {
             frame = o.frame;
             is_frame = o.is_frame;
             me = me;
             body = mail.body;
             r = o.r;
-            was = replica_is words scenario rows o.frame.core.id me (Node n.node) number_is n.is ∙ o.was;
+            was = replica_is words scenario rows o.frame.core.id me (Node n.node) number_is n.fact ∙ o.was;
             x = o.x;
             now = at_me (Deliver number) (node_table n.node (Got mail)).0 became o.frame.core.id ∙ o.now;
             serves = subst (λ who. Serves o.frame who mail.body o.r o.x) n.me_is o.serves;
@@ -172,17 +172,17 @@ module _ (words : ℕ → ℕ → ℕ × ℕ) (scenario : Scenario) (stage : IsS
             others = λ name node ne. elim (cases_eq node me) [
               | inr past ↦ replica_others words scenario rows (row_of player_table (nseat me) rows (Deliver number)) name node past
               | inl here ↦ ap (replica_at scenario (later (Deliver number)) name) here
-                  ∙ (at_me (Deliver number) (node_table n.node (Got mail)).0 became name ∙ (o.others name (λ same. ne (same, here)) ∙ (sym (replica_is words scenario rows name me (Node n.node) number_is n.is) ∙ ap (replica_at scenario rows name) (sym here))))
+                  ∙ (at_me (Deliver number) (node_table n.node (Got mail)).0 became name ∙ (o.others name (λ same. ne (same, here)) ∙ (sym (replica_is words scenario rows name me (Node n.node) number_is n.fact) ∙ ap (replica_at scenario rows name) (sym here))))
             ];
           })
 
       delivered : RowLeaves words scenario set.frames rows (later (Deliver number))
-      delivered = by_turn (turns_of.turn words scenario stage set is rows t j room me one most born number fine)
+      delivered = by_turn (turns_of.turn words scenario stage set fact rows t j room me one most born number fine)
 
     went : RowLeaves words scenario set.frames rows (later Go)
     went =
-        let acted_go : acted player_table (value player_table (nseat me) rows) (input_of {O = OrderLine} (mails rows) Go) ≡ (Node n.node, []) = ap (λ p. acted player_table p (Some GoInput)) n.is in
-        inl (all_stay Go (turns_of.value_own words scenario stage set is rows t j (nseat me) Go ∙ ap (λ (p : Player × List Mail). p.0) acted_go))
+        let acted_go : acted player_table (value player_table (nseat me) rows) (input_of {O = OrderLine} (mails rows) Go) ≡ (Node n.node, []) = ap (λ p. acted player_table p (Some GoInput)) n.fact in
+        inl (all_stay Go (turns_of.value_own words scenario stage set fact rows t j (nseat me) Go ∙ ap (λ (p : Player × List Mail). p.0) acted_go))
 
     node_leaves : (event : Event OrderLine) → IsInOrder (system_of as_nodes words scenario) rows me event → RowLeaves words scenario set.frames rows (later event)
     node_leaves (Deliver number) fine = delivered number fine

@@ -15,7 +15,7 @@ requests_leave_resting all_bounded frames_law rise_law ask_law cuts_law round_la
     let s = players words (births as_nodes scenario) in
     let whole = quiet ++ after in
     let left =
-    leave_law words scenario first others quiet after (frames_after scenario quiet) (chart_at far sent s quiet).ways q.calm.valid groups rests.is
+    leave_law words scenario first others quiet after (frames_after scenario quiet) (chart_at far sent s quiet).ways q.calm.valid groups rests.fact
     (quiet_of.frames all_bounded frames_law rise_law ask_law cuts_law round_law linked_law words scenario first others far sent journal quiet q.calm groups rests known)
     (quiet_of.rise all_bounded frames_law rise_law ask_law cuts_law round_law linked_law words scenario first others far sent journal quiet q.calm groups rests known)
     (quiet_of.linked all_bounded frames_law rise_law ask_law cuts_law round_law linked_law words scenario first others far sent journal quiet q.calm groups rests known)

@@ -20,7 +20,7 @@ module _ (p : Group) (tx : Draw) (offer : Offer) (lock : p.core.lock ≡ Promise
     pub left : Group
     pub by : command ≡ Finish tx outcome
     pub takes : participant_after outcome p offer ≡ Some left
-    pub is : after ≡ party_freed left tx
+    pub fact : after ≡ party_freed left tx
 
   abbrev pub StaysOrEnds : Command → Group → Type 0
   StaysOrEnds command after = (after.core.lock ≡ Promised tx offer) ⊎ EndsSo command after
@@ -53,7 +53,7 @@ module _ (p : Group) (tx : Draw) (offer : Offer) (lock : p.core.lock ≡ Promise
   module _ (t : Draw) (o : Outcome) where
     settled_ends : t ≡ tx → (left : Option Group) → participant_after o p offer ≡ left → StaysOrEnds (Finish t o) (settled_in left p t o).0
     settled_ends same None takes = as_was (Finish t o) p refl
-    settled_ends same (Some left) takes = inr (record { outcome = o; left = left; by = ap (λ d. Finish d o) same; takes = takes; is = ap (party_freed left) same })
+    settled_ends same (Some left) takes = inr (record { outcome = o; left = left; by = ap (λ d. Finish d o) same; takes = takes; fact = ap (party_freed left) same })
 
     finish_ends : StaysOrEnds (Finish t o) (applied p (Finish t o)).0
     finish_ends =

@@ -8,8 +8,8 @@ use Rattle.sc_meaning.specs.sound.Definitions.{decided_log}
 use Rattle.sc_live_steps.specs.following.Definitions.{members_at}
 use Rattle.sc_live_journals.specs.logs.Definitions.{logged_sets}
 use Rattle.sc_live_answers.specs.Definitions.{state_at, LeaversFree}
-use Rattle.sc_live_answers.proofs.GroupsProofs.MemberWalks.{next_states}
-use Rattle.sc_live_answers.proofs.GroupsProofs.GroupEnds.{sets_are}
+use Rattle.sc_live_answers.proofs.LedGroupsProofs.MemberWalks.{next_states}
+use Rattle.sc_live_answers.proofs.LedGroupsProofs.GroupEnds.{sets_are}
 use Rattle.sc_law_walks.proofs.Lemmas.{MachineWalk, machine_step, unrefused_free}
 
 -- no member is lost, or the group is free

@@ -22,7 +22,7 @@ use Rattle.sc_live_journals.specs.rows.Definitions.{replicas_of as view_replicas
 use Rattle.sc_live_journals.specs.charts.Definitions.{replicas_of, all_replicas, names_at, went_in, LedStandOnce}
 use Rattle.sc_live_journals.proofs.ChartsProofs.Lemmas.{led_by}
 use Rattle.sc_live_answers.specs.Definitions.{LawfulReplicasAreNamedOnce, GoneAgree, IsQuietPrefix, IsFoundPrefix, PrefixesAreFound}
-use Rattle.sc_live_answers.proofs.QuietProofs.QuietPrefixes.{IsClient, replayed_client, client_among, seat_in, node_among}
+use Rattle.sc_live_answers.proofs.QuietProofs.QuietPrefixes.{IsClient, replay_client, client_among, seat_in, node_among}
 use Rattle.sc_live_answers.proofs.LinesProofs.Frames.{found_once}
 use Rattle.sc_live_answers.proofs.ReplicasProofs.AllReplicas.{from_seats, into_seats}
 
@@ -37,7 +37,7 @@ once_among group (name ∷ names) (inr more) = inr (once_among group names more.
 pub went_none : (group : Draw) (rs : List ReplicaState) → ((r : ReplicaState) → Among r rs → name_of r ≡ group → r.group.core.gone ≡ None) → went_in group rs ≡ None
 went_none group [] none = refl
 went_none group (r ∷ rs) none = elim (cases_Bool (same_draw (name_of r) group)) [
-  | inl is ↦ ap (λ b. cond b r.group.core.gone (went_in group rs)) (ap (λ b. b && is_some r.group.core.gone) is ∙ ap is_some (none r (inl refl) (draw_is (name_of r) group is))) ∙ went_none group rs (λ x a. none x (inr a))
+  | inl fact ↦ ap (λ b. cond b r.group.core.gone (went_in group rs)) (ap (λ b. b && is_some r.group.core.gone) fact ∙ ap is_some (none r (inl refl) (draw_is (name_of r) group fact))) ∙ went_none group rs (λ x a. none x (inr a))
   | inr other ↦ ap (λ b. cond b r.group.core.gone (went_in group rs)) (ap (λ b. b && is_some r.group.core.gone) other) ∙ went_none group rs (λ x a. none x (inr a))
 ]
 
@@ -86,8 +86,8 @@ module _ (bounded : ValidScenariosAreBounded) (named : LawfulReplicasAreNamedOnc
   -- ---- seat by seat
 
   no_client : (player : Player) (r : ReplicaState) → IsClient player → Among r (replicas_of player) → ⊥
-  no_client (Node node) r is a = is
-  no_client (Client client) r is a = a
+  no_client (Node node) r fact a = fact
+  no_client (Client client) r fact a = a
 
   -- each replica is one that is seen of its group
   all_seen : (r : ReplicaState) → Among r all → (me : ℕ) × (at (name_of r) me ≡ Some r)
@@ -101,21 +101,21 @@ module _ (bounded : ValidScenariosAreBounded) (named : LawfulReplicasAreNamedOnc
             let low = within.0 in
             let high = within.1 in
             (m.0, found.views (name_of r) m.0 ∙ of_node m.0 (omega (arith, own, low)) (omega (arith, own, high)) (value player_table (seat_of m.0) prefix) refl (subst (λ s. Among r (replicas_of (value player_table s prefix))) (sym m.2) f.2)))
-        | inr client ↦ absurd (no_client (value player_table f.0 prefix) r (replayed_client f.0.who prefix f.0.actor [] (client_among scenario.groups scenario.clients f.0 client)) f.2)
+        | inr client ↦ absurd (no_client (value player_table f.0 prefix) r (replay_client f.0.who f.0.actor [] prefix (client_among scenario.groups scenario.clients f.0 client)) f.2)
       ]
     where
       of_node : (me : ℕ) → 1 ≤ me → me ≤ scenario.nodes → (p : Player) → value player_table (seat_of me) prefix ≡ p → Among r (replicas_of p) → view_at seats prefix (name_of r) me ≡ Some r
-      of_node me low high (Client client) is a = absurd a
-      of_node me low high (Node state) is a =
+      of_node me low high (Client client) fact a = absurd a
+      of_node me low high (Node state) fact a =
           ap (replica_in (name_of r) prefix) (seat_in scenario.groups scenario.policy scenario.nodes 1 me (client_seats scenario.groups scenario.clients) low (omega (arith, high)))
-          ∙ (ap (λ (p : Player). replica_of (name_of r) (view_replicas p)) is ∙ found_once state.replicas r (named words scenario prefix me state q.calm.valid found.lawful low high is) a)
+          ∙ (ap (λ (p : Player). replica_of (name_of r) (view_replicas p)) fact ∙ found_once state.replicas r (named words scenario prefix me state q.calm.valid found.lawful low high fact) a)
 
   -- each replica that is seen is among all
   record IsAmong (name : Draw) (r : ReplicaState) : Type 0 where
     seat : Seat Player
     seated : Among seat seats
     state : NodeState
-    is : value player_table seat prefix ≡ Node state
+    fact : value player_table seat prefix ≡ Node state
     here : replica_of name state.replicas ≡ Some r
 
   seen_all : (name : Draw) (me : ℕ) (r : ReplicaState) → at name me ≡ Some r → IsAmong name r
@@ -128,8 +128,8 @@ module _ (bounded : ValidScenariosAreBounded) (named : LawfulReplicasAreNamedOnc
       (Among-left (seat_of me) (map seat_of (numbers_from 1 scenario.nodes)) (client_seats scenario.groups scenario.clients) (map_among seat_of (numbers_from 1 scenario.nodes) me (to_numbers 1 scenario.nodes me low (omega (arith, high)))))
     where
       by : (p : Player) → value player_table (seat_of me) prefix ≡ p → replica_of name (view_replicas p) ≡ Some r → Among (seat_of me) seats → IsAmong name r
-      by (Client client) is w a = absurd (none-some r w)
-      by (Node state) is w a = record { seat = seat_of me; seated = a; state = state; is = is; here = w }
+      by (Client client) fact w a = absurd (none-some r w)
+      by (Node state) fact w a = record { seat = seat_of me; seated = a; state = state; fact = fact; here = w }
 
   -- ---- who went
 
@@ -143,7 +143,7 @@ module _ (bounded : ValidScenariosAreBounded) (named : LawfulReplicasAreNamedOnc
   seen_gone agree name node r into e gone =
       let s = seen_all name node r e in
       let f = find_found (λ (x : ReplicaState). same_draw (name_of x) name) s.state.replicas r s.here in
-      let w = went_some name into all r (into_seats prefix seats s.seat r s.seated (subst (λ (p : Player). Among r (replicas_of p)) (sym s.is) f.0)) (draw_is (name_of r) name f.1) gone in
+      let w = went_some name into all r (into_seats prefix seats s.seat r s.seated (subst (λ (p : Player). Among r (replicas_of p)) (sym s.fact) f.0)) (draw_is (name_of r) name f.1) gone in
       let g = gone_seen name w.0 w.1 in
       w.1 ∙ ap Some (agree name g.0 node g.1 r w.0 into g.2 e g.3 gone)
 
@@ -155,5 +155,5 @@ module _ (bounded : ValidScenariosAreBounded) (named : LawfulReplicasAreNamedOnc
   gone_named name into e =
       let g = gone_seen name into e in
       let s = seen_all name g.0 g.1 g.2 in
-      let led : is_led seats prefix name ≡ true = led_by seats prefix name s.seat s.seated (ap (leads name) s.is ∙ (ap is_leading s.here ∙ or_right g.1.running (is_some g.1.group.core.gone) (ap is_some g.3))) in
+      let led : is_led seats prefix name ≡ true = led_by seats prefix name s.seat s.seated (ap (leads name) s.fact ∙ (ap is_leading s.here ∙ or_right g.1.running (is_some g.1.group.core.gone) (ap is_some g.3))) in
       once_among name (names_at seats prefix) (led_once seats prefix (length prefix) name (omega arith) (subst (λ rows. is_led seats rows name ≡ true) (sym (take_all (length prefix) prefix (omega arith))) led))

@@ -33,14 +33,14 @@ names_more scenario rows (row ∷ more) =
 
 -- a group that is over stays so along a log
 log_over : EntriesLeaveOver → (into : Route) (log : List Command) (group : Group) → IsOver into group.core → IsOver into (state_after group log).core
-log_over over into [] group is = is
-log_over over into (c ∷ log) group is = log_over over into log (applied group c).0 (over into group c is)
+log_over over into [] group fact = fact
+log_over over into (c ∷ log) group fact = log_over over into log (applied group c).0 (over into group c fact)
 
 later_over : EntriesLeaveOver → (into : Route) (log : List Command) (group : Group) (some more : ℕ) → some ≤ more → IsOver into (state_after group (take some log)).core → IsOver into (state_after group (take more log)).core
-later_over over into log group zero more low is = log_over over into (take more log) group is
-later_over over into log group (suc some) zero low is = absurd (omega (arith, low))
-later_over over into [] group (suc some) (suc more) low is = is
-later_over over into (c ∷ log) group (suc some) (suc more) low is = later_over over into log (applied group c).0 some more (omega (arith, low)) is
+later_over over into log group zero more low fact = log_over over into (take more log) group fact
+later_over over into log group (suc some) zero low fact = absurd (omega (arith, low))
+later_over over into [] group (suc some) (suc more) low fact = fact
+later_over over into (c ∷ log) group (suc some) (suc more) low fact = later_over over into log (applied group c).0 some more (omega (arith, low)) fact
 
 module _ (bounded : ValidScenariosAreBounded) (named : LawfulReplicasAreNamedOnce) (led_once : LedStandOnce) (finds : PrefixesAreFound) (executed : QuietLogsAreExecuted) (agrees : RoutesInPrefixesAgree) (last : ReplicasLast) (run : ReplicasRunLogs) (see_replicas : ViewsAreReplicas) (over : EntriesLeaveOver) (turns : TurnsGoOn)
     (words : ℕ → ℕ → ℕ × ℕ) (scenario : Scenario) (journal quiet more : Rows) (group : Draw) (q : IsQuietPrefix words scenario journal quiet) (free : AreAllFree scenario quiet) (l : IsQuietPrefix words scenario journal (quiet ++ more)) (alone : OnlyOneEnds scenario quiet (quiet ++ more) group) where
@@ -48,7 +48,7 @@ module _ (bounded : ValidScenariosAreBounded) (named : LawfulReplicasAreNamedOnc
   runs : (prefix : Rows) (f : IsQuietPrefix words scenario journal prefix) (base : Base) → Among base (groups_at as_nodes scenario.groups journal) → (node : ℕ) (r : ReplicaState) → view_at (births as_nodes scenario) prefix base.core.id node ≡ Some r → r.group ≡ state_at as_nodes base journal (next r)
   runs prefix f base a node r e =
       let g : IsGroupOf as_nodes words scenario journal base = record { open_slots = refl; valid = f.calm.valid; lawful = f.calm.lawful; stands = a } in
-      let v = see_replicas as_nodes words scenario journal base g prefix f.begins.more f.begins.is node r e in
+      let v = see_replicas as_nodes words scenario journal base g prefix f.begins.more f.begins.fact node r e in
       (run as_nodes words scenario journal base g prefix v.0 v.1 r v.2).1
 
   -- one that was gone is gone still, by the same route
@@ -65,11 +65,11 @@ module _ (bounded : ValidScenariosAreBounded) (named : LawfulReplicasAreNamedOnc
       let a = f.later base of.among in
       let up = last words scenario quiet more base.core.id node r (prefix_timely words scenario journal (quiet ++ more) l) own in
       let was = runs quiet q base a node r own in
-      let is = runs (quiet ++ more) l base a node up.0 up.1 in
+      let fact = runs (quiet ++ more) l base a node up.0 up.1 in
       let grown = up.2.1 in
       let stays = later_over over into (decided_log as_nodes base journal) (group_of base) (next r - 1) (next up.0 - 1) (omega (arith, grown)) (ap (λ (g : Group). g.core.gone) (sym was) ∙ gone, ap (λ (g : Group). g.core.lock) (sym was) ∙ lock) in
       let there : view_at (births as_nodes scenario) (quiet ++ more) name node ≡ Some up.0 = ap (λ n. view_at (births as_nodes scenario) (quiet ++ more) n node) (sym of.named) ∙ up.1 in
-      (up.0, shown executed finds words scenario journal (quiet ++ more) l name node up.0 there, ap (λ (g : Group). g.core.gone) is ∙ stays.0)
+      (up.0, shown executed finds words scenario journal (quiet ++ more) l name node up.0 there, ap (λ (g : Group). g.core.gone) fact ∙ stays.0)
 
   old_agree : GoneAgree (replicas_after scenario quiet)
   old_agree = agrees words scenario journal quiet q
@@ -82,8 +82,8 @@ module _ (bounded : ValidScenariosAreBounded) (named : LawfulReplicasAreNamedOnc
 
   -- none of its replicas was gone, where it was not
   by_gone : went_in group (all_replicas (births as_nodes scenario) quiet) ≡ None → (who : ℕ) (s : ReplicaState) → replicas_after scenario quiet group who ≡ Some s → (o : Option Route) → s.group.core.gone ≡ o → s.group.core.gone ≡ None
-  by_gone new who s there None is = is
-  by_gone new who s there (Some x) is = absurd (none-some x (sym new ∙ seen_gone bounded named led_once finds words scenario journal quiet q old_agree group who s x there is))
+  by_gone new who s there None fact = fact
+  by_gone new who s there (Some x) fact = absurd (none-some x (sym new ∙ seen_gone bounded named led_once finds words scenario journal quiet q old_agree group who s x there fact))
 
   once : EndsOnce (names_at (births as_nodes scenario) quiet) (names_at (births as_nodes scenario) (quiet ++ more)) (all_replicas (births as_nodes scenario) quiet) (all_replicas (births as_nodes scenario) (quiet ++ more)) group
   once = record {

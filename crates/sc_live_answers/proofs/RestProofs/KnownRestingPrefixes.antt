@@ -9,19 +9,19 @@ use Rattle.sc_scenario.specs.scenario.Definitions.{ValidScenariosAreBounded}
 use Rattle.sc_meaning.specs.sound.Definitions.{Player, player_table, births, node_seat, as_nodes}
 use Rattle.sc_law_groups.specs.whole.Definitions.{ValidJournalsAreSound, ValidEntriesAreLogs}
 use Rattle.sc_live_steps.specs.calm.Definitions.{MayPump, Rows}
-use Rattle.sc_live_steps.proofs.CalmProofs.Lemmas.{unbound_new}
+use Rattle.sc_live_steps.proofs.CalmStepsProofs.Lemmas.{unbound_new}
 use Rattle.sc_live_journals.specs.rows.Definitions.{view_at}
 use Rattle.sc_live_journals.proofs.GroupsProofs.Lemmas.{each_among}
 use Rattle.sc_live_journals.specs.logs.Definitions.{logged_sets}
 use Rattle.sc_live_plain.specs.Definitions.{replicas_after, replicas_of}
 use Rattle.sc_live_answers.specs.Definitions.{over_at, slot_leaders_at, SentReplicas, LawfulReplicasAreNamedOnce, RoutesInPrefixesAgree, IsFoundPrefix, PrefixesAreFound, NoMailForStrangers, IsCalmJournal, IsPrefixOf, AreSent, RestingPrefixesAreKnown, SentNodesMayPump}
-use Rattle.sc_live_answers.proofs.MailProofs.FollowerRows.{nines_at}
+use Rattle.sc_live_answers.proofs.LedMailProofs.FollowerRows.{nines_at}
 use Rattle.sc_live_answers.proofs.LinesProofs.Setting.{prefix_lawful}
 use Rattle.sc_live_answers.proofs.LinesProofs.Frames.{found_once, nodes_numbered}
 
 pub resting_known : PrefixesAreFound → RoutesInPrefixesAgree → NoMailForStrangers → ValidJournalsAreSound → ValidEntriesAreLogs → RestingPrefixesAreKnown
 resting_known found_law agree_law no_law sound_law logs_law words scenario first journal quiet far calm rests room = record {
-  one = (sound_law as_nodes refl words scenario calm.valid journal calm.lawful quiet rests.prefix.more rests.prefix.is).whole;
+  one = (sound_law as_nodes refl words scenario calm.valid journal calm.lawful quiet rests.prefix.more rests.prefix.fact).whole;
   logs = logs_law as_nodes refl words scenario calm.valid quiet (prefix_lawful words scenario journal quiet calm.lawful rests.prefix);
   agree = agree_law words scenario journal quiet (record { calm = calm; begins = rests.prefix; quiet = rests.calm; sent = rests.sent });
   homes = λ rows prefix. (found_law words scenario journal rows calm prefix).homes;
@@ -30,7 +30,7 @@ resting_known found_law agree_law no_law sound_law logs_law words scenario first
 }
 
 module _ (all_bounded : ValidScenariosAreBounded) (once_law : LawfulReplicasAreNamedOnce) (found_law : PrefixesAreFound) (plain_law : SentReplicas) (words : ℕ → ℕ → ℕ × ℕ) (scenario : Scenario) (journal rows : Rows) (calm : IsCalmJournal words scenario journal) (prefix : IsPrefixOf journal rows)
-    (sent : AreSent words scenario journal rows) (me : ℕ) (node : NodeState) (one : 1 ≤ me) (most : me ≤ scenario.nodes) (is : value player_table (node_seat as_nodes scenario.groups scenario.policy me) rows ≡ Node node) where
+    (sent : AreSent words scenario journal rows) (me : ℕ) (node : NodeState) (one : 1 ≤ me) (most : me ≤ scenario.nodes) (fact : value player_table (node_seat as_nodes scenario.groups scenario.policy me) rows ≡ Node node) where
   found : IsFoundPrefix words scenario journal rows
   found = found_law words scenario journal rows calm prefix
 
@@ -38,7 +38,7 @@ module _ (all_bounded : ValidScenariosAreBounded) (once_law : LawfulReplicasAreN
   may_pump r a =
       let at : replicas_after scenario rows (name_of r) me ≡ Some r =
       ap (λ b. cond b (replica_of (name_of r) (replicas_of (value player_table (node_seat as_nodes scenario.groups scenario.policy me) rows))) None) (nodes_numbered all_bounded scenario calm.valid me one most)
-      ∙ (ap (λ (player : Player). replica_of (name_of r) (replicas_of player)) is ∙ found_once node.replicas r (once_law words scenario rows me node calm.valid found.lawful one most is) a) in
+      ∙ (ap (λ (player : Player). replica_of (name_of r) (replicas_of player)) fact ∙ found_once node.replicas r (once_law words scenario rows me node calm.valid found.lawful one most fact) a) in
       let of = found.replicas (name_of r) me r at in
       let view : view_at (births as_nodes scenario) rows of.base.core.id me ≡ Some r = ap (λ n. view_at (births as_nodes scenario) rows n me) of.named ∙ (sym (found.views (name_of r) me) ∙ at) in
       let t = sent of.base (found.later of.base of.among) in

@@ -12,7 +12,7 @@ use Rattle.sc_live_journals.specs.logs.Definitions.{IsGroupOf, logged_sets}
 use Rattle.sc_live_steps.specs.following.Definitions.{members_at}
 use Rattle.sc_live_journals.proofs.MailProofs.Lemmas.{journals_idle}
 use Rattle.sc_live_steps.specs.orders.Definitions.{work_by, works, works_flying, works_in, works_ready, Answers, Bound, Ends, Here, Records, Work, is_watch, Asks, Closes, ClosesBoth, Deal, Ordered, Party, Recorded, Replied, SentOn, Stage, Still, Weighs, closing, leads_of, parties_of}
-use Rattle.sc_live_steps.proofs.OrdersProofs.Lemmas.{among-left, among-right, found, tagged, tokens, closing-work, no-work, work_of}
+use Rattle.sc_live_steps.proofs.OrderStepsProofs.Lemmas.{among-left, among-right, found, tagged, tokens, closing-work, no-work, work_of}
 use Rattle.sc_live_journals.specs.rows.Definitions.{view_at}
 use Rattle.sc_live_journals.specs.scenes.Definitions.{IsThere, scene_at}
 use Rattle.sc_live_journals.proofs.ScenesProofs.Lemmas.{tell}
@@ -70,13 +70,13 @@ work_in (Replied deal agreed host) t a = absurd (no-work deal.tx deal.turn t a)
 work_in (Recorded deal agreed host) t (inl e) = OfVote deal agreed host refl (ap (λ (x : Token). x.0) e) (ap (λ (x : Token). x.1) e)
 work_in (Recorded deal agreed host) t (inr a) = absurd (no-work deal.tx deal.turn t a)
 work_in (Closes tx party) t a = elim (closing-work tx party.leg party.host party.group [] t a) [
-  | inl is ↦ OfOutcome tx (ap (λ (x : Token). x.1) is.1) (ends_one tx party t.0 (ap (λ (x : Token). x.0) is.1))
+  | inl fact ↦ OfOutcome tx (ap (λ (x : Token). x.1) fact.1) (ends_one tx party t.0 (ap (λ (x : Token). x.0) fact.1))
   | inr none ↦ absurd none
 ]
 work_in (ClosesBoth tx one two) t a = elim (closing-work tx one.leg one.host one.group (tagged two.group (closing tx two.leg two.host).work ++ []) t a) [
-  | inl is ↦ OfOutcome tx (ap (λ (x : Token). x.1) is.1) (ends_first tx one two t.0 (ap (λ (x : Token). x.0) is.1))
+  | inl fact ↦ OfOutcome tx (ap (λ (x : Token). x.1) fact.1) (ends_first tx one two t.0 (ap (λ (x : Token). x.0) fact.1))
   | inr b ↦ elim (closing-work tx two.leg two.host two.group [] t b) [
-    | inl is ↦ OfOutcome tx (ap (λ (x : Token). x.1) is.1) (ends_second tx one two t.0 (ap (λ (x : Token). x.0) is.1))
+    | inl fact ↦ OfOutcome tx (ap (λ (x : Token). x.1) fact.1) (ends_second tx one two t.0 (ap (λ (x : Token). x.0) fact.1))
     | inr none ↦ absurd none
   ]
 ]
@@ -87,7 +87,7 @@ party_there P (party ∷ named) t e a = by (λ b. party_there P named t e.1 b) p
   where
     by : (Among t (tokens work_of named) → P t.0) → (works_ : List Work) → Among t (tagged party.0 works_ ++ tokens work_of named) → P t.0
     by rest [] b = rest b
-    by rest (work ∷ more) (inl is) = subst (λ (x : Token). P x.0) is e.0
+    by rest (work ∷ more) (inl fact) = subst (λ (x : Token). P x.0) fact e.0
     by rest (work ∷ more) (inr b) = by rest more b
 
 -- ---- the leader
@@ -101,16 +101,16 @@ not_some (Some into) e = absurd (true≢false e)
 
 module _ (tells : ReplicasAreRecorded) (words : ℕ → ℕ → ℕ × ℕ) (scenario : Scenario) (first : Base) (journal quiet rows : Rows) (name : Draw) (node : ℕ) (r : ReplicaState) (stage : Stage) (l : LeadsSince words scenario first journal quiet rows name node r stage) where
   pub timely : AreInTime (players words (births as_nodes scenario)) rows
-  timely = prefix_in_time words (births as_nodes scenario) rows l.prefix.more (subst (AreInTime (players words (births as_nodes scenario))) l.prefix.is l.calm.timely)
+  timely = prefix_in_time words (births as_nodes scenario) rows l.prefix.more (subst (AreInTime (players words (births as_nodes scenario))) l.prefix.fact l.calm.timely)
 
   pub me_is : r.me ≡ node
   me_is = (journals_idle words scenario rows name node r timely l.leads.is_there).0
 
   -- its work is one of the stage, of a group that was there in the quiet
-  module _ (flight : Flight Command) (among : Among flight r.leader.flights) (work : Work) (is : work_by flight.value ≡ Some work) where
+  module _ (flight : Flight Command) (among : Among flight r.leader.flights) (work : Work) (fact : work_by flight.value ≡ Some work) where
     token : Among (name, work) (tokens work_of (parties_of stage))
     token =
-        found work_of (scene_at (births as_nodes scenario) rows).at name work (subst (Among work) (sym (tell.led (births as_nodes scenario) rows name node r l.leads).1.1) (is_work_of r flight work among is)) (parties_of stage) l.untouched.stands.parties refl
+        found work_of (scene_at (births as_nodes scenario) rows).at name work (subst (Among work) (sym (tell.led (births as_nodes scenario) rows name node r l.leads).1.1) (is_work_of r flight work among fact)) (parties_of stage) l.untouched.stands.parties refl
 
     pub at_stage : IsWorkAt stage name work
     at_stage = work_in stage (name, work) token
@@ -121,7 +121,7 @@ module _ (tells : ReplicasAreRecorded) (words : ℕ → ℕ → ℕ × ℕ) (sce
   -- where its group was there, the group stands, and it is a member
   module _ (there : IsThere (births as_nodes scenario) quiet name) where
     base : (base : Base) × IsGroupOf as_nodes words scenario journal base × (base.core.id ≡ name)
-    base = base_of tells words scenario first journal quiet rows l.prefix.more l.prefix.is l.calm l.rests l.seen name there
+    base = base_of tells words scenario first journal quiet rows l.prefix.more l.prefix.fact l.calm l.rests l.seen name there
 
     pub stands_in : (r.group.core.gone ≡ None) × (is_member (members r) r.me ≡ true)
     stands_in =

@@ -90,7 +90,7 @@ none_stored key value e = none-some value (sym (get-empty (slice_cmp nat_cmp) ke
 module _ (bounded : ValidScenariosAreBounded) (begin : ValidScenariosBeginWell) (allowed : TakenOrdersAreAllowed) (wishes : TakenWishesAreAllowed) (positions : WishesAreAtPositions) (free_names : OtherNamesAreFree) (sounds : ValidJournalsAreSound) (entries : ValidEntriesAreLogs) (begun : IssuedAreBegun)
     (haves : FreeGroupsHaveArcs) (executed : QuietLogsAreExecuted) (finds : PrefixesAreFound) (words : ℕ → ℕ → ℕ × ℕ) (scenario : Scenario) (journal prefix : Rows) (q : IsQuietPrefix words scenario journal prefix) (there : AreAllThere scenario prefix) (free : AreAllFree scenario prefix) where
   sound : IsSound as_nodes scenario prefix q.begins.more
-  sound = sounds as_nodes refl words scenario q.calm.valid journal q.calm.lawful prefix q.begins.more q.begins.is
+  sound = sounds as_nodes refl words scenario q.calm.valid journal q.calm.lawful prefix q.begins.more q.begins.fact
 
   abbrev history : List Entry
   history = history_at as_nodes scenario.groups prefix

@@ -13,7 +13,7 @@ use Rattle.sc_words.proofs.PaxosProofs.Lemmas.{Among-filter, Each-among, Each-ap
 use Rattle.sc_node_table.specs.Definitions.{listed}
 use Rattle.sc_meaning.specs.sound.Definitions.{Player}
 use Rattle.sc_live_steps.specs.calm.Definitions.{players, Rows}
-use Rattle.sc_live_steps.specs.following.Definitions.{Mark, Asks, mark_of, marks_of, IsKnown, Course, Sets, Tellers}
+use Rattle.sc_live_steps.specs.following.Definitions.{Mark, Asks, mark_of, marks_of, IsKnown, Course, Sets, SlotLeaders}
 use Rattle.sc_live_journals.specs.groups.Definitions.{IsGroupRow, RowPasses, RowRests, RowTakes, RowMakes, RowLeads, RowElects, Ends, IsWellLed, RowsKeepTaught, AreWellBorn, HasOneLog, IsSentSo, EventsGoOn}
 use Rattle.sc_live_answers.specs.Definitions.{AsksBelow, AreAskedBelow, GroupsAreAskedThrough}
 use Rattle.sc_live_answers.specs.OfferedSlots.{IsAskedOn}
@@ -27,15 +27,15 @@ mark_among name (x ∷ sent) mail mark (inr a) e = Among-right mark (listed (mar
 
 -- what asks below a slot does below a later one
 below_later : (name : Draw) (low high : ℕ) → low ≤ high → (body : MailBody) → AsksBelow name low body → AsksBelow name high body
-below_later name low high up (Accept group ballot slot command) k = λ is. (let lt = k is in omega (arith, lt, up))
+below_later name low high up (Accept group ballot slot command) k = λ fact. (let lt = k fact in omega (arith, lt, up))
 below_later name low high up _ k = tt
 
 -- what is known of a mail's mark says so
 known_below : (name : Draw) (course : Course) (from : ℕ) (body : MailBody) → ((mark : Mark) → mark_of name from body ≡ Some mark → IsKnown course mark) → AsksBelow name course.bound body
-known_below name course from (Accept group ballot slot command) k = λ is. k (Asks ballot slot) (cond-true (same_draw group name) (Some (Asks ballot slot)) None (same_name group name is))
+known_below name course from (Accept group ballot slot command) k = λ fact. k (Asks ballot slot) (cond-true (same_draw group name) (Some (Asks ballot slot)) None (same_name group name fact))
 known_below name course from _ k = tt
 
-module _ (go_on : EventsGoOn) (keep : RowsKeepTaught) (at : Sets) (over : Ends) (by : Tellers) (words : ℕ → ℕ → ℕ × ℕ) (births : List (Seat Player)) (journal : Rows) (base : Base) (wb : AreWellBorn births) (one : HasOneLog at over by births journal base) (so : IsSentSo births journal base) where
+module _ (go_on : EventsGoOn) (keep : RowsKeepTaught) (at : Sets) (over : Ends) (by : SlotLeaders) (words : ℕ → ℕ → ℕ × ℕ) (births : List (Seat Player)) (journal : Rows) (base : Base) (wb : AreWellBorn births) (one : HasOneLog at over by births journal base) (so : IsSentSo births journal base) where
   -- the bound never falls
   rises : (rows : Rows) (seat : Seat Player) (event : Event OrderLine) (course later : Course) → IsGroupRow at over by births rows seat event base course later → course.bound ≤ later.bound
   rises rows seat event course later (RowPasses same leaves) = (let e = ap (λ (c : Course). c.bound) same in omega (arith, e))
@@ -59,11 +59,11 @@ module _ (go_on : EventsGoOn) (keep : RowsKeepTaught) (at : Sets) (over : Ends) 
   Begin rows = (more : Rows) → journal ≡ rows ++ more → IsAskedOn at over by words births rows base
 
   after_row : (rows : Rows) (row : Row Mail OrderLine) → AreInTime (players words births) (rows ++ row ∷ []) → Begin rows → Begin (rows ++ row ∷ [])
-  after_row rows row timely was more is =
+  after_row rows row timely was more fact =
       let calm = (last_in_time (players words births) rows row timely).0 in
-      let old = was (row ∷ more) (is ∙ append_assoc rows (row ∷ []) more) in
+      let old = was (row ∷ more) (fact ∙ append_assoc rows (row ∷ []) more) in
       let timely_too = subst (λ (r : Row Mail OrderLine). AreInTime (players words births) (rows ++ r ∷ [])) calm.row_is timely in
-      let step = go_on at over by words births journal base wb one so rows calm.seat calm.event old.course (record { more = more; is = is ∙ ap (λ (r : Row Mail OrderLine). (rows ++ r ∷ []) ++ more) calm.row_is }) calm.born calm.calm timely_too old.led in
+      let step = go_on at over by words births journal base wb one so rows calm.seat calm.event old.course (record { more = more; fact = fact ∙ ap (λ (r : Row Mail OrderLine). (rows ++ r ∷ []) ++ more) calm.row_is }) calm.born calm.calm timely_too old.led in
       let up = rises rows calm.seat calm.event old.course step.later step.row in
       subst (λ (r : Row Mail OrderLine). IsAskedOn at over by words births (rows ++ r ∷ []) base) (sym calm.row_is)
       (record {

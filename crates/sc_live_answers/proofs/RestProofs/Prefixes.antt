@@ -24,7 +24,7 @@ journal_group words scenario journal calm base among = record { open_slots = ref
 -- no replica of a group of a calm journal uses up its slots and rounds
 pub journal_few : SlotsAreLeft → (words : ℕ → ℕ → ℕ × ℕ) (scenario : Scenario) (journal : Rows) → IsCalmJournal words scenario journal → (base : Base) → AreFew as_nodes scenario journal base
 journal_few few_law words scenario journal calm base rows more who r e view =
-    let prefix : IsPrefixOf journal rows = record { more = more; is = e } in
+    let prefix : IsPrefixOf journal rows = record { more = more; fact = e } in
     let left = few_law words scenario rows base.core.id who r (prefix_timely words scenario journal rows calm prefix) (prefix_short words scenario journal rows calm prefix) view in
     let low = left.0 in
     (omega (arith, low), left.1)

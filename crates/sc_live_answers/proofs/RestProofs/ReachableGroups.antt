@@ -1,15 +1,15 @@
 -- The groups of a quiet prefix are known, and links and routes name nodes that have replicas.
-use Rattle.std.proofs.Common.{◌≡◌, ℕ, ◌+◌, ◌≤◌, true, length, take, Option, Some, None, refl, sym, ◌∙◌, ap, subst, arith}
+use Rattle.std.proofs.Common.{◌≡◌, ℕ, ◌+◌, ◌≤◌, length, Option, Some, None, refl, sym, ◌∙◌, ap, subst, arith}
 use Rattle.std.proofs.lemmas.Option.{none-some}
-use Rattle.sc_base.specs.Definitions.{Among, is_member}
+use Rattle.sc_base.specs.Definitions.{Among}
 use Rattle.sc_node_table.specs.Values.{Draw, Base, Route}
-use Rattle.sc_group_table.specs.machine.Definitions.{Group, group_of, state_after}
+use Rattle.sc_group_table.specs.machine.Definitions.{Group}
 use Rattle.sc_scenario.specs.declared.scenario.scenarios.Scenario.{Scenario}
 use Rattle.sc_node_table.specs.Definitions.{ReplicaState, next}
 use Rattle.sc_meaning.specs.sound.Definitions.{groups_at, decided_log, decided_state, as_nodes}
 use Rattle.sc_live_steps.specs.calm.Definitions.{HasReplica, IsNewest, StandsQuiet}
 use Rattle.sc_law_entries.specs.logs.Definitions.{Rows}
-use Rattle.sc_live_steps.specs.following.Definitions.{Course, Tellers}
+use Rattle.sc_live_steps.specs.following.Definitions.{Course, SlotLeaders}
 use Rattle.sc_live_answers.specs.Definitions.{state_at, replicas_at, IsQuietGroup, IsTakenIn, AreKnown, AreReachable, FreeGroupsHaveArcs, IsQuietPrefix, IsKnownGroup, IsOfGroup, PrefixesAreFound, QuietLogsAreExecuted, AreAllThere, PrefixesAreKnown, PrefixesAreReachable, PrefixesAreTakenIn, WasMember, WereMembers, AreAllFree, LinksWereMembers, PrefixGroupsHaveReplicas}
 use Rattle.sc_live_plain.specs.Definitions.{replicas_after}
 use Rattle.sc_live_answers.proofs.QuietProofs.QuietPrefixGroupLogs.{newest_there}
@@ -51,12 +51,9 @@ module _ (executed : QuietLogsAreExecuted) (finds : PrefixesAreFound) (words : �
     pub gone_state : (node : ℕ) (r : ReplicaState) (into : Route) → see executed finds words scenario journal prefix q base.core.id node ≡ Some r → r.group.core.gone ≡ Some into → IsLast base node r
     gone_state node r into e gone = as_last node r e (gone_last executed finds words scenario journal prefix q base a _ known.course known.quiet node r into e gone)
 
-    pub has_member : (node after : ℕ) → after ≤ length (decided_log as_nodes base prefix) → is_member (state_after (group_of base) (take after (decided_log as_nodes base prefix))).core.members node ≡ true → HasReplica (replicas_at scenario prefix) base.core.id node
-    has_member = was_there executed finds words scenario journal prefix q base a _ known.course known.quiet
-
   -- who was a member has a replica
   pub has_replica : (name : Draw) (node : ℕ) → WasMember scenario prefix name node → HasReplica (replicas_at scenario prefix) name node
-  has_replica name node w = subst (λ n. HasReplica (replicas_at scenario prefix) n node) w.named (has_member w.base w.among node w.after w.within w.member)
+  has_replica name node w = subst (λ n. HasReplica (replicas_at scenario prefix) n node) w.named (was_there executed finds words scenario journal prefix q w.base w.among _ (known w.base w.among).course (known w.base w.among).quiet node w.after w.within w.member)
 
   pub has_shown : (name : Draw) (node : ℕ) → HasReplica (replicas_at scenario prefix) name node → HasReplica at name node
   has_shown name node h = (h.0, shown executed finds words scenario journal prefix q name node h.0 h.1)
@@ -108,7 +105,7 @@ module _ (executed : QuietLogsAreExecuted) (finds : PrefixesAreFound) (words : �
         stand = λ name quiet node r e. (let none = stands_all name quiet node r e r.group.core.gone refl in none);
       }
 
-      prefix_taken_in : (by : Tellers) (base : Base) (course : Course) (into : Route) → Among base (groups_at as_nodes scenario.groups prefix) → IsQuietGroup by words scenario journal prefix base course → (state_at as_nodes base journal course.newest).core.gone ≡ Some into
+      prefix_taken_in : (by : SlotLeaders) (base : Base) (course : Course) (into : Route) → Among base (groups_at as_nodes scenario.groups prefix) → IsQuietGroup by words scenario journal prefix base course → (state_at as_nodes base journal course.newest).core.gone ≡ Some into
           → IsTakenIn (replicas_at scenario prefix) into
       prefix_taken_in by base course into a k gone node m =
           let same = newest_state executed finds words scenario journal prefix q base a by course k in

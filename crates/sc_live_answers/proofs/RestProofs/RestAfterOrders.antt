@@ -14,7 +14,7 @@ use Rattle.sc_scenario.specs.declared.scenario.scenarios.Asks.{Asks}
 use Rattle.sc_client_table.specs.table.Definitions.{Client as ClientState}
 use Rattle.sc_law_groups.proofs.WholeProofs.Lemmas.{all_apart}
 use Rattle.sc_live_plain.proofs.Lemmas.{map_among}
-use Rattle.sc_live_steps.proofs.OrdersProofs.Lemmas.{among-right}
+use Rattle.sc_live_steps.proofs.OrderStepsProofs.Lemmas.{among-right}
 use Rattle.sc_live_journals.specs.rows.Definitions.{IsSeat, view_at, marks_at}
 use Rattle.sc_live_steps.specs.following.Definitions.{marks_of}
 use Rattle.sc_live_journals.specs.charts.Definitions.{all_replicas, names_at, GoInTurn}
@@ -26,8 +26,8 @@ use Rattle.sc_live_journals.specs.logs.Definitions.{SlotsHaveRosters, logged_set
 use Rattle.sc_live_answers.specs.Definitions.{over_at, slot_leaders_at, QuietLeadersHaveNothing, OrdersKeepRounds, RoundsAreSeen, IsQuietPrefix, PrefixesAreFound, NoMailForStrangers, GroupsEndInTurn, IsGoingSince, NoneWaits, FirstGroupsAreReached, AreSent, IsCalmJournal, IsPrefixOf, RestsAt, IsUnder, QuietPrefixesRest, NodeErrandsReachPlayers, IsOrderedSince, OrdersLeaveResting}
 use Rattle.sc_live_journals.specs.scenes.Definitions.{HasNothing, QuietScenesAreOver, scene_at}
 use Rattle.sc_live_answers.proofs.RequestsProofs.RequestInvariant.{prefix_timely, prefix_short}
-use Rattle.sc_live_answers.proofs.GroupsProofs.GuidedGroups.{named_there}
-use Rattle.sc_live_answers.proofs.GroupsProofs.JournalGroups.{calm_group}
+use Rattle.sc_live_answers.proofs.LedGroupsProofs.GuidedGroups.{named_there}
+use Rattle.sc_live_answers.proofs.LedGroupsProofs.JournalGroups.{calm_group}
 
 -- no mail is under way in a quiet prefix that rests
 pub none_pending : NoMailForStrangers → (words : ℕ → ℕ → ℕ × ℕ) (scenario : Scenario) (first : Base) (journal quiet : Rows) → IsCalmJournal words scenario journal → RestsAt words scenario first journal quiet → (name : Draw) (who : ℕ) → marks_at (players words (births as_nodes scenario)) quiet name who ≡ []
@@ -91,11 +91,11 @@ module _ (all_bounded : ValidScenariosAreBounded) (few_law : SlotsAreLeft) (born
       (subst (λ bases. Among (client_seat (route_of first) asks) (client_seats bases scenario.clients)) (sym groups) (map_among (client_seat (route_of first)) scenario.clients asks a)))
 
   players_so : (asks : Asks) → Among asks scenario.clients → (client : ClientState) × (value player_table (client_seat (route_of first) asks) rows ≡ Client client) × (client.me ≡ asks.client) × (client.requests ≡ asks.ops)
-      × Among (has_started rows (client_actor asks.client), client) under.rests.is.clients
+      × Among (has_started rows (client_actor asks.client), client) under.rests.fact.clients
   players_so asks a =
-      let p = under.rests.is.players asks a in
+      let p = under.rests.fact.players asks a in
       let h = o.clients (client_seat (route_of first) asks) p.0 (seat_is asks a) p.1 in
-      (p.0, h.0, p.2, p.3, subst (λ b. Among (b, p.0) under.rests.is.clients) (sym h.1) p.4)
+      (p.0, h.0, p.2, p.3, subst (λ b. Among (b, p.0) under.rests.fact.clients) (sym h.1) p.4)
 
   q : IsQuietPrefix words scenario journal rows
   q = record { calm = calm; begins = under.prefix; quiet = still; sent = under.sent }
@@ -113,8 +113,8 @@ module _ (all_bounded : ValidScenariosAreBounded) (few_law : SlotsAreLeft) (born
     done = λ name node r e runs. (let n = nothing name node r e runs in (none_waits name node r e runs n.flights, (o.work.replicas name node r e).backlog));
     rounds = few_rounds;
     rising = o.rising;
-    clients = under.rests.is.clients;
-    answered = under.rests.is.quiet.answered;
+    clients = under.rests.fact.clients;
+    answered = under.rests.fact.quiet.answered;
     players = players_so;
     reached = reached_law.first words scenario journal rows first others calm under.prefix groups;
     turn = in_turn.0;

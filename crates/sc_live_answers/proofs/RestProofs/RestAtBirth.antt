@@ -13,9 +13,9 @@ use Rattle.sc_live_journals.specs.rows.Definitions.{view_at}
 use Rattle.sc_live_journals.specs.mail.Definitions.{SlotsAreLeft}
 use Rattle.sc_live_answers.specs.Definitions.{GroupsBeginStanding, LawfulReplicasAreNamedOnce, GroupsBeginSent, GroupsAreBornAsBegun, QuietJournalsBegin, GroupsBeginRising, IsQuietPrefix, PrefixesAreFound, IsCalmJournal, IsPrefixOf, AreSent, IsNamedGroup, ViewsAgree, QuietJournalsRest, JournalsBeginResting}
 use Rattle.sc_live_journals.specs.charts.Definitions.{names_at, all_replicas, went_in, GoInTurn}
-use Rattle.sc_live_answers.proofs.GroupsProofs.GuidedGroups.{named_there}
+use Rattle.sc_live_answers.proofs.LedGroupsProofs.GuidedGroups.{named_there}
 use Rattle.sc_live_answers.proofs.ReplicasProofs.PlayerReplicas.{place_of}
-use Rattle.sc_live_answers.proofs.GroupsProofs.JournalGroups.{calm_group, calm_slots}
+use Rattle.sc_live_answers.proofs.LedGroupsProofs.JournalGroups.{calm_group, calm_slots}
 
 step : (b : Bool) (gone later : Option Route) (into : Route) → gone ≡ None → (later ≡ Some into → ⊥) → cond b gone later ≡ Some into → ⊥
 step true went later into none rest e = none-some into (sym none ∙ e)
@@ -29,7 +29,7 @@ none_went group into (r ∷ replicas) none e = step (same_draw (name_of r) group
 module _ (all_bounded : ValidScenariosAreBounded) (few_law : SlotsAreLeft) (stand_law : GroupsBeginStanding) (once_law : LawfulReplicasAreNamedOnce) (sent_law : GroupsBeginSent) (born_law : GroupsAreBornAsBegun) (begin_law : QuietJournalsBegin) (found_law : PrefixesAreFound) (agree_law : ViewsAgree) (rest_law : QuietJournalsRest)
     (words : ℕ → ℕ → ℕ × ℕ) (scenario : Scenario) (first : Base) (others : List Base) (journal : Rows) (groups : scenario.groups ≡ first ∷ others) (calm : IsCalmJournal words scenario journal) where
   prefix : IsPrefixOf journal []
-  prefix = record { more = journal; is = refl }
+  prefix = record { more = journal; fact = refl }
 
   sent : AreSent words scenario journal []
   sent base among = sent_law words scenario journal base (calm_group words scenario journal calm base among) calm.timely (calm_slots words scenario journal calm few_law base)
@@ -48,14 +48,14 @@ module _ (all_bounded : ValidScenariosAreBounded) (few_law : SlotsAreLeft) (stan
       ]
 
   round_one : (name : Draw) (node : ℕ) (r : ReplicaState) → view_at (births as_nodes scenario) [] name node ≡ Some r → r.top.round ≤ 0 + 1
-  round_one name node r e = (let is = as_begun name node r e in let one : r.top.round ≡ 1 = ap (λ (x : ReplicaState). x.top.round) is.2 in omega (arith, one))
+  round_one name node r e = (let fact = as_begun name node r e in let one : r.top.round ≡ 1 = ap (λ (x : ReplicaState). x.top.round) fact.2 in omega (arith, one))
 
   none_gone : (r : ReplicaState) → Among r (all_replicas (births as_nodes scenario) []) → r.group.core.gone ≡ None
   none_gone r a =
       let f = found_law words scenario journal [] calm prefix in
       let p = place_of all_bounded once_law agree_law words scenario [] calm.valid f.lawful f.homes r a in
-      let is = as_begun (name_of r) p.0 r p.1 in
-      ap (λ (x : ReplicaState). x.group.core.gone) is.2 ∙ stand_law.stands as_nodes words scenario journal is.0 (calm_group words scenario journal calm is.0 is.1)
+      let fact = as_begun (name_of r) p.0 r p.1 in
+      ap (λ (x : ReplicaState). x.group.core.gone) fact.2 ∙ stand_law.stands as_nodes words scenario journal fact.0 (calm_group words scenario journal calm fact.0 fact.1)
 
   turns : GoInTurn (names_at (births as_nodes scenario) []) (all_replicas (births as_nodes scenario) []) (λ name. 0)
   turns name into went = absurd (none_went name into (all_replicas (births as_nodes scenario) []) none_gone went)

@@ -89,10 +89,10 @@ module _ (all_bounded : ValidScenariosAreBounded) (found_law : PrefixesAreFound)
 
       saw : SawNoMore (replicas_at scenario prefix) base course
       saw node r e =
-          let is = sent_law.saw (logged_sets as_nodes base journal) (over_at as_nodes base journal) (slot_leaders_at as_nodes scenario base journal) words (births as_nodes scenario) prefix base t node r e in
+          let fact = sent_law.saw (logged_sets as_nodes base journal) (over_at as_nodes base journal) (slot_leaders_at as_nodes scenario base journal) words (births as_nodes scenario) prefix base t node r e in
           let high = bounds in (
-            subst (λ (b : Ballot). IsAtLeast b r.top) ballots is.0,
-            Each-weaker (λ (report : Report Command). report.slot < t.course.bound) (λ (report : Report Command). report.slot < course.bound) (λ report lt. omega (arith, lt, high)) r.acceptor.accepted is.1,
+            subst (λ (b : Ballot). IsAtLeast b r.top) ballots fact.0,
+            Each-weaker (λ (report : Report Command). report.slot < t.course.bound) (λ (report : Report Command). report.slot < course.bound) (λ report lt. omega (arith, lt, high)) r.acceptor.accepted fact.1,
           )
 
       quiet_stands : StandsQuiet at base.core.id
@@ -175,7 +175,7 @@ module _ (all_bounded : ValidScenariosAreBounded) (found_law : PrefixesAreFound)
   rests = record {
     prefix = q.begins;
     calm = q.quiet;
-    is = journal_is;
+    fact = journal_is;
     sent = q.sent;
     members = λ base among there. members_law words scenario journal prefix base q among there;
     still = ends.still;

@@ -8,7 +8,7 @@ use Rattle.sc_scenario.specs.declared.scenario.scenarios.Scenario.{Scenario}
 use Rattle.sc_node_table.specs.Definitions.{ReplicaState}
 use Rattle.sc_meaning.specs.sound.Definitions.{births, as_nodes}
 use Rattle.sc_live_steps.specs.calm.Definitions.{players, Rows}
-use Rattle.sc_live_steps.specs.following.Definitions.{pledged, Course, Sets, members_at, IsOpen, Tellers}
+use Rattle.sc_live_steps.specs.following.Definitions.{pledged, Course, Sets, members_at, IsOpen, SlotLeaders}
 use Rattle.sc_live_steps.proofs.FollowingProofs.Lemmas.{least_in}
 use Rattle.sc_live_steps.specs.orders.Definitions.{Work, Deal, Stage, Still, Asks}
 use Rattle.sc_live_journals.specs.rows.Definitions.{view_at, marks_at, promise_in}
@@ -20,7 +20,7 @@ use Rattle.sc_live_journals.proofs.ScenesProofs.Lemmas.{asked_fresh}
 use Rattle.sc_live_answers.specs.Definitions.{IsSentThrough, top_in, HasMembers, StaysGone, OrdersKeepRounds, RequestsKeepBallots, SameViewsKeepBallot, RoundsAreSeen}
 use Rattle.sc_live_answers.proofs.QuietProofs.EvenReplicas.{leader, has_one, even, over_then}
 use Rattle.sc_live_answers.proofs.BallotsProofs.JournalHints.{calm_of}
-use Rattle.sc_live_answers.proofs.BallotsProofs.Lists.{round_most, member_open}
+use Rattle.sc_live_answers.proofs.BallotsProofs.MarkLists.{round_most, member_open}
 use Rattle.sc_live_answers.proofs.BallotsProofs.RoundBounds.{works_lead, gone_then, on_then, told_then, round_then}
 
 -- the one that leads is the same, and has its ballot
@@ -28,12 +28,12 @@ pub same_keep : SameViewsKeepBallot
 same_keep words at over by scenario quiet rows base t u born there same runs =
     let lead = leader words at over by (births as_nodes scenario) quiet base t (born there) runs in
     let was = (t.led.followed.given.gives t.course.ballot.node lead.0 lead.1 lead.2).0 in
-    let is = (u.led.followed.given.gives t.course.ballot.node lead.0 (same t.course.ballot.node ∙ lead.1) lead.2).0 in
-    (sym is.led.may.ballot ∙ was.led.may.ballot, is.runs)
+    let fact = (u.led.followed.given.gives t.course.ballot.node lead.0 (same t.course.ballot.node ∙ lead.1) lead.2).0 in
+    (sym fact.led.may.ballot ∙ was.led.may.ballot, fact.runs)
 
 -- ---- in quiet
 
-module _ (words : ℕ → ℕ → ℕ × ℕ) (at : Sets) (over : Ends) (by : Tellers) (scenario : Scenario) (quiet : Rows) (base : Base) (q : IsSentThrough at over by words (births as_nodes scenario) quiet base) (none : (who : ℕ) → marks_at (players words (births as_nodes scenario)) quiet base.core.id who ≡ []) where
+module _ (words : ℕ → ℕ → ℕ × ℕ) (at : Sets) (over : Ends) (by : SlotLeaders) (scenario : Scenario) (quiet : Rows) (base : Base) (q : IsSentThrough at over by words (births as_nodes scenario) quiet base) (none : (who : ℕ) → marks_at (players words (births as_nodes scenario)) quiet base.core.id who ≡ []) where
   -- where none leads, the group is gone
   quiet_gone : q.course.runs ≡ false → StaysGone q.course.ballot q.course
   quiet_gone off = record { ballot = refl; off = off; gone = over_then words at over by (births as_nodes scenario) quiet base q none off }
@@ -87,7 +87,7 @@ orders_keep idle wb = record {
   delivered = λ words at over by scenario quiet rows seat number base stage later timely born q t s members untouched goes was.
       let calm = calm_of words scenario rows seat (Deliver number) timely in (
         λ runs. round_then words at over by scenario rows seat (Deliver number) base idle (wb scenario) timely born calm t s stage untouched.stands q.course.ballot later goes (λ none. absurd none)
-            (λ deal to is named. asked_same words at over by scenario quiet rows base q t members stage untouched deal to is named runs) (was.0 runs),
+            (λ deal to fact named. asked_same words at over by scenario quiet rows base q t members stage untouched deal to fact named runs) (was.0 runs),
         λ off. gone_then words at over by scenario rows seat (Deliver number) base idle (wb scenario) timely born calm t s q.course.ballot (was.1 off),
       );
   few = λ quiet stage name course since. elim (cases_Bool quiet.runs) [
@@ -96,11 +96,11 @@ orders_keep idle wb = record {
   ];
 }
   where
-    asked_same : (words : ℕ → ℕ → ℕ × ℕ) (at : Sets) (over : Ends) (by : Tellers) (scenario : Scenario) (quiet rows : Rows) (base : Base) (q : IsSentThrough at over by words (births as_nodes scenario) quiet base) (t : IsSentThrough at over by words (births as_nodes scenario) rows base)
+    asked_same : (words : ℕ → ℕ → ℕ × ℕ) (at : Sets) (over : Ends) (by : SlotLeaders) (scenario : Scenario) (quiet rows : Rows) (base : Base) (q : IsSentThrough at over by words (births as_nodes scenario) quiet base) (t : IsSentThrough at over by words (births as_nodes scenario) rows base)
         → HasMembers (births as_nodes scenario) quiet base → (stage : Stage) → AreUntouched words (births as_nodes scenario) quiet rows stage → (deal : Deal) (to : ℕ) → stage ≡ Asks deal to → deal.asked ≡ base.core.id → q.course.runs ≡ true
         → (t.course.ballot ≡ q.course.ballot) × (t.course.runs ≡ true)
-    asked_same words at over by scenario quiet rows base q t members stage untouched deal to is named runs =
-        let here : AreUntouched words (births as_nodes scenario) quiet rows (Asks deal to) = subst (AreUntouched words (births as_nodes scenario) quiet rows) is untouched in
+    asked_same words at over by scenario quiet rows base q t members stage untouched deal to fact named runs =
+        let here : AreUntouched words (births as_nodes scenario) quiet rows (Asks deal to) = subst (AreUntouched words (births as_nodes scenario) quiet rows) fact untouched in
         let fresh : IsFresh (Asks deal to) base.core.id = subst (IsFresh (Asks deal to)) named (asked_fresh _ deal to here.stands) in
         let there : IsThere (births as_nodes scenario) quiet base.core.id = subst (IsThere (births as_nodes scenario) quiet) named here.parties.1.0 in
         same_keep words at over by scenario quiet rows base q t members there (here.views base.core.id fresh there) runs

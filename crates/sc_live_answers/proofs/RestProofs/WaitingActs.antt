@@ -21,9 +21,9 @@ use Rattle.sc_live_journals.specs.logs.Definitions.{IsGroupOf, SlotsHaveRosters,
 use Rattle.sc_live_journals.proofs.ScenesProofs.Lemmas.{calm_is}
 use Rattle.sc_live_answers.specs.Definitions.{over_at, slot_leaders_at, IsSentThrough, PrefixesAreFound, NoMailForStrangers, IsCalmJournal, IsPrefixOf, IsNamedGroup, AreSent, HaveNoneWaiting, NoneWaits}
 use Rattle.sc_live_answers.proofs.RequestsProofs.RequestInvariant.{prefix_short, prefix_timely}
-use Rattle.sc_live_answers.proofs.MailProofs.WellLedLeaders.{gives}
+use Rattle.sc_live_answers.proofs.LedMailProofs.WellLedLeaders.{gives}
 use Rattle.sc_live_answers.proofs.RestProofs.TableWaitingActs.{off_none, idle_none, mailed_ends, order_ends, made_none}
-use Rattle.sc_live_answers.proofs.GroupsProofs.GuidedGroups.{named_there}
+use Rattle.sc_live_answers.proofs.LedGroupsProofs.GuidedGroups.{named_there}
 use Rattle.sc_live_answers.proofs.ReplicasProofs.PlayerEvents.{IsTurn, TurnRests, TurnCreates, TurnTakes, TurnMakes, TurnTold, turn_of}
 use Rattle.std.proofs.lemmas.Option.{same_Some}
 
@@ -66,14 +66,14 @@ module _ (pump_law : PumpsLeaveNone) (idle_law : JournalsKeepIdle) (wb : Scenari
 
     -- what the row left of it
     ends : (x : ReplicaState) → view_at all then base.core.id seat.who ≡ Some x → (1 ≤ length x.sets → HasNoneWaiting x) → HasNoneWaiting r
-    ends x is none = subst (λ (y : ReplicaState). 1 ≤ length y.sets → HasNoneWaiting y) (same_Some x r (sym is ∙ e)) none some
+    ends x fact none = subst (λ (y : ReplicaState). 1 ≤ length y.sets → HasNoneWaiting y) (same_Some x r (sym fact ∙ e)) none some
 
     by_turn : IsTurn (logged_sets as_nodes base journal) (slot_leaders_at as_nodes scenario base journal) words all rows seat event base → HasNoneWaiting r
     by_turn (TurnRests same idle) = had_at base.core.id seat.who r (sym same ∙ e)
-    by_turn (TurnCreates was is) = ends (born_replica slots_ahead seat.who base) is (λ _. idle_none (born_replica slots_ahead seat.who base) refl)
+    by_turn (TurnCreates was fact) = ends (born_replica slots_ahead seat.who base) fact (λ _. idle_none (born_replica slots_ahead seat.who base) refl)
     by_turn (TurnTakes number mail node x t) =
         let kept : IsPlainlyKept seat.who x = idle_law words scenario rows base.core.id seat.who x (in_time_before s rows row timely) t.row_.was in
-        ends _ (ap (λ v. view_at all (with_event rows seat v) base.core.id seat.who) t.event_is ∙ t.row_.is) (mailed_ends pump_law mail.from mail.body x (λ off. (kept.2.0 off).1) (had_at base.core.id seat.who x t.row_.was))
+        ends _ (ap (λ v. view_at all (with_event rows seat v) base.core.id seat.who) t.event_is ∙ t.row_.fact) (mailed_ends pump_law mail.from mail.body x (λ off. (kept.2.0 off).1) (had_at base.core.id seat.who x t.row_.was))
     by_turn (TurnMakes from slot state sets t) = ends _ t.then_ (λ _. made_none pump_law seat.who from base.core.id slot state sets)
     by_turn (TurnTold line node x t) = ends _ t.then_ (order_ends pump_law node.draws line x (had_at base.core.id seat.who x t.was))
 
@@ -113,7 +113,7 @@ none_waits pump_law idle_law wb found_law few_law born_law rosters_law no_law = 
   begins = λ words scenario first journal quiet seat line calm rests seated prefix sent.
       (let found = found_law words scenario journal quiet calm rests.prefix in
       none_then pump_law idle_law wb found_law words scenario journal quiet seat (Told line) calm seated prefix sent
-      (λ name node r e runs. (let rest : IsAtRest r = rests.is.quiet.at_rest name node r (found.views name node ∙ e) in idle_none r rest.acts)));
+      (λ name node r e runs. (let rest : IsAtRest r = rests.fact.quiet.at_rest name node r (found.views name node ∙ e) in idle_none r rest.acts)));
   goes_on = λ words scenario journal rows seat number calm on sent had. none_then pump_law idle_law wb found_law words scenario journal rows seat (Deliver number) calm on.seated on.prefix sent had;
   over = λ words scenario journal rows calm prefix sent still had. over_none few_law born_law rosters_law found_law no_law words scenario journal rows calm prefix sent still had;
 }

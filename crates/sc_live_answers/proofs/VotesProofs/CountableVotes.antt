@@ -10,26 +10,26 @@ use Rattle.sc_group_table.specs.machine.Definitions.{applied}
 use Rattle.sc_node_table.specs.Definitions.{has_room, ReplicaState, next, last_slot, flying, either, listed, at_slot, slots_ahead}
 use Rattle.sc_meaning.specs.sound.Definitions.{Player}
 use Rattle.sc_live_steps.specs.calm.Definitions.{IsServedCall, MayCount, MayPump, Rows}
-use Rattle.sc_live_steps.specs.following.Definitions.{Course, Sets, Tellers, IsLeadOf}
+use Rattle.sc_live_steps.specs.following.Definitions.{Course, Sets, SlotLeaders, IsLeadOf}
 use Rattle.sc_live_journals.specs.rows.Definitions.{view_at, progress_at}
 use Rattle.sc_live_journals.specs.groups.Definitions.{Ends, IsWellLed, IsSlotKept}
 use Rattle.sc_live_steps.specs.orders.Definitions.{Work, works, works_in, works_flying, works_ready, work_by, FliesLone, IsUnderWay}
-use Rattle.sc_live_steps.proofs.OrdersProofs.Lemmas.{among-left, among-right}
+use Rattle.sc_live_steps.proofs.OrderStepsProofs.Lemmas.{among-left, among-right}
 use Rattle.sc_live_journals.specs.scenes.Definitions.{IsWork, WorksFlyLone, scene_at, LeadsAlone, ScenesDescribe}
-use Rattle.sc_live_steps.specs.entries.LoneEntries.{IsEntry, OrderEntriesCount}
-use Rattle.sc_live_answers.proofs.MailProofs.FollowerRows.{nines_at}
+use Rattle.sc_live_steps.specs.entries.StageEntries.{IsEntry, OrderEntriesCount}
+use Rattle.sc_live_answers.proofs.LedMailProofs.FollowerRows.{nines_at}
 use Rattle.sc_live_answers.specs.Definitions.{WellLedLeadAlone, StagesLeaveOneWork, CountsEntries}
 
 -- ---- lists
 
 pub work_flies : (flights : List (Flight Command)) (flight : Flight Command) (work : Work) → Among flight flights → work_by flight.value ≡ Some work → Among work (works_flying flights)
 work_flies [] flight work a e = absurd a
-work_flies (other ∷ flights) flight work (inl is) e = among-left work (listed (work_by other.value)) (works_flying flights) (subst (λ o. Among work (listed o)) (sym (ap (λ (f : Flight Command). work_by f.value) is ∙ e)) (inl refl))
+work_flies (other ∷ flights) flight work (inl fact) e = among-left work (listed (work_by other.value)) (works_flying flights) (subst (λ o. Among work (listed o)) (sym (ap (λ (f : Flight Command). work_by f.value) fact ∙ e)) (inl refl))
 work_flies (other ∷ flights) flight work (inr more) e = among-right work (listed (work_by other.value)) (works_flying flights) (work_flies flights flight work more e)
 
 pub only_work : (o : Option Work) (work : Work) → Among work (listed o) → listed o ≡ work ∷ []
 only_work None work a = absurd a
-only_work (Some x) work (inl is) = ap (λ w. w ∷ []) is
+only_work (Some x) work (inl fact) = ap (λ w. w ∷ []) fact
 only_work (Some x) work (inr none) = absurd none
 
 -- nothing flies from a slot on where nothing is taken
@@ -64,7 +64,7 @@ no_value (Some flight) e = cc
 
 -- ---- the leader
 
-module _ (lone_fly : WorksFlyLone) (entries_count : OrderEntriesCount) (leave_one : StagesLeaveOneWork) (tell : ScenesDescribe) (lead_alone : WellLedLeadAlone) (at : Sets) (over : Ends) (by : Tellers) (words : ℕ → ℕ → ℕ × ℕ) (births : List (Seat Player)) (rows : Rows) (base : Base) (course : Course)
+module _ (lone_fly : WorksFlyLone) (entries_count : OrderEntriesCount) (leave_one : StagesLeaveOneWork) (tell : ScenesDescribe) (lead_alone : WellLedLeadAlone) (at : Sets) (over : Ends) (by : SlotLeaders) (words : ℕ → ℕ → ℕ × ℕ) (births : List (Seat Player)) (rows : Rows) (base : Base) (course : Course)
     (led : IsWellLed at over by words births rows base course) (rosters : (slot : ℕ) → IsRoster (at slot)) (who : ℕ) (r : ReplicaState) (here : view_at births rows base.core.id who ≡ Some r) (runs : r.running ≡ true) (kept : IsSlotKept r) (room : next r + slots_ahead ≤ last_slot)
     (counts : CountsEntries r) (under : IsUnderWay (scene_at births rows)) where
   lead : IsLeadOf at (progress_at births rows base course) r

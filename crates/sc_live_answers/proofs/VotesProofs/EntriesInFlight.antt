@@ -20,7 +20,7 @@ use Rattle.sc_live_journals.specs.logs.Definitions.{SlotsHaveRosters, ViewsAreRe
 use Rattle.sc_live_answers.specs.Definitions.{ReplicasRunLogs, LeadsSince, IsRecord, RecordsAreTrue, ReplicasAreRecorded, IsTrueEntry, FlightsAreEntries}
 use Rattle.sc_live_journals.specs.scenes.Definitions.{IsWork, QuietScenesAreOver, scene_at, IsThere}
 use Rattle.sc_live_journals.proofs.ScenesProofs.Lemmas.{tell}
-use Rattle.sc_live_steps.specs.entries.LoneEntries.{IsEntry}
+use Rattle.sc_live_steps.specs.entries.StageEntries.{IsEntry}
 use Rattle.sc_live_answers.proofs.WorkProofs.PartiesSinceQuiet.{base_of}
 use Rattle.sc_live_answers.proofs.RestProofs.LeaderWork.{IsWorkAt, OfOrder, OfQuestion, OfVote, OfOutcome, at_stage, stands_in, was_there}
 use Rattle.sc_live_steps.proofs.EntriesProofs.EntryMembers.{any_kept}
@@ -82,10 +82,10 @@ module _ (me : ℕ) (group : Group) (tx : Draw) (mine : is_member group.core.mem
 split_bond : (lock : Lock) (core : Core) (t tx asked : Draw) (turn : Turn) (order at : ℕ) (child : Draw) (heard : Option Heard) → lock ≡ Coordinating t (At.Split at child) order heard → bond_in lock core ≡ Asking tx asked turn
     → (found : Draw) × (bond_in lock core ≡ Asking tx found Lone)
 split_bond lock core t tx asked turn order at child heard e b =
-    let is : bond_in lock core ≡ Asking t (asked_link core (At.Split at child) heard).group Lone = ap (λ l. bond_in l core) e in
-    let same : Asking t (asked_link core (At.Split at child) heard).group Lone ≡ Asking tx asked turn = sym is ∙ b in
+    let fact : bond_in lock core ≡ Asking t (asked_link core (At.Split at child) heard).group Lone = ap (λ l. bond_in l core) e in
+    let same : Asking t (asked_link core (At.Split at child) heard).group Lone ≡ Asking tx asked turn = sym fact ∙ b in
     let one : t ≡ tx = cc in
-    ((asked_link core (At.Split at child) heard).group, is ∙ ap (λ n. Asking n (asked_link core (At.Split at child) heard).group Lone) one)
+    ((asked_link core (At.Split at child) heard).group, fact ∙ ap (λ n. Asking n (asked_link core (At.Split at child) heard).group Lone) one)
 
 cast_yes : (vote : Past) → is_cast_yes vote ≡ true → vote ≡ Cast.Yes
 cast_yes Cast.Yes e = refl
@@ -120,8 +120,8 @@ module _ (tells : ReplicasAreRecorded) (records : RecordsAreTrue) (over : QuietS
 
   roster : IsRoster r.group.core.members
   roster =
-      let b = base_of tells words scenario first journal quiet rows l.prefix.more l.prefix.is l.calm l.rests l.seen name there in
-      let v = views as_nodes words scenario journal b.0 b.1 rows l.prefix.more l.prefix.is node r (ap (λ n. view_at (births as_nodes scenario) rows n node) b.2 ∙ l.leads.is_there) in
+      let b = base_of tells words scenario first journal quiet rows l.prefix.more l.prefix.fact l.calm l.rests l.seen name there in
+      let v = views as_nodes words scenario journal b.0 b.1 rows l.prefix.more l.prefix.fact node r (ap (λ n. view_at (births as_nodes scenario) rows n node) b.2 ∙ l.leads.is_there) in
       let run = logs as_nodes words scenario journal b.0 b.1 rows v.0 v.1 r v.2 in
       let at_first : IsRoster b.0.core.members = subst IsRoster (slots.first as_nodes words scenario journal b.0 b.1 0 (omega arith)) (slots.rosters as_nodes words scenario journal b.0 b.1 0) in
       subst (λ (g : Group). IsRoster g.core.members) (sym run.1) (stay (group_of b.0) (take (next r - 1) (decided_log as_nodes b.0 journal)) at_first)
@@ -133,19 +133,19 @@ module _ (tells : ReplicasAreRecorded) (records : RecordsAreTrue) (over : QuietS
 
   no_order : (tx : Draw) → IsWorkAt stage name (GivesUp tx) → ⊥
   no_order tx (OfOrder chief e) = (subst (λ x. IsAt x (scene_at (births as_nodes scenario) rows)) e l.untouched.stands).sound
-  no_order tx (OfQuestion deal host e own is) = cc
-  no_order tx (OfVote deal agreed host e own is) = cc
-  no_order tx (OfOutcome t is ends) = cc
+  no_order tx (OfQuestion deal host e own fact) = cc
+  no_order tx (OfVote deal agreed host e own fact) = cc
+  no_order tx (OfOutcome t fact ends) = cc
 
   free_now : (child : Draw) → IsWorkAt stage name (Opens child) → r.group.core.lock ≡ Free
   free_now child (OfOrder chief e) =
       over.free (births as_nodes scenario) rows name node r l.leads (ap (λ (h : Here). h.bond) (subst (λ x. IsAt x (scene_at (births as_nodes scenario) rows)) e l.untouched.stands).parties.0.0)
-  free_now child (OfQuestion deal host e own is) = cc
-  free_now child (OfVote deal agreed host e own is) = cc
-  free_now child (OfOutcome t is ends) = cc
+  free_now child (OfQuestion deal host e own fact) = cc
+  free_now child (OfVote deal agreed host e own fact) = cc
+  free_now child (OfOutcome t fact ends) = cc
 
   -- a watcher's vote
-  module _ (tx : Draw) (vote : Past) (by : ℕ) (is : flight.value ≡ RecordWatch tx vote by) where
+  module _ (tx : Draw) (vote : Past) (by : ℕ) (fact : flight.value ≡ RecordWatch tx vote by) where
     record IsWatched : Type 0 where
       yes : vote ≡ Cast.Yes
       asked : Draw
@@ -168,10 +168,10 @@ module _ (tells : ReplicasAreRecorded) (records : RecordsAreTrue) (over : QuietS
         }
 
     w : IsWatched
-    w = watched (staged (Records tx true (is_cast_yes vote) by) (ap work_by is))
+    w = watched (staged (Records tx true (is_cast_yes vote) by) (ap work_by fact))
 
     true_entry : IsTrueEntry r.me r.group (RecordWatch tx vote by)
-    true_entry = subst (IsTrueEntry r.me r.group) is (records words scenario first journal quiet rows name node r stage l flight among (subst IsRecord (sym is) tt))
+    true_entry = subst (IsTrueEntry r.me r.group) fact (records words scenario first journal quiet rows name node r stage l flight among (subst IsRecord (sym fact) tt))
 
     kept : (is_member (applied r.group (RecordWatch tx Cast.Yes by)).0.core.members r.me ≡ true) ⊎ ((length (filter (λ who. not (is_member r.group.core.members who)) (applied r.group (RecordWatch tx Cast.Yes by)).0.core.members) ≡ 0) × ((before_of r.group.core).heard ≡ None))
     kept = recorded_kept r.me r.group tx mine ((before_of r.group.core).heard ≡ None) r.group.core.lock

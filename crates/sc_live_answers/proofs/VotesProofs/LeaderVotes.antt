@@ -4,13 +4,13 @@ use Rattle.std.proofs.lemmas.Bool.{cases_Bool, eqb-true}
 use Rattle.std.specs.Prelude.{is_none}
 use Rattle.sc_node_table.specs.Values.{Seat, Deliver, Ballot, Draw, Command, Begin, Call, Finish, GiveUp, Join, Leave, Noop, Prepared, RecordVote, RecordWatch, Split, Watched, Base, Free, Mail, Accepted, Flight}
 use Rattle.sc_base.specs.Definitions.{Among, Each, least_of}
-use Rattle.sc_live_answers.proofs.MailProofs.FollowerMail.{row_here}
-use Rattle.sc_live_answers.proofs.MailProofs.LeaderMail.{free_of, here_view, leads, leads_alone, named_so, takes, the_scene, works_one}
+use Rattle.sc_live_answers.proofs.LedMailProofs.FollowerMail.{view_here, row_here}
+use Rattle.sc_live_answers.proofs.LedMailProofs.LeaderMail.{free_of, leads, leads_alone, named_so, takes, the_scene, works_one}
 use Rattle.sc_live_answers.proofs.BallotsProofs.NewestReplicas.{newest_after, stopped_newest}
 use Rattle.sc_live_answers.specs.Definitions.{IsHere, IsGuided, IsOrdersAlone, IsTrueEntry, StagesExpectWork, VotesAreFound, WorkExpects}
 use Rattle.sc_live_journals.specs.groups.Definitions.{IsSlotKept}
 use Rattle.sc_live_steps.specs.calm.Definitions.{Rows}
-use Rattle.sc_live_steps.proofs.OrdersProofs.Lemmas.{votes-count-alone, orders-leave, votes-leave, among-left, among-right, cases-draw, ends-leave, records-leave, watch-records-leave, entries-run-alone}
+use Rattle.sc_live_steps.proofs.OrderStepsProofs.Lemmas.{votes-count-alone, orders-leave, votes-leave, among-left, among-right, cases-draw, ends-leave, records-leave, watch-records-leave, entries-run-alone}
 use Rattle.sc_live_steps.specs.orders.Definitions.{EntryLeaves, bond_of, work_by, works, works_flying, works_in, works_ready, results, FliesLone, Answers, Asking, Bond, Bound, Changes, Elsewhere, Ends, Errand, First, Here, IsNone, Lone, Next, Opens, Question, Records, Reply, Result, Scene, Turn, Unbound, Work, free, is_watch, Closes, ClosesBoth, Filed, IsOrder, IsSound, IsUnderWay, IsVote, Leg, Mailed, Ordered, Recorded, Replied, SentOn, Stage, Still, Weighs, bound_by, closing, heard, parties_of, Asks as AsksStage}
 use Rattle.sc_live_journals.proofs.RowsProofs.Lemmas.{known, found_name}
 use Rattle.sc_live_journals.specs.rows.Definitions.{progress_at, with_event}
@@ -77,7 +77,7 @@ stage_fits (ClosesBoth tx one two) s = (closing_fits tx one.leg one.host, (closi
 parties_fit : (now : Scene) (group : Draw) (named : List (Draw × Here)) → Each (λ party. now.at party.0 ≡ party.1) named → Each (λ party. Fits party.1) named → (IsNone group named → now.at group ≡ free) → Fits (now.at group)
 parties_fit now group [] are fit none = subst Fits (sym (none tt)) (none_fits Unbound [])
 parties_fit now group (party ∷ named) are fit none = elim (cases-draw group party.0) [
-  | inl is ↦ subst Fits (sym (ap now.at is ∙ are.0)) fit.0
+  | inl fact ↦ subst Fits (sym (ap now.at fact ∙ are.0)) fit.0
   | inr apart ↦ parties_fit now group named are.1 fit.1 (λ more. none (apart, more))
 ]
 
@@ -122,9 +122,9 @@ module _ (words : ℕ → ℕ → ℕ × ℕ) (births : List (Seat Player)) (row
   known_slot : slot < g.course.bound
   known_slot =
       let own = named_so words births rows seat number mail base node r h runs named (Accepted named ballot slot) body refl in
-      let is : mark_of base.core.id mail.from mail.body ≡ Some (Votes mail.from ballot slot) =
+      let fact : mark_of base.core.id mail.from mail.body ≡ Some (Votes mail.from ballot slot) =
       ap (mark_of base.core.id mail.from) body ∙ (ap (λ n. mark_of base.core.id mail.from (Accepted n ballot slot)) own ∙ same_mark base.core.id (Votes mail.from ballot slot)) in
-      known g.at words births rows seat node base g.course (the_scene words births rows seat number mail base node r h runs) number mail (takes words births rows seat number mail base node r h runs) (Votes mail.from ballot slot) is
+      known g.at words births rows seat node base g.course (the_scene words births rows seat number mail base node r h runs) number mail (takes words births rows seat number mail base node r h runs) (Votes mail.from ballot slot) fact
 
   -- ---- the one command
 
@@ -133,16 +133,16 @@ module _ (words : ℕ → ℕ → ℕ × ℕ) (births : List (Seat Player)) (row
     execution : after.0.running ≡ false → after.0.group ≡ (applied r.group flight.value).0
     execution stops = elim (votes-count-alone mail.from named ballot slot flight r flies) [
       | inl w ↦ absurd (true≢false (sym runs ∙ (sym w.running ∙ (ap (λ b. (mailed mail.from b (r, [])).0.0.running) (sym body) ∙ stops))))
-      | inr d ↦ ap (λ b. (mailed mail.from b (r, [])).0.0.group) body ∙ (ap (λ (p : Place). p.0.group) d.is ∙ ((entries-run-alone flight.value is_work.0 d.readied d.lone is_work.1).group ∙ ap (λ x. (applied x flight.value).0) d.group))
+      | inr d ↦ ap (λ b. (mailed mail.from b (r, [])).0.0.group) body ∙ (ap (λ (p : Place). p.0.group) d.fact ∙ ((entries-run-alone flight.value is_work.0 d.readied d.lone is_work.1).group ∙ ap (λ x. (applied x flight.value).0) d.group))
     ]
 
     -- the state of a leader that stops is the newest
     newest_is : (bond : Bond) → bond_of (applied r.group flight.value).0.core ≡ bond → after.0.running ≡ false → NewestAreBound births (with_event rows seat (Deliver number)) base.core.id bond
     newest_is bond leaves stops =
         let row = row_here words births rows seat number mail base node r h in
-        let there : IsThere births rows base.core.id = (seat.who, r, here_view words births rows seat number mail base node r h runs) in
+        let there : IsThere births rows base.core.id = (seat.who, r, view_here words births rows seat number mail base node r h) in
         let last = stopped_newest words births rows seat (Deliver number) base g h.taking.timely r after row runs stops in
-        let same : g.bonds g.step.later.newest ≡ bond = ap g.bonds last ∙ (sym (g.is_bound seat.who after.0 row.is) ∙ (ap (λ (x : Group). bond_of x.core) (execution stops) ∙ leaves)) in
+        let same : g.bonds g.step.later.newest ≡ bond = ap g.bonds last ∙ (sym (g.is_bound seat.who after.0 row.fact) ∙ (ap (λ (x : Group). bond_of x.core) (execution stops) ∙ leaves)) in
         subst (NewestAreBound births (with_event rows seat (Deliver number)) base.core.id) same (newest_after words births rows seat (Deliver number) base g h.taking.timely there)
 
     entry : (work : Work) (bond : Bond) (sent : List (Draw × List Errand)) (command : Command) → flight.value ≡ command → work_by command ≡ Some work → EntryLeaves bond sent command seat.who r.group
@@ -170,7 +170,7 @@ module _ (words : ℕ → ℕ → ℕ × ℕ) (births : List (Seat Player)) (row
     stays_so command e s = subst (λ c. StaysIn c r.me r.group) (sym e) s
 
     other_so : (asked : Draw) → (asked ≡ r.group.core.id → ⊥) → asked ≡ base.core.id → ⊥
-    other_so asked apart is = apart (is ∙ sym own_name)
+    other_so asked apart fact = apart (fact ∙ sym own_name)
 
     by_command : (command : Command) → flight.value ≡ command → IsWork command → ExpectsBy (work_by command) (bond_of r.group.core) → IsTrueEntry r.me r.group command → FindsFlight births rows seat number mail base.core.id r slot
     by_command Noop e w k t = absurd (no_work w.0 w.1)
@@ -233,7 +233,7 @@ module _ (words : ℕ → ℕ → ℕ × ℕ) (births : List (Seat Player)) (row
         let work : IsWork flight.value = Each-among (λ (x : Flight Command). IsWork x.value) r.leader.flights flight lone.flights f.0 in
         let so : IsTrueEntry r.me r.group flight.value = Each-among (λ (x : Flight Command). IsTrueEntry r.me r.group x.value) r.leader.flights flight are_true f.0 in
         let low : next r ≤ flight.slot = Each-among (λ (x : Flight Command). next r ≤ x.slot) r.leader.flights flight kept.0.0.0 f.0 in
-        let acts : ActsAlone g.course r = order_is_kept.alone g.at g.course r lead.led (g.led.orderly seat.who r (here_view words births rows seat number mail base node r h runs) runs) in
+        let acts : ActsAlone g.course r = order_is_kept.alone g.at g.course r lead.led (g.led.orderly seat.who r (view_here words births rows seat number mail base node r h) runs) in
         let bound : g.course.bound ≡ next r + 1 = acts slot flight.value (omega (arith, low, at_slot)) (inl (ap (option_map (λ (x : Flight Command). x.value)) e)) (work_act flight.value work.0 work.1) in
         let place : flight.slot ≡ next r = (let top = known_slot in omega (arith, low, at_slot, bound, top)) in
         let one = works_one words births rows seat number mail base node r h runs under in

@@ -18,7 +18,7 @@ opening_refused core (At.Split at child) = split_refused core at
 pub record IsOpened (group : Group) (tx asked : Draw) (turn : Turn) (made : Group) : Type 0 where
   pub body : Body
   pub order : ℕ
-  pub is : made ≡ begun_group group tx body order
+  pub fact : made ≡ begun_group group tx body order
   pub may : opening_refused group.core body ≡ None
   pub asked_is : asked ≡ group.core.succ.group
   pub turn_is : turn ≡ turn_of group.core body None
@@ -64,10 +64,10 @@ module _ (group : Group) (free : group.core.lock ≡ Free) where
 
   module _ (tx tx2 asked : Draw) (turn : Turn) where
     begun_so : (body : Body) (order : ℕ) → opening_refused group.core body ≡ None → bond_of (begun_group group tx body order).core ≡ Asking tx2 asked turn → IsOpened group tx asked turn (begun_group group tx body order)
-    begun_so At.Merge order may e = record { body = At.Merge; order = order; is = refl; may = may; asked_is = sym (ap asks_of e); turn_is = sym (ap turn_in e) }
-    begun_so (At.Repart at) order may e = record { body = At.Repart at; order = order; is = refl; may = may; asked_is = sym (ap asks_of e); turn_is = sym (ap turn_in e) }
-    begun_so (At.Migrate node) order may e = record { body = At.Migrate node; order = order; is = refl; may = may; asked_is = sym (ap asks_of e); turn_is = sym (ap turn_in e) }
-    begun_so (At.Split at child) order may e = record { body = At.Split at child; order = order; is = refl; may = may; asked_is = sym (ap asks_of e); turn_is = sym (ap turn_in e) }
+    begun_so At.Merge order may e = record { body = At.Merge; order = order; fact = refl; may = may; asked_is = sym (ap asks_of e); turn_is = sym (ap turn_in e) }
+    begun_so (At.Repart at) order may e = record { body = At.Repart at; order = order; fact = refl; may = may; asked_is = sym (ap asks_of e); turn_is = sym (ap turn_in e) }
+    begun_so (At.Migrate node) order may e = record { body = At.Migrate node; order = order; fact = refl; may = may; asked_is = sym (ap asks_of e); turn_is = sym (ap turn_in e) }
+    begun_so (At.Split at child) order may e = record { body = At.Split at child; order = order; fact = refl; may = may; asked_is = sym (ap asks_of e); turn_is = sym (ap turn_in e) }
 
     begin_may : (t : Draw) (body : Body) (order : ℕ) → BeginsSo (Begin t body order) → refusal_of group.core (Begin t body order) ≡ None → opening_refused group.core body ≡ None
     begin_may t At.Merge order so e = sym (refused_so (Begin t At.Merge order)) ∙ e
@@ -85,15 +85,15 @@ module _ (group : Group) (free : group.core.lock ≡ Free) where
     pub opened_by : (c : Command) → Opened c (applied group c)
     opened_by c = comes group Opened (record {
       same = λ d effect dull w so e. absurd (unopened group.core free e);
-      served = λ client seq op after effect is w so e. absurd (unopened after.core (ap (λ (x : Core). x.lock) is ∙ free) e);
+      served = λ client seq op after effect fact w so e. absurd (unopened after.core (ap (λ (x : Core). x.lock) fact ∙ free) e);
       joined = λ node order w so e. cc;
       left = λ node order w so e. cc;
       parted = λ at child order r w so e. absurd (no_asking tx2 asked turn (sym (ap (λ l. bond_in l (Rattle.sc_group_table.specs.machine.Splits.left_core group.core at child)) free) ∙ e));
       split = λ at child order r w so e. (let child_is = same_opens tx child w in
           subst (λ t. bond_of (begun_group group t (At.Split at child) order).core ≡ Asking tx2 asked turn → IsOpened group tx asked turn (begun_group group t (At.Split at child) order)) (sym child_is)
           (begun_so (At.Split at child) order (sym (refused_so (Split at child order)) ∙ r)) e);
-      begun = λ t body order r w so e. (let is = same_opens tx t w in
-          subst (λ x. bond_of (begun_group group x body order).core ≡ Asking tx2 asked turn → IsOpened group tx asked turn (begun_group group x body order)) (sym is) (begun_so body order (begin_may t body order so r)) e);
+      begun = λ t body order r w so e. (let fact = same_opens tx t w in
+          subst (λ x. bond_of (begun_group group x body order).core ≡ Asking tx2 asked turn → IsOpened group tx asked turn (begun_group group x body order)) (sym fact) (begun_so body order (begin_may t body order so r)) e);
       offered = λ t offer n w so e. cc;
       asked = λ t watch n w so e. cc;
       heard = λ t order got lock frozen by w so e. cc;
@@ -119,24 +119,24 @@ module _ (group : Group) (free : group.core.lock ≡ Free) where
         → IsBoundBy (voting_group group t why (Promised t offer))
     offered_so t offer (Some reason) v w e = absurd (unbound (voting_group group t (Some reason) (Promised t offer)).core free e)
     offered_so t offer None v w e =
-        let is : t ≡ tx = cc in
+        let fact : t ≡ tx = cc in
         let c : offer.coord ≡ coord = cc in
         let f : watch ≡ false = cc in
-        ByOffer offer f c v (ap (λ x. voting_group group x None (Promised x offer)) is)
+        ByOffer offer f c v (ap (λ x. voting_group group x None (Promised x offer)) fact)
 
     asked_so : (t : Draw) (asks : Watch) (why : Option No) → watch_vote_of group.core asks ≡ why → Some (Answers t asks.coord true asks.by) ≡ Some (Answers tx coord watch by) → bond_of (voting_group group t why (Watching t asks)).core ≡ Bound tx2
         → IsBoundBy (voting_group group t why (Watching t asks))
     asked_so t asks (Some reason) v w e = absurd (unbound (voting_group group t (Some reason) (Watching t asks)).core free e)
     asked_so t asks None v w e =
-        let is : t ≡ tx = cc in
+        let fact : t ≡ tx = cc in
         let c : asks.coord ≡ coord = cc in
         let f : watch ≡ true = cc in
-        ByWatch asks f c v (ap (λ x. voting_group group x None (Watching x asks)) is)
+        ByWatch asks f c v (ap (λ x. voting_group group x None (Watching x asks)) fact)
 
     pub voted_by : (c : Command) → Votes c (applied group c)
     voted_by c = comes group Votes (record {
       same = λ d effect dull w e. absurd (unbound group.core free e);
-      served = λ client seq op after effect is w e. absurd (unbound after.core (ap (λ (x : Core). x.lock) is ∙ free) e);
+      served = λ client seq op after effect fact w e. absurd (unbound after.core (ap (λ (x : Core). x.lock) fact ∙ free) e);
       joined = λ node order w e. cc;
       left = λ node order w e. cc;
       parted = λ at child order r w e. cc;
@@ -158,7 +158,7 @@ pub record HasHeard (group : Group) (asked : Draw) (part : Draw) (made : Group) 
   pub got : Option Heard
   pub lock : group.core.lock ≡ Coordinating tx At.Merge order got
   pub heard : Heard
-  pub is : made ≡ heard_group group tx At.Merge order heard
+  pub fact : made ≡ heard_group group tx At.Merge order heard
   pub asked_is : asked ≡ heard.frozen.succ.group
   pub part_is : part ≡ group.core.succ.group
 
@@ -177,7 +177,7 @@ module _ (group : Group) (tx2 asked part : Draw) (host : ℕ) (unheard : bond_of
   pub heard_by : (c : Command) → Hears c (applied group c)
   heard_by c = comes group Hears (record {
     same = λ d effect dull by tx w e. absurd (unheard e);
-    served = λ client seq op after effect is by tx w e. absurd (unheard (sym (ap bond_of is) ∙ e));
+    served = λ client seq op after effect fact by tx w e. absurd (unheard (sym (ap bond_of fact) ∙ e));
     joined = λ node order by tx w e. cc;
     left = λ node order by tx w e. cc;
     parted = λ at child order r by tx w e. cc;
@@ -191,7 +191,7 @@ module _ (group : Group) (tx2 asked part : Draw) (host : ℕ) (unheard : bond_of
       got = got;
       lock = lock;
       heard = record { frozen = frozen; by = n };
-      is = refl;
+      fact = refl;
       asked_is = sym (ap asks_of e);
       part_is = sym (ap (λ b. part_of (turn_in b)) e);
     };

@@ -17,11 +17,11 @@ use Rattle.sc_words.specs.ideal.Definitions.{Contents, part_of}
 use Rattle.sc_meaning.specs.entries.Definitions.{named_group}
 use Rattle.sc_meaning.specs.declared.entries.LogEntry.{LogEntry}
 use Rattle.sc_group_table.specs.machine.Definitions.{can_gain, gained_group, lost_group, participant_after, welcomed_group, Group, applied, Plan, can_cut, can_join, can_migrate, can_repart, can_split, closing_group, giving_group, giving_plan, has_key_of, may_merge, merged_group, merged_route, migrated_group, part_gift, taken, taking_group, taking_plan, left_group, asks_watcher, committed, decided_group, granted, released, vote_recorded, watch_answered, watch_recorded, has_voted}
-use Rattle.sc_law_entries.specs.ring.Definitions.{AreAllowed, IsAllowed, IsVoteCast, Sources, StoryWorld, first_recorded, recorded_stories, recorded_after, recorded_next, Groups, BeginInPlace, stories_of, Stories, Story, new_story, put, retold, stories_after, unsigned, vote_in, watch_vote_in, with_answer, with_decision, with_vote, with_watch_vote}
+use Rattle.sc_law_entries.specs.ring.Definitions.{AreAllowed, IsAllowed, IsVoteCast, Sources, StoryWorld, first_recorded, recorded_stories, recorded_after, recorded_next, Groups, BeginInPlace, stories_of, Stories, Story, new_story, put, with_story, stories_after, unsigned, vote_in, watch_vote_in, with_answer, with_decision, with_vote, with_watch_vote}
 use Rattle.sc_law_entries.proofs.RingProofs.Lemmas.{end_right, right_is, apart_of, mine_old, own_is, part_eff, arcs_in, mine_open, Old, arc_of, succ_of, view_of, inside_part, no_shared, outside_next, room_of, IsPair, pair_meets, cut_is, Ends, part_is, at_start, Kept, groups_in, IsOnRing, Ring, KeptWorld, kept_on, less_room as rest_room}
 use Rattle.sc_live_answers.specs.Definitions.{HasOwnKeys, IsTakenBy}
 use Rattle.sc_law_groups.proofs.WholeProofs.Lemmas.{no_vote}
-use Rattle.sc_law_groups.proofs.WholeProofs.Fitting.{put_so, retold_so}
+use Rattle.sc_law_groups.proofs.WholeProofs.Fitting.{put_so, with_story_so}
 
 -- ---- what a participant takes
 
@@ -63,11 +63,11 @@ merges into offer frozen group own f o keys = (_, refl)
 -- ---- stories
 
 -- what a story says of its outcome
-abbrev FitsStory : Story → Type 0
-FitsStory y = (outcome : Outcome) → y.outcome ≡ Some outcome → (offer : Offer) → y.offer ≡ Some offer → (frozen : Frozen) → y.vote ≡ Some (Vows.Yes frozen) → IsTakenBy outcome offer frozen
+abbrev OutcomeFits : Story → Type 0
+OutcomeFits y = (outcome : Outcome) → y.outcome ≡ Some outcome → (offer : Offer) → y.offer ≡ Some offer → (frozen : Frozen) → y.vote ≡ Some (Vows.Yes frozen) → IsTakenBy outcome offer frozen
 
 abbrev AllFit : Stories → Type 0
-AllFit ys = (tx : Draw) (y : Story) → ys tx ≡ Some y → FitsStory y
+AllFit ys = (tx : Draw) (y : Story) → ys tx ≡ Some y → OutcomeFits y
 
 no_outcome : (outcome : Outcome) → None ≡ Some outcome → ⊥
 no_outcome outcome e = cc
@@ -81,27 +81,27 @@ same_vote f frozen e = cc
 same_none : (vote : Option Vote) (frozen : Frozen) → vote ≡ None → vote ≡ Some (Vows.Yes frozen) → ⊥
 same_none vote frozen e v = no_vote frozen (sym e ∙ v)
 
-new_fits : (s : Group) (body : Body) → FitsStory (new_story s body)
+new_fits : (s : Group) (body : Body) → OutcomeFits (new_story s body)
 new_fits s body outcome e = absurd (no_outcome outcome e)
 
 new_put : (ys : Stories) (tx : Draw) (s : Group) (body : Body) → AllFit ys → AllFit (put ys tx (Some (new_story s body)))
-new_put ys tx s body old = put_so (λ t y. FitsStory y) ys tx (Some (new_story s body)) (λ y e. subst FitsStory (same_Some (new_story s body) y e) (new_fits s body)) old
+new_put ys tx s body old = put_so (λ t y. OutcomeFits y) ys tx (Some (new_story s body)) (λ y e. subst OutcomeFits (same_Some (new_story s body) y e) (new_fits s body)) old
 
-watched_fits : (o : Option Past) (y : Story) → FitsStory y → FitsStory (with_watch_vote o y)
+watched_fits : (o : Option Past) (y : Story) → OutcomeFits y → OutcomeFits (with_watch_vote o y)
 watched_fits None y k = k
 watched_fits (Some past) y k = k
 
 -- with an outcome that its participant takes
-decided_fits : (o : Outcome) (y : Story) → ((offer : Offer) → y.offer ≡ Some offer → (frozen : Frozen) → y.vote ≡ Some (Vows.Yes frozen) → IsTakenBy o offer frozen) → FitsStory (with_decision (Some o) y)
-decided_fits o y takes outcome e offer is frozen vote = subst (λ x. IsTakenBy x offer frozen) (same_Some o outcome e) (takes offer is frozen vote)
+decided_fits : (o : Outcome) (y : Story) → ((offer : Offer) → y.offer ≡ Some offer → (frozen : Frozen) → y.vote ≡ Some (Vows.Yes frozen) → IsTakenBy o offer frozen) → OutcomeFits (with_decision (Some o) y)
+decided_fits o y takes outcome e offer fact frozen vote = subst (λ x. IsTakenBy x offer frozen) (same_Some o outcome e) (takes offer fact frozen vote)
 
-changed_fits : (s : Group) (vote : Vote) (y : Story) → FitsStory y → FitsStory (with_answer s.core vote Was.Changed y)
+changed_fits : (s : Group) (vote : Vote) (y : Story) → OutcomeFits y → OutcomeFits (with_answer s.core vote Was.Changed y)
 changed_fits s (Vows.Yes frozen) y k = k
 changed_fits s (Vows.No why) y k = k
 
 -- ---- entries
 
-module _ (sources : Sources) (ring : Ring) (gs : Groups) (ys : Stories) (g : Draw) (s : Group) (k : Kept sources.owner ring gs ys) (is : gs g ≡ Some s) (old : AllFit ys) where
+module _ (sources : Sources) (ring : Ring) (gs : Groups) (ys : Stories) (g : Draw) (s : Group) (k : Kept sources.owner ring gs ys) (fact : gs g ≡ Some s) (old : AllFit ys) where
   -- a participant's vote
   module _ (tx : Draw) (offer : Offer) (a : IsAllowed sources ys g (Prepared tx offer)) where
     -- it votes once
@@ -110,7 +110,7 @@ module _ (sources : Sources) (ring : Ring) (gs : Groups) (ys : Stories) (g : Dra
         let w = (k.0.story tx y e).voter vote v in
         let story = same_Some a.0 y (sym a.1 ∙ e) in
         let part : w.offer.part ≡ g = ap (λ (o : Offer). o.part) (same_Some w.offer (unsigned offer) (sym w.offered ∙ (ap (λ (z : Story). z.offer) (sym story) ∙ a.2))) ∙ a.3 in
-        let group : w.group ≡ s = same_Some w.group s (sym w.is ∙ (ap gs part ∙ is)) in
+        let group : w.group ≡ s = same_Some w.group s (sym w.fact ∙ (ap gs part ∙ fact)) in
         let voted : has_voted s.core tx ≡ true = subst (λ (x : Group). has_voted x.core tx ≡ true) group w.voted in
         ap (λ (r : Group × Effect). vote_in s r.1) (cond-true (has_voted s.core tx) (s, Was.NoEffect tx) _ voted)
 
@@ -122,13 +122,13 @@ module _ (sources : Sources) (ring : Ring) (gs : Groups) (ys : Stories) (g : Dra
     early y e none (Is.Migrated node) out own o frozen = absurd (let v = ((k.0.story tx y e).earned (Is.Migrated node) out (λ q. cc)).0 own o in same_none y.vote v.0 none v.1)
     early y e none Is.Divided out own o frozen = absurd (let v = ((k.0.story tx y e).earned Is.Divided out (λ q. cc)).0 own o in same_none y.vote v.0 none v.1)
 
-    with_cast : (y : Story) → ys tx ≡ Some y → (o : Option Vote) → (v : Option Vote) → y.vote ≡ v → vote_in s (applied s (Prepared tx offer)).1 ≡ o → FitsStory (with_vote o y)
+    with_cast : (y : Story) → ys tx ≡ Some y → (o : Option Vote) → (v : Option Vote) → y.vote ≡ v → vote_in s (applied s (Prepared tx offer)).1 ≡ o → OutcomeFits (with_vote o y)
     with_cast y e None v was c = old tx y e
     with_cast y e (Some vote) (Some before) was c = absurd (let none : None ≡ Some vote = sym (once y e before was) ∙ c in cc)
     with_cast y e (Some vote) None was c = λ outcome out own o frozen _. early y e was outcome out own o frozen
 
-    prepared_fits : AllFit (retold ys tx (with_vote (vote_in s (applied s (Prepared tx offer)).1)))
-    prepared_fits = retold_so (λ t y. FitsStory y) ys tx (with_vote (vote_in s (applied s (Prepared tx offer)).1)) (λ y e. with_cast y e (vote_in s (applied s (Prepared tx offer)).1) y.vote refl refl) old
+    prepared_fits : AllFit (with_story ys tx (with_vote (vote_in s (applied s (Prepared tx offer)).1)))
+    prepared_fits = with_story_so (λ t y. OutcomeFits y) ys tx (with_vote (vote_in s (applied s (Prepared tx offer)).1)) (λ y e. with_cast y e (vote_in s (applied s (Prepared tx offer)).1) y.vote refl refl) old
 
   -- ---- what a coordinator decides
 
@@ -140,16 +140,16 @@ module _ (sources : Sources) (ring : Ring) (gs : Groups) (ys : Stories) (g : Dra
     voted_is y e frozen v = same_vote f frozen (sym (its_vote y e) ∙ v)
 
     abbrev Answer : Group × Effect → Type 0
-    Answer r = (y : Story) → ys tx ≡ Some y → FitsStory (with_answer s.core (Vows.Yes f) r.1 y)
+    Answer r = (y : Story) → ys tx ≡ Some y → OutcomeFits (with_answer s.core (Vows.Yes f) r.1 y)
 
-    idle_so : (y : Story) → ys tx ≡ Some y → FitsStory (with_answer s.core (Vows.Yes f) (Was.NoEffect tx) y)
+    idle_so : (y : Story) → ys tx ≡ Some y → OutcomeFits (with_answer s.core (Vows.Yes f) (Was.NoEffect tx) y)
     idle_so y e = old tx y e
 
     module _ (at order : ℕ) (lock : s.core.lock ≡ Coordinating tx (At.Repart at) order None) where
       gives_so : can_cut s.core.arc at ≡ true → Answer (decided_group (giving_group s at f) tx (Is.Moved at (Some (part_gift s at))), Was.Decided (Is.Moved at (Some (part_gift s at))))
       gives_so cut y e = decided_fits (Is.Moved at (Some (part_gift s at))) y (λ offer o frozen v group own same signed keys. (
           let out : Outcome = Is.Moved at (Some (part_gift s at)) in
-          let open_it = mine_open sources.owner ring gs ys g s k is tx (At.Repart at) order None lock in
+          let open_it = mine_open sources.owner ring gs ys g s k fact tx (At.Repart at) order None lock in
           let z = open_it.story in
           let d = open_it.deciding in
           let own_it = own_is sources.owner gs ys g s tx (At.Repart at) None z d in
@@ -219,7 +219,7 @@ module _ (sources : Sources) (ring : Ring) (gs : Groups) (ys : Stories) (g : Dra
   -- ---- other decisions
 
   abbrev Decided_so : Draw → Group × Effect → Type 0
-  Decided_so tx r = (y : Story) → ys tx ≡ Some y → FitsStory (with_decision (decided_in r.1) y)
+  Decided_so tx r = (y : Story) → ys tx ≡ Some y → OutcomeFits (with_decision (decided_in r.1) y)
 
   idle_at : (tx : Draw) → Decided_so tx (s, Was.NoEffect tx)
   idle_at tx y e = old tx y e
@@ -229,7 +229,7 @@ module _ (sources : Sources) (ring : Ring) (gs : Groups) (ys : Stories) (g : Dra
 
   split_at : (tx : Draw) (at : ℕ) (child : Draw) (order : ℕ) (heard : Option Heard) → s.core.lock ≡ Coordinating tx (At.Split at child) order heard → (made : Group) → Decided_so tx (made, Was.Decided Is.Divided)
   split_at tx at child order heard lock made y e = decided_fits Is.Divided y (λ offer o frozen v. absurd (
-      let open_it = mine_open sources.owner ring gs ys g s k is tx (At.Split at child) order heard lock in
+      let open_it = mine_open sources.owner ring gs ys g s k fact tx (At.Split at child) order heard lock in
       let own = own_is sources.owner gs ys g s tx (At.Split at child) heard open_it.story open_it.deciding in
       no_offer offer (sym own.offer ∙ (ap (λ (x : Story). x.offer) (same_Some open_it.story y (sym open_it.deciding.there ∙ e)) ∙ o))))
 
@@ -260,7 +260,7 @@ module _ (sources : Sources) (ring : Ring) (gs : Groups) (ys : Stories) (g : Dra
 
   -- a No aborts
   abbrev Denied : Draw → Vote → Group × Effect → Type 0
-  Denied tx vote r = (y : Story) → ys tx ≡ Some y → FitsStory (with_answer s.core vote r.1 y)
+  Denied tx vote r = (y : Story) → ys tx ≡ Some y → OutcomeFits (with_answer s.core vote r.1 y)
 
   denied_at : (tx : Draw) (why : _) (by : ℕ) (l : Lock) → Denied tx (Vows.No why) (vote_recorded l s tx (Vows.No why) by)
   denied_at tx why by Free = λ y e. old tx y e
@@ -282,11 +282,11 @@ module _ (sources : Sources) (ring : Ring) (gs : Groups) (ys : Stories) (g : Dra
       cond_both (is_changed (applied s (Split at child order)).1 && not (is_alone s.core)) (put ys child (Some (new_story s (At.Split at child)))) ys AllFit (λ _. new_put ys child s (At.Split at child) old) (λ _. old)
   entry_fits (Begin tx body order) a = cond_both (is_changed (applied s (Begin tx body order)).1) (put ys tx (Some (new_story s body))) ys AllFit (λ _. new_put ys tx s body old) (λ _. old)
   entry_fits (Prepared tx offer) a = prepared_fits tx offer a
-  entry_fits (Watched tx watch) a = retold_so (λ t y. FitsStory y) ys tx _ (λ y e. watched_fits (watch_vote_in (applied s (Watched tx watch)).1) y (old tx y e)) old
-  entry_fits (RecordVote tx (Vows.Yes f) by) a = retold_so (λ t y. FitsStory y) ys tx (with_answer s.core (Vows.Yes f) (applied s (RecordVote tx (Vows.Yes f) by)).1) (recorded_so tx f a by s.core.lock refl) old
-  entry_fits (RecordVote tx (Vows.No why) by) a = retold_so (λ t y. FitsStory y) ys tx (with_answer s.core (Vows.No why) (applied s (RecordVote tx (Vows.No why) by)).1) (denied_at tx why by s.core.lock) old
-  entry_fits (RecordWatch tx vote by) a = retold_so (λ t y. FitsStory y) ys tx (with_decision (decided_in (applied s (RecordWatch tx vote by)).1)) (watch_recorded_at tx vote s.core.lock refl) old
-  entry_fits (GiveUp tx) a = retold_so (λ t y. FitsStory y) ys tx (with_decision (decided_in (applied s (GiveUp tx)).1))
+  entry_fits (Watched tx watch) a = with_story_so (λ t y. OutcomeFits y) ys tx _ (λ y e. watched_fits (watch_vote_in (applied s (Watched tx watch)).1) y (old tx y e)) old
+  entry_fits (RecordVote tx (Vows.Yes f) by) a = with_story_so (λ t y. OutcomeFits y) ys tx (with_answer s.core (Vows.Yes f) (applied s (RecordVote tx (Vows.Yes f) by)).1) (recorded_so tx f a by s.core.lock refl) old
+  entry_fits (RecordVote tx (Vows.No why) by) a = with_story_so (λ t y. OutcomeFits y) ys tx (with_answer s.core (Vows.No why) (applied s (RecordVote tx (Vows.No why) by)).1) (denied_at tx why by s.core.lock) old
+  entry_fits (RecordWatch tx vote by) a = with_story_so (λ t y. OutcomeFits y) ys tx (with_decision (decided_in (applied s (RecordWatch tx vote by)).1)) (watch_recorded_at tx vote s.core.lock refl) old
+  entry_fits (GiveUp tx) a = with_story_so (λ t y. OutcomeFits y) ys tx (with_decision (decided_in (applied s (GiveUp tx)).1))
       (cond_both (Rattle.sc_group_table.specs.machine.Transactions.is_coordinating s.core.lock tx) _ _ (Decided_so tx) (λ _. abort_at tx) (λ _. idle_at tx)) old
 
 -- ---- all entries
@@ -295,8 +295,8 @@ told_fits : (sources : Sources) (w : StoryWorld) (e : LogEntry) → KeptWorld so
 told_fits sources w e k a old = by (named_group e.group w.store.groups) refl
   where
     by : (o : Option Group) → named_group e.group w.store.groups ≡ o → AllFit (recorded_stories w.stories o e.command)
-    by None is = old
-    by (Some s) is = entry_fits sources (arcs_in w.store.ring) (groups_in w.store.groups) w.stories e.group s k.kept is old e.command a
+    by None fact = old
+    by (Some s) fact = entry_fits sources (arcs_in w.store.ring) (groups_in w.store.groups) w.stories e.group s k.kept fact old e.command a
 
 all_fits : (sources : Sources) (w : StoryWorld) (list : List LogEntry) → KeptWorld sources.owner w → AreAllowed sources w list → AllFit w.stories → AllFit (recorded_after w list).stories
 all_fits sources w [] k a old = old
@@ -304,4 +304,4 @@ all_fits sources w (e ∷ list) k a old = all_fits sources (recorded_next w e) l
 
 pub outcomes_fit : (sources : Sources) (bases : List _) (list : List LogEntry) → BeginInPlace sources bases → AreAllowed sources (first_recorded bases) list
     → (tx : Draw) (y : Story) → stories_of bases list tx ≡ Some y → (outcome : Outcome) → y.outcome ≡ Some outcome → (offer : Offer) → y.offer ≡ Some offer → (frozen : Frozen) → y.vote ≡ Some (Vows.Yes frozen) → IsTakenBy outcome offer frozen
-outcomes_fit sources bases list start allowed tx y is = all_fits sources (first_recorded bases) list (at_start sources bases start) allowed (λ t z e. cc) tx y is
+outcomes_fit sources bases list start allowed tx y fact = all_fits sources (first_recorded bases) list (at_start sources bases start) allowed (λ t z e. cc) tx y fact

@@ -50,23 +50,23 @@ module _ (tells : ReplicasAreRecorded) (sound : ValidJournalsAreSound) (logs : V
   all = births as_nodes scenario
 
   quiet_lawful : Lawful as_nodes words scenario quiet
-  quiet_lawful = lawful-prefix (system_of as_nodes words scenario) (schedule scenario) quiet l.rests.prefix.more (subst (Lawful as_nodes words scenario) l.rests.prefix.is l.calm.lawful)
+  quiet_lawful = lawful-prefix (system_of as_nodes words scenario) (schedule scenario) quiet l.rests.prefix.more (subst (Lawful as_nodes words scenario) l.rests.prefix.fact l.calm.lawful)
 
   the_map : IsOneMap (world_at as_nodes scenario.groups quiet)
-  the_map = (sound as_nodes refl words scenario l.calm.valid journal l.calm.lawful quiet l.rests.prefix.more l.rests.prefix.is).whole
+  the_map = (sound as_nodes refl words scenario l.calm.valid journal l.calm.lawful quiet l.rests.prefix.more l.rests.prefix.fact).whole
 
   the_logs : AreItsLogs as_nodes scenario.groups quiet
   the_logs = logs as_nodes refl words scenario l.calm.valid quiet quiet_lawful
 
-  module _ (flight : Flight Command) (among : Among flight r.leader.flights) (tx : Draw) (outcome : Outcome) (is : flight.value ≡ Finish tx outcome) where
+  module _ (flight : Flight Command) (among : Among flight r.leader.flights) (tx : Draw) (outcome : Outcome) (fact : flight.value ≡ Finish tx outcome) where
     there : IsThere (births as_nodes scenario) quiet name
-    there = was_there tells words scenario first journal quiet rows name node r stage l flight among (Ends tx) (ap work_by is)
+    there = was_there tells words scenario first journal quiet rows name node r stage l flight among (Ends tx) (ap work_by fact)
 
     allowed_here : IsAllowedBy scenario journal name (Finish tx outcome)
     allowed_here =
-        subst (IsAllowedBy scenario journal name) is
+        subst (IsAllowedBy scenario journal name) fact
         (Each-among (λ (f : Flight Command). IsAllowedBy scenario journal name f.value) r.leader.flights flight
-        (flights_at tells words scenario first journal quiet rows l.prefix.more l.prefix.is l.calm l.rests l.seen name node r there l.leads.is_there) among)
+        (flights_at tells words scenario first journal quiet rows l.prefix.more l.prefix.fact l.calm l.rests l.seen name node r there l.leads.is_there) among)
 
     no_order : (work : Work) → IsOrder work → work ≡ Ends tx → ⊥
     no_order work o e = subst IsOrder e o
@@ -84,7 +84,7 @@ module _ (tells : ReplicasAreRecorded) (sound : ValidJournalsAreSound) (logs : V
     ends_at (OfVote deal agreed host e own k) = absurd (no_vote deal.tx _ agreed host k)
 
     ending : IsEnding stage name tx
-    ending = ends_at (at_stage tells words scenario first journal quiet rows name node r stage l flight among (Ends tx) (ap work_by is))
+    ending = ends_at (at_stage tells words scenario first journal quiet rows name node r stage l flight among (Ends tx) (ap work_by fact))
 
     abbrev party : Doer
     party = doer name ending.host (Voting tx ∷ [])
@@ -102,18 +102,18 @@ module _ (tells : ReplicasAreRecorded) (sound : ValidJournalsAreSound) (logs : V
     host_is = same_Some ending.host node (sym lead ∙ (tell.led all rows name node r l.leads).0)
 
     now_is : d.now ≡ r
-    now_is = same_Some d.now r (sym d.is ∙ (ap (λ h. view_at all rows name h) host_is ∙ l.leads.is_there))
+    now_is = same_Some d.now r (sym d.fact ∙ (ap (λ h. view_at all rows name h) host_is ∙ l.leads.is_there))
 
     free : d.first.group.core.lock ≡ Free
-    free = free_first tells words scenario first journal quiet rows l.prefix.more l.prefix.is l.calm l.rests l.seen (doer name ending.host (Voting tx ∷ [])) d
+    free = free_first tells words scenario first journal quiet rows l.prefix.more l.prefix.fact l.calm l.rests l.seen (doer name ending.host (Voting tx ∷ [])) d
 
     its_keys : HasOwnKeys d.first.group
     its_keys =
-        let s = led_first tells words scenario first journal quiet rows l.prefix.more l.prefix.is l.calm l.rests l.seen (doer name ending.host (Voting tx ∷ [])) d in
-        subst (λ (x : ReplicaState). HasOwnKeys x.group) (sym s.1) (keys_of words scenario first quiet the_map the_logs l.rests.known l.rests.is name s.0)
+        let s = led_first tells words scenario first journal quiet rows l.prefix.more l.prefix.fact l.calm l.rests l.seen (doer name ending.host (Voting tx ∷ [])) d in
+        subst (λ (x : ReplicaState). HasOwnKeys x.group) (sym s.1) (keys_of words scenario first quiet the_map the_logs l.rests.known l.rests.fact name s.0)
 
     locks : LockIsRecorded scenario journal name d.now.group
-    locks = locks_at tells words scenario first journal quiet rows l.prefix.more l.prefix.is l.calm l.rests l.seen name ending.host d.now there d.is
+    locks = locks_at tells words scenario first journal quiet rows l.prefix.more l.prefix.fact l.calm l.rests l.seen name ending.host d.now there d.fact
 
     -- by what it voted
     takes : (coord : Draw) (watch : Bool) (n : ℕ) → IsBoundBy d.first.group free tx tx coord watch n (state_after d.first.group d.entries) → Decides (applied d.now.group (Finish tx outcome))
@@ -121,14 +121,14 @@ module _ (tells : ReplicasAreRecorded) (sound : ValidJournalsAreSound) (logs : V
     takes coord watch n (ByOffer offer w k agree made) =
         let lock : d.now.group.core.lock ≡ Promised tx offer = ap (λ (g : Group). g.core.lock) (d.group_is ∙ made) in
         let p = locks.promises tx offer lock in
-        let base = base_of tells words scenario first journal quiet rows l.prefix.more l.prefix.is l.calm l.rests l.seen name there in
+        let base = base_of tells words scenario first journal quiet rows l.prefix.more l.prefix.fact l.calm l.rests l.seen name there in
         let keys : HasOwnKeys d.now.group = subst HasOwnKeys (sym (d.group_is ∙ made)) its_keys in
         let after = taken words scenario journal base.0 base.1 tx name name name outcome offer (frozen_of d.now.group) 0 allowed_here p.0 p.1 d.now.group offer refl refl keys in
         participant_takes d.now.group tx outcome offer after.0 lock after.1
 
     finish_true : IsTrueEntry r.me r.group (Finish tx outcome)
     finish_true =
-        let b = bound d.first.group free tx tx d.entries d.did (ap (λ (x : Group). bond_of x.core) (sym d.group_is) ∙ (sym (lead_bond all rows name ending.host d.now lead d.is) ∙ its_bond)) in
+        let b = bound d.first.group free tx tx d.entries d.did (ap (λ (x : Group). bond_of x.core) (sym d.group_is) ∙ (sym (lead_bond all rows name ending.host d.now lead d.fact) ∙ its_bond)) in
         subst (λ (x : ReplicaState). Decides (applied x.group (Finish tx outcome))) now_is (takes b.0 b.1 b.2 b.3)
 
   -- ---- all that is in flight

@@ -30,14 +30,14 @@ module _ (bounded : ValidScenariosAreBounded) (begin : ValidScenariosBeginWell) 
   -- a group of first rows is one of the journal
   stays_named : (words : ℕ → ℕ → ℕ × ℕ) (scenario : Scenario) (journal rows more : Rows) (base : Base) → IsValid scenario → Lawful as_nodes words scenario journal → journal ≡ rows ++ more → Among base (groups_at as_nodes scenario.groups rows)
       → IsGroupOf as_nodes words scenario journal base
-  stays_named words scenario journal rows more base valid lawful is among =
+  stays_named words scenario journal rows more base valid lawful fact among =
       let ready = begin (owner_in as_nodes scenario journal) (free as_nodes scenario journal) as_nodes refl scenario valid in
       record {
         open_slots = refl;
         valid = valid;
         lawful = lawful;
-        stands = subst (λ xs. Among base (groups_at as_nodes scenario.groups xs)) (sym is)
-            ((stay (sources_of scenario journal) as_nodes words scenario (route_of ready.first) ready.well journal (orders_allowed as_nodes words scenario (bounded scenario valid) allowed wishes positions journal lawful) lawful rows more is).groups base among);
+        stands = subst (λ xs. Among base (groups_at as_nodes scenario.groups xs)) (sym fact)
+            ((stay (sources_of scenario journal) as_nodes words scenario (route_of ready.first) ready.well journal (orders_allowed as_nodes words scenario (bounded scenario valid) allowed wishes positions journal lawful) lawful rows more fact).groups base among);
       }
 
   module _ (words : ℕ → ℕ → ℕ × ℕ) (scenario : Scenario) (journal : Rows) (base : Base) (group : IsGroupOf as_nodes words scenario journal base) where
@@ -73,7 +73,7 @@ module _ (bounded : ValidScenariosAreBounded) (begin : ValidScenariosBeginWell) 
     queued = each_got Queues log (λ place c at. (let offer = entry_offered as_nodes base journal its.lawful place c at in its.requested offer.0 offer.1 c offer.2))
 
     shared : (c : Command) → Queues c → BeginsShared c
-    shared c m tx body order is = (subst Queues is m).0.1
+    shared c m tx body order fact = (subst Queues fact m).0.1
 
     -- what was recorded of all
     apart_so : PartiesAreApart (stories_at as_nodes scenario.groups journal)
@@ -109,7 +109,7 @@ module _ (bounded : ValidScenariosAreBounded) (begin : ValidScenariosBeginWell) 
         let same = same_Some e.0 o.0 (sym e.1 ∙ o.1) in
         let h = stories_home sources scenario.groups (entries_at as_nodes scenario.groups journal) well.place (deciding_rows sources as_nodes scenario.groups well.place journal all.turn).allowed tx o.0 o.1 in
         let home = h.home into (ap (λ (y : Story). y.outcome) (sym same) ∙ e.2) in
-        (h.drawn ∙ ap Some (sym home), λ is. h.apart (unsigned offer) o.2 (o.3 ∙ (sym is ∙ home)))
+        (h.drawn ∙ ap Some (sym home), λ fact. h.apart (unsigned offer) o.2 (o.3 ∙ (sym fact ∙ home)))
 
     -- ---- a replica
 

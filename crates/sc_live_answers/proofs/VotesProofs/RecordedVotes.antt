@@ -40,10 +40,10 @@ module _ (tells : ReplicasAreRecorded) (sound : ValidJournalsAreSound) (logs : V
   all = births as_nodes scenario
 
   quiet_lawful : Lawful as_nodes words scenario quiet
-  quiet_lawful = lawful-prefix (system_of as_nodes words scenario) (schedule scenario) quiet l.rests.prefix.more (subst (Lawful as_nodes words scenario) l.rests.prefix.is l.calm.lawful)
+  quiet_lawful = lawful-prefix (system_of as_nodes words scenario) (schedule scenario) quiet l.rests.prefix.more (subst (Lawful as_nodes words scenario) l.rests.prefix.fact l.calm.lawful)
 
   the_map : IsOneMap (world_at as_nodes scenario.groups quiet)
-  the_map = (sound as_nodes refl words scenario l.calm.valid journal l.calm.lawful quiet l.rests.prefix.more l.rests.prefix.is).whole
+  the_map = (sound as_nodes refl words scenario l.calm.valid journal l.calm.lawful quiet l.rests.prefix.more l.rests.prefix.fact).whole
 
   the_logs : AreItsLogs as_nodes scenario.groups quiet
   the_logs = logs as_nodes refl words scenario l.calm.valid quiet quiet_lawful
@@ -52,20 +52,20 @@ module _ (tells : ReplicasAreRecorded) (sound : ValidJournalsAreSound) (logs : V
   Quiet who = StandsQuiet (replicas_after scenario quiet) who
 
   pub pred_at : (who : Draw) (q : StandsQuiet (replicas_after scenario quiet) who) (behind : Draw) → behind ≡ q.lead.group.core.succ.group → (s : StandsQuiet (replicas_after scenario quiet) behind) → s.lead.group.core.pred.group ≡ who
-  pred_at who q behind e = subst (λ b. (s : Quiet b) → s.lead.group.core.pred.group ≡ who) (sym e) (λ s. pred_is words scenario first quiet the_map the_logs l.rests.known l.rests.is who q s)
+  pred_at who q behind e = subst (λ b. (s : Quiet b) → s.lead.group.core.pred.group ≡ who) (sym e) (λ s. pred_is words scenario first quiet the_map the_logs l.rests.known l.rests.fact who q s)
 
   meets_at : (who : Draw) (q : StandsQuiet (replicas_after scenario quiet) who) (behind : Draw) → behind ≡ q.lead.group.core.succ.group → (who ≡ q.lead.group.core.succ.group → ⊥) → (s : StandsQuiet (replicas_after scenario quiet) behind) → Meets q.lead.group s.lead.group
-  meets_at who q behind e other = subst (λ b. (s : Quiet b) → Meets q.lead.group s.lead.group) (sym e) (λ s. meet_so words scenario first quiet the_map the_logs l.rests.known l.rests.is who q s other)
+  meets_at who q behind e other = subst (λ b. (s : Quiet b) → Meets q.lead.group s.lead.group) (sym e) (λ s. meet_so words scenario first quiet the_map the_logs l.rests.known l.rests.fact who q s other)
 
   pub own_id : (it : Doer) (d : HasDone (births as_nodes scenario) quiet rows it) → d.first.group.core.id ≡ it.group
-  own_id it d = (l.rests.is.kept it.group it.host d.first (sym (l.seen it.group it.host) ∙ d.was)).name_is
+  own_id it d = (l.rests.fact.kept it.group it.host d.first (sym (l.seen it.group it.host) ∙ d.was)).name_is
 
   stood : (it : Doer) (d : HasDone (births as_nodes scenario) quiet rows it) → (s : StandsQuiet (replicas_after scenario quiet) it.group) × (d.first ≡ s.lead)
-  stood it d = led_first tells words scenario first journal quiet rows l.prefix.more l.prefix.is l.calm l.rests l.seen it d
+  stood it d = led_first tells words scenario first journal quiet rows l.prefix.more l.prefix.fact l.calm l.rests l.seen it d
 
   locks : (it : Doer) (d : HasDone (births as_nodes scenario) quiet rows it) → LockIsRecorded scenario journal it.group d.now.group
   locks it d =
-      locks_at tells words scenario first journal quiet rows l.prefix.more l.prefix.is l.calm l.rests l.seen it.group it.host d.now (there_of tells words scenario first journal quiet rows l.prefix.more l.prefix.is l.calm l.rests l.seen it d) d.is
+      locks_at tells words scenario first journal quiet rows l.prefix.more l.prefix.fact l.calm l.rests l.seen it.group it.host d.now (there_of tells words scenario first journal quiet rows l.prefix.more l.prefix.fact l.calm l.rests l.seen it d) d.fact
 
   -- two that did something meet, as they were
   both_meet : (one two : Doer) (c : HasDone (births as_nodes scenario) quiet rows one) (d : HasDone (births as_nodes scenario) quiet rows two) → two.group ≡ c.first.group.core.succ.group → is_alone c.first.group.core ≡ false → Meets c.first.group d.first.group
@@ -77,12 +77,12 @@ module _ (tells : ReplicasAreRecorded) (sound : ValidJournalsAreSound) (logs : V
       (subst (λ (x : ReplicaState). Meets q.0.lead.group x.group) (sym s.1)
       (meets_at one.group q.0 two.group (next ∙ succ) (λ e. not_itself c.first.group.core one.group (own_id one c) alone (e ∙ sym succ)) s.0))
 
-  module _ (deal : Deal) (agreed : Bool) (host : ℕ) (is : stage ≡ Recorded deal agreed host) (own : deal.coord ≡ name) where
+  module _ (deal : Deal) (agreed : Bool) (host : ℕ) (fact : stage ≡ Recorded deal agreed host) (own : deal.coord ≡ name) where
     stands : IsAt (Recorded deal agreed host) (scene_at (births as_nodes scenario) rows)
-    stands = subst (λ x. IsAt x (scene_at all rows)) is l.untouched.stands
+    stands = subst (λ x. IsAt x (scene_at all rows)) fact l.untouched.stands
 
     since : IsTrueSince scenario quiet rows (Recorded deal agreed host)
-    since = subst (IsTrueSince scenario quiet rows) is l.true_since
+    since = subst (IsTrueSince scenario quiet rows) fact l.true_since
 
     abbrev c : HasDone (births as_nodes scenario) quiet rows (doer deal.coord deal.chief (opened deal.tx deal.turn))
     c = since.done.0
@@ -94,16 +94,16 @@ module _ (tells : ReplicasAreRecorded) (sound : ValidJournalsAreSound) (logs : V
     chief_is = some_nat deal.chief node (sym stands.leads.0 ∙ (ap (scene_at all rows).lead own ∙ (tell.led all rows name node r l.leads).0))
 
     now_is : c.now ≡ r
-    now_is = same_Some c.now r (sym c.is ∙ (ap (λ h. view_at all rows deal.coord h) chief_is ∙ (ap (λ n. view_at all rows n node) own ∙ l.leads.is_there)))
+    now_is = same_Some c.now r (sym c.fact ∙ (ap (λ h. view_at all rows deal.coord h) chief_is ∙ (ap (λ n. view_at all rows n node) own ∙ l.leads.is_there)))
 
     coord_bond : ((scene_at (births as_nodes scenario) rows).at deal.coord).bond ≡ Asking deal.tx deal.asked deal.turn
     coord_bond = ap (λ (h : Here). h.bond) stands.parties.0.0
 
     bond_is : bond_of c.now.group.core ≡ Asking deal.tx deal.asked deal.turn
-    bond_is = sym (lead_bond all rows deal.coord deal.chief c.now stands.leads.0 c.is) ∙ coord_bond
+    bond_is = sym (lead_bond all rows deal.coord deal.chief c.now stands.leads.0 c.fact) ∙ coord_bond
 
     made : Coordinates c.first.group deal.tx deal.asked deal.turn c.now.group
-    made = coords tells words scenario first journal quiet rows l.prefix.more l.prefix.is l.calm l.rests l.seen deal stands.leads.0 coord_bond c
+    made = coords tells words scenario first journal quiet rows l.prefix.more l.prefix.fact l.calm l.rests l.seen deal stands.leads.0 coord_bond c
 
     -- whom it asks
     asks_whom : (asked : Draw) (turn : Turn) → bond_of c.now.group.core ≡ Asking deal.tx asked turn → (deal.asked ≡ asked) × (deal.turn ≡ turn)
@@ -116,7 +116,7 @@ module _ (tells : ReplicasAreRecorded) (sound : ValidJournalsAreSound) (logs : V
       lone_so e =
           let o : IsOpened c.first.group deal.tx deal.asked Lone c.now.group = subst (λ t. Coordinates c.first.group deal.tx deal.asked t c.now.group) e made in
           let b = lone_split c.first.group.core o.body o.turn_is in
-          let lock : c.now.group.core.lock ≡ Coordinating deal.tx (At.Split b.0 b.1) o.order None = ap (λ (g : Group). g.core.lock) o.is ∙ ap (λ x. Coordinating deal.tx x o.order None) b.2 in (
+          let lock : c.now.group.core.lock ≡ Coordinating deal.tx (At.Split b.0 b.1) o.order None = ap (λ (g : Group). g.core.lock) o.fact ∙ ap (λ x. Coordinating deal.tx x o.order None) b.2 in (
             λ asked turn bond. (
               λ lone. ap (λ k. (before_in k c.now.group.core).heard) lock,
               λ part at next same. no_next part at (sym e ∙ ((asks_whom asked turn bond).1 ∙ next)),
@@ -129,22 +129,22 @@ module _ (tells : ReplicasAreRecorded) (sound : ValidJournalsAreSound) (logs : V
           let p : HasDone all quiet rows (doer part at (Promising deal.tx ∷ [])) = (subst (λ t. Each (HasDone all quiet rows) (heard_doer deal.tx t)) e since.done.1.1).0 in
           let lead = (subst (λ t. Each (λ (x : Draw × ℕ). (scene_at all rows).lead x.0 ≡ Some x.1) (heard_lead t)) e stands.leads.1.1).0 in
           let bond = ap (λ (h : Here). h.bond) (subst (λ t. Each (λ (x : Draw × Here). (scene_at all rows).at x.0 ≡ x.1) (heard deal.tx t)) e stands.parties.0.1.1).0 in
-          let b = both tells words scenario first journal quiet rows l.prefix.more l.prefix.is l.calm l.rests l.seen deal stands.leads.0 coord_bond c part at e lead bond p in
-          let tx = tx_is tells words scenario first journal quiet rows l.prefix.more l.prefix.is l.calm l.rests l.seen deal stands.leads.0 coord_bond c part at e lead bond p in
-          let frozen = frozen_is tells words scenario first journal quiet rows l.prefix.more l.prefix.is l.calm l.rests l.seen deal stands.leads.0 coord_bond c part at e lead bond p in
-          let its_vote = heard_vote tells words scenario first journal quiet rows l.prefix.more l.prefix.is l.calm l.rests l.seen deal stands.leads.0 coord_bond c part at e lead bond p in
+          let b = both tells words scenario first journal quiet rows l.prefix.more l.prefix.fact l.calm l.rests l.seen deal stands.leads.0 coord_bond c part at e lead bond p in
+          let tx = tx_is tells words scenario first journal quiet rows l.prefix.more l.prefix.fact l.calm l.rests l.seen deal stands.leads.0 coord_bond c part at e lead bond p in
+          let frozen = frozen_is tells words scenario first journal quiet rows l.prefix.more l.prefix.fact l.calm l.rests l.seen deal stands.leads.0 coord_bond c part at e lead bond p in
+          let its_vote = heard_vote tells words scenario first journal quiet rows l.prefix.more l.prefix.fact l.calm l.rests l.seen deal stands.leads.0 coord_bond c part at e lead bond p in
           let core = c.now.group.core in
           let f = b.heard.heard.frozen in
           let tells_it = locks (doer deal.coord deal.chief (opened deal.tx deal.turn)) c in
-          let lock : core.lock ≡ Coordinating deal.tx At.Merge b.heard.order (Some b.heard.heard) = ap (λ (g : Group). g.core.lock) b.heard.is ∙ ap (λ t. Coordinating t At.Merge b.heard.order (Some b.heard.heard)) tx in
+          let lock : core.lock ≡ Coordinating deal.tx At.Merge b.heard.order (Some b.heard.heard) = ap (λ (g : Group). g.core.lock) b.heard.fact ∙ ap (λ t. Coordinating t At.Merge b.heard.order (Some b.heard.heard)) tx in
           let offers = tells_it.offers deal.tx At.Merge b.heard.order (Some b.heard.heard) lock (offer_with core At.Merge) refl in
           let asks = tells_it.asks deal.tx At.Merge b.heard.order (Some b.heard.heard) lock (watch_with core f.succ.group core.succ.group (merged_link core f)) refl in
-          let base = base_of tells words scenario first journal quiet rows l.prefix.more l.prefix.is l.calm l.rests l.seen deal.coord (there_of tells words scenario first journal quiet rows l.prefix.more l.prefix.is l.calm l.rests l.seen (doer deal.coord deal.chief (opened deal.tx deal.turn)) c) in
+          let base = base_of tells words scenario first journal quiet rows l.prefix.more l.prefix.fact l.calm l.rests l.seen deal.coord (there_of tells words scenario first journal quiet rows l.prefix.more l.prefix.fact l.calm l.rests l.seen (doer deal.coord deal.chief (opened deal.tx deal.turn)) c) in
           let few : length (united core.members f.members) ≤ 9 = tells.fits words scenario journal base.0 base.1 deal.tx core.succ.group deal.coord (offer_with core At.Merge) f 0 refl offers its_vote in
-          let again : c.now.group ≡ heard_group (begun_group c.first.group deal.tx b.opened.body b.opened.order) b.heard.tx At.Merge b.heard.order b.heard.heard = b.heard.is ∙ ap (λ g. heard_group g b.heard.tx At.Merge b.heard.order b.heard.heard) b.opened.is in
-          let merge : b.opened.body ≡ At.Merge = same_body deal.tx b.heard.tx b.opened.body At.Merge b.opened.order b.heard.order None b.heard.got (sym (ap (λ (g : Group). g.core.lock) b.opened.is) ∙ b.heard.lock) in
+          let again : c.now.group ≡ heard_group (begun_group c.first.group deal.tx b.opened.body b.opened.order) b.heard.tx At.Merge b.heard.order b.heard.heard = b.heard.fact ∙ ap (λ g. heard_group g b.heard.tx At.Merge b.heard.order b.heard.heard) b.opened.fact in
+          let merge : b.opened.body ≡ At.Merge = same_body deal.tx b.heard.tx b.opened.body At.Merge b.opened.order b.heard.order None b.heard.got (sym (ap (λ (g : Group). g.core.lock) b.opened.fact) ∙ b.heard.lock) in
           let alone = (none_of (is_alone c.first.group.core) _ (limit_refused c.first.group.core) (subst (λ x. opening_refused c.first.group.core x ≡ None) merge b.opened.may)).0 in
-          let succ : part ≡ c.first.group.core.succ.group = b.heard.part_is ∙ ap (λ (g : Group). g.core.succ.group) b.opened.is in
+          let succ : part ≡ c.first.group.core.succ.group = b.heard.part_is ∙ ap (λ (g : Group). g.core.succ.group) b.opened.fact in
           let meet = both_meet (doer deal.coord deal.chief (opened deal.tx deal.turn)) (doer part at (Promising deal.tx ∷ [])) c p succ alone in
           let fit : length (united c.first.group.core.members p.first.group.core.members) ≤ 9 =
           subst (λ (x : Frozen). length (united c.first.group.core.members x.members) ≤ 9) frozen (subst (λ (g : Group). length (united g.core.members f.members) ≤ 9) again few) in
@@ -172,10 +172,10 @@ module _ (tells : ReplicasAreRecorded) (sound : ValidJournalsAreSound) (logs : V
       p = subst (λ t. HasDone all quiet rows (doer deal.asked host (voted deal.tx t))) first_turn_is v
 
       p_bond : bond_of p.now.group.core ≡ Bound deal.tx
-      p_bond = sym (lead_bond all rows deal.asked host p.now stands.leads.1.0 p.is) ∙ (ap (λ (h : Here). h.bond) stands.parties.0.1.0 ∙ ap (λ b. bound_by b deal.tx) agrees)
+      p_bond = sym (lead_bond all rows deal.asked host p.now stands.leads.1.0 p.fact) ∙ (ap (λ (h : Here). h.bond) stands.parties.0.1.0 ∙ ap (λ b. bound_by b deal.tx) agrees)
 
       p_free : p.first.group.core.lock ≡ Free
-      p_free = free_first tells words scenario first journal quiet rows l.prefix.more l.prefix.is l.calm l.rests l.seen (doer deal.asked host (Promising deal.tx ∷ [])) p
+      p_free = free_first tells words scenario first journal quiet rows l.prefix.more l.prefix.fact l.calm l.rests l.seen (doer deal.asked host (Promising deal.tx ∷ [])) p
 
       -- it has promised by an offer that it agreed to
       record HasPromised : Type 0 where
@@ -190,8 +190,8 @@ module _ (tells : ReplicasAreRecorded) (sound : ValidJournalsAreSound) (logs : V
           promise_by it.0 it.1 it.2
         where
           promise_by : (coord : Draw) (n : ℕ) → IsBoundBy p.first.group p_free deal.tx deal.tx coord false n (state_after p.first.group p.entries) → HasPromised
-          promise_by coord n (ByOffer offer w k agree is) = record { offer = offer; lock = ap (λ (x : Group). x.core.lock) (p.group_is ∙ is); same = ap frozen_of (p.group_is ∙ is); yes = agree }
-          promise_by coord n (ByWatch asks w k agree is) = absurd (true≢false (sym w))
+          promise_by coord n (ByOffer offer w k agree fact) = record { offer = offer; lock = ap (λ (x : Group). x.core.lock) (p.group_is ∙ fact); same = ap frozen_of (p.group_is ∙ fact); yes = agree }
+          promise_by coord n (ByWatch asks w k agree fact) = absurd (true≢false (sym w))
 
       its_promise : IsAllowedBy scenario journal deal.asked (Prepared deal.tx promise.offer) × IsAllowedBy scenario journal deal.asked (RecordVote deal.tx (Vows.Yes (frozen_of p.now.group)) 0)
       its_promise = (locks (doer deal.asked host (Promising deal.tx ∷ [])) p).promises deal.tx promise.offer promise.lock
@@ -207,7 +207,7 @@ module _ (tells : ReplicasAreRecorded) (sound : ValidJournalsAreSound) (logs : V
       meet = both_meet (doer deal.coord deal.chief (opened deal.tx deal.turn)) (doer deal.asked host (Promising deal.tx ∷ [])) c p o.asked_is alone
 
       lock_is : c.now.group.core.lock ≡ Coordinating deal.tx o.body o.order None
-      lock_is = ap (λ (g : Group). g.core.lock) o.is
+      lock_is = ap (λ (g : Group). g.core.lock) o.fact
 
       offers : IsAllowedBy scenario journal c.now.group.core.succ.group (Prepared deal.tx (offer_with c.now.group.core o.body))
       offers = (locks (doer deal.coord deal.chief (opened deal.tx deal.turn)) c).offers deal.tx o.body o.order None lock_is (offer_with c.now.group.core o.body) (has_offer c.first.group.core c.now.group.core o.body o.turn_is)
@@ -220,7 +220,7 @@ module _ (tells : ReplicasAreRecorded) (sound : ValidJournalsAreSound) (logs : V
         may = subst (λ x. opening_refused c.first.group.core x ≡ None) e o.may;
         offer = promise.offer;
         yes = promise.yes;
-        arc = ap (λ (x : Offer). x.arc) same_unsigned ∙ ap (λ (g : Group). g.core.arc) o.is;
+        arc = ap (λ (x : Offer). x.arc) same_unsigned ∙ ap (λ (g : Group). g.core.arc) o.fact;
         body_is = ap (λ (x : Offer). x.body) same_unsigned ∙ e;
       }
 
@@ -239,14 +239,14 @@ module _ (tells : ReplicasAreRecorded) (sound : ValidJournalsAreSound) (logs : V
 
       few : (e : o.body ≡ At.Merge) → length (united c.first.group.core.members p.first.group.core.members) ≤ 9
       few e =
-          let base = base_of tells words scenario first journal quiet rows l.prefix.more l.prefix.is l.calm l.rests l.seen deal.coord (there_of tells words scenario first journal quiet rows l.prefix.more l.prefix.is l.calm l.rests l.seen (doer deal.coord deal.chief (opened deal.tx deal.turn)) c) in
+          let base = base_of tells words scenario first journal quiet rows l.prefix.more l.prefix.fact l.calm l.rests l.seen deal.coord (there_of tells words scenario first journal quiet rows l.prefix.more l.prefix.fact l.calm l.rests l.seen (doer deal.coord deal.chief (opened deal.tx deal.turn)) c) in
           subst (λ (x : Frozen). length (united c.first.group.core.members x.members) ≤ 9) handed
-          (subst (λ (g : Group). length (united g.core.members frozen.members) ≤ 9) o.is
+          (subst (λ (g : Group). length (united g.core.members frozen.members) ≤ 9) o.fact
           (tells.fits words scenario journal base.0 base.1 deal.tx c.now.group.core.succ.group deal.coord (offer_with c.now.group.core o.body) frozen by e offers allowed))
 
       merge_so : (e : o.body ≡ At.Merge) → (c.now.group.core.gone ≡ None) × (is_member c.now.group.core.members r.me ≡ true) → IsTrueEntry r.me c.now.group (RecordVote deal.tx (Vows.Yes frozen) by)
       merge_so e stay =
-          let may : may_merge c.now.group frozen ≡ true = subst (λ g. may_merge g frozen ≡ true) (sym o.is) (subst (λ x. may_merge c.first.group x ≡ true) (sym handed) (merges c.first.group p.first.group meet (few e))) in
+          let may : may_merge c.now.group frozen ≡ true = subst (λ g. may_merge g frozen ≡ true) (sym o.fact) (subst (λ x. may_merge c.first.group x ≡ true) (sym handed) (merges c.first.group p.first.group meet (few e))) in
           elim (merge_true c.now.group deal.tx o.order by frozen r.me (lock_of At.Merge e) may stay.0 stay.1) [
             | inl d ↦ inl d
             | inr a ↦ inr (a.0, ((a.1.0, a.1.1), λ asked bond same. not_asked (same ∙ sym (asks_whom asked First bond).0)))
@@ -254,13 +254,13 @@ module _ (tells : ReplicasAreRecorded) (sound : ValidJournalsAreSound) (logs : V
 
       repart_so : (at : ℕ) (e : o.body ≡ At.Repart at) → IsTrueEntry r.me c.now.group (RecordVote deal.tx (Vows.Yes frozen) by)
       repart_so at e = inl (repart_true c.now.group deal.tx o.order by frozen at (lock_of (At.Repart at) e)
-          (subst (λ (g : Group). holds g.core.arc at ≡ true → can_repart g.core at frozen ≡ true) (sym o.is) (λ held. subst (λ x. can_repart c.first.group.core at x ≡ true) (sym handed) (gives c.first.group p.first.group meet at (agreed_to (At.Repart at) e) held)))
-          (subst (λ (g : Group). holds g.core.arc at ≡ false → (can_repart g.core at frozen && not (has_key_of g.pairs (taken at frozen).pairs)) ≡ true) (sym o.is)
+          (subst (λ (g : Group). holds g.core.arc at ≡ true → can_repart g.core at frozen ≡ true) (sym o.fact) (λ held. subst (λ x. can_repart c.first.group.core at x ≡ true) (sym handed) (gives c.first.group p.first.group meet at (agreed_to (At.Repart at) e) held)))
+          (subst (λ (g : Group). holds g.core.arc at ≡ false → (can_repart g.core at frozen && not (has_key_of g.pairs (taken at frozen).pairs)) ≡ true) (sym o.fact)
           (λ out. subst (λ x. (can_repart c.first.group.core at x && not (has_key_of c.first.group.pairs (taken at x).pairs)) ≡ true) (sym handed) (takes c.first.group p.first.group meet at (agreed_to (At.Repart at) e) out))))
 
       migrate_so : (node : ℕ) (e : o.body ≡ At.Migrate node) → IsTrueEntry r.me c.now.group (RecordVote deal.tx (Vows.Yes frozen) by)
       migrate_so node e = inl (migrate_true c.now.group deal.tx o.order by frozen node (lock_of (At.Migrate node) e)
-          (subst (λ (g : Group). can_migrate g.core node frozen ≡ true) (sym o.is) (subst (λ x. can_migrate c.first.group.core node x ≡ true) (sym handed) (migrates c.first.group p.first.group meet node (agreed_to (At.Migrate node) e)))))
+          (subst (λ (g : Group). can_migrate g.core node frozen ≡ true) (sym o.fact) (subst (λ x. can_migrate c.first.group.core node x ≡ true) (sym handed) (migrates c.first.group p.first.group meet node (agreed_to (At.Migrate node) e)))))
 
       yes_so : (c.now.group.core.gone ≡ None) × (is_member c.now.group.core.members r.me ≡ true) → (body : Body) → o.body ≡ body → IsTrueEntry r.me c.now.group (RecordVote deal.tx (Vows.Yes frozen) by)
       yes_so stay At.Merge e = merge_so e stay
@@ -270,9 +270,9 @@ module _ (tells : ReplicasAreRecorded) (sound : ValidJournalsAreSound) (logs : V
 
   -- ---- by the command
 
-  module _ (flight : Flight Command) (among : Among flight r.leader.flights) (tx : Draw) (watch says : Bool) (by : ℕ) (is : work_by flight.value ≡ Some (Records tx watch says by)) where
+  module _ (flight : Flight Command) (among : Among flight r.leader.flights) (tx : Draw) (watch says : Bool) (by : ℕ) (fact : work_by flight.value ≡ Some (Records tx watch says by)) where
     there : IsThere (births as_nodes scenario) quiet name
-    there = was_there tells words scenario first journal quiet rows name node r stage l flight among (Records tx watch says by) is
+    there = was_there tells words scenario first journal quiet rows name node r stage l flight among (Records tx watch says by) fact
 
     stays : (r.group.core.gone ≡ None) × (is_member r.group.core.members r.me ≡ true)
     stays = stands_in tells words scenario first journal quiet rows name node r stage l there
@@ -280,7 +280,7 @@ module _ (tells : ReplicasAreRecorded) (sound : ValidJournalsAreSound) (logs : V
     allowed_here : IsAllowedBy scenario journal name flight.value
     allowed_here =
         Each-among (λ (f : Flight Command). IsAllowedBy scenario journal name f.value) r.leader.flights flight
-        (flights_at tells words scenario first journal quiet rows l.prefix.more l.prefix.is l.calm l.rests l.seen name node r there l.leads.is_there) among
+        (flights_at tells words scenario first journal quiet rows l.prefix.more l.prefix.fact l.calm l.rests l.seen name node r there l.leads.is_there) among
 
     -- it is the vote of the stage
     abbrev Voted_at : Type 0
@@ -304,7 +304,7 @@ module _ (tells : ReplicasAreRecorded) (sound : ValidJournalsAreSound) (logs : V
     voted_at (OfOutcome t k ending) = absurd (no_outcome t k)
 
     it : Voted_at
-    it = voted_at (at_stage tells words scenario first journal quiet rows name node r stage l flight among (Records tx watch says by) is)
+    it = voted_at (at_stage tells words scenario first journal quiet rows name node r stage l flight among (Records tx watch says by) fact)
 
     watch_true : watch ≡ true → (vote : Past) → IsTrueEntry r.me r.group (RecordWatch tx vote by)
     watch_true w vote =

@@ -4,20 +4,17 @@ use Rattle.std.specs.Prelude.{is_some}
 use Rattle.std.specs.List.{list_any}
 use Rattle.std.proofs.lemmas.Bool.{cond-true}
 use Rattle.sc_base.specs.Definitions.{is_member, least_of}
-use Rattle.sc_node_table.specs.Values.{Draw, Offer, Watch, Command, Call, Split, Begin, Prepared, RecordVote, GiveUp, Watched, RecordWatch, Core, Lock, Free, Coordinating, Promised, Watching, Effect, Link, Outcome, Abort, Past, Vote, Route, OrderResult, AnswerBody, Mail, Told, TxOutcome, Prepare, Accept, Learn, Must, Gap}
-use Rattle.sc_words.specs.commands.Definitions.{decided_in, cast_in, is_changed}
-use Rattle.sc_words.specs.declared.commands.votes.Past.TheVariants as Cast
-use Rattle.sc_words.specs.declared.commands.votes.Vote.TheVariants as Votes
+use Rattle.sc_node_table.specs.Values.{Command, Call, Effect, Route, OrderResult, AnswerBody, Mail, Told, Prepare, Accept, Learn, Must, Gap}
 use Rattle.sc_mail.specs.declared.bodies.AnswerBody.TheVariants as Says
 use Rattle.sc_words.specs.declared.paxos.answers.Must.TheVariants.{Value, Free as Open}
 use Rattle.sc_words.specs.paxos.Definitions.{must}
 use Rattle.sc_paxos_law.proofs.Lemmas.{Among-left, Among-right}
 use Rattle.sc_group_table.specs.policy.Definitions.{is_reported}
 use Rattle.sc_group_table.specs.machine.Definitions.{Group, applied}
-use Rattle.sc_node_table.specs.Definitions.{elected, ended, stopped, open_nodes, entered, answer_of, answered_or_put_back, order_result, effect_reported, announced, learnt_to, welcomed, landed, left_gone, left, is_among, looked_for, looked, executed_one, executed, install_to, asked_to_promise, welcomed_all, answered_all, sent_others, order_number, result_sent, order_reported, Found, is_act, from_backlog, from_acts, from_queues, found_by, found_for, offered, pumped_from, pumped, ReplicaState, Place, name_of, next, members, settled, may_offer, taken_at, under_way, is_idle, last_slot, before_of, asked_first, begun_result, spoken_number, result_reported, begun_reported, asked_on, vote_sent, watch_sent, aborted_to, aborted_watcher, given_up_by, vote_answered, released_to, watch_answered_by, went_on, spoken_mails, spoken}
+use Rattle.sc_node_table.specs.Definitions.{elected, ended, stopped, open_nodes, entered, answer_of, answered_or_put_back, order_result, effect_reported, announced, learnt_to, welcomed, landed, left_gone, left, is_among, looked_for, looked, executed_one, executed, install_to, asked_to_promise, welcomed_all, answered_all, sent_others, order_number, result_sent, order_reported, Found, is_act, from_backlog, from_acts, from_queues, found_by, found_for, offered, pumped_from, pumped, ReplicaState, Place, name_of, next, members, settled, may_offer, taken_at, under_way, is_idle, last_slot, before_of, begun_result, spoken_number, result_reported, begun_reported, spoken_mails, spoken}
 use Rattle.sc_node_table.specs.declared.Before.{Before}
-use Rattle.sc_law_walks.proofs.Lemmas.{either_way, executed_place, welcomed_place, next_found, Talk, grows}
-use Rattle.sc_law_walks.proofs.Talks.{all_sent, others_sent, client_reported, desk_reported, one_answered, all_answered, all_dismissed, vote_reported, watch_reported, spoken_said}
+use Rattle.sc_law_walks.proofs.Lemmas.{either_way, executed_place, welcomed_place, next_found, Talk, parties, grows}
+use Rattle.sc_law_walks.proofs.Talks.{all_sent, others_sent, client_reported, desk_reported, one_answered, all_answered, all_dismissed, went_said, spoken_said}
 use Rattle.sc_live_answers.specs.Definitions.{IsTold}
 
 -- more mail reports it too
@@ -124,7 +121,7 @@ module _ (n : ℕ) (result : OrderResult) where
 
   calls_told : (answer : Option AnswerBody) (command : Command) (place : Place) → H place → H (answered_or_put_back answer command place)
   unfolding answered_or_put_back
-  calls_told (Some answer) (Call client seq op) (r, mails) m = client_reported r.me Q (talk r.me) client (name_of r) seq answer mails m
+  calls_told (Some answer) (Call client seq op) (r, mails) m = client_reported r.me Q (parties r.me Q (talk r.me)) client (name_of r) seq answer mails m
   calls_told None (Call client seq op) (r, mails) m = m
   calls_told (Some answer) _ place m = m
   calls_told None _ place m = m
@@ -190,7 +187,7 @@ module _ (n : ℕ) (result : OrderResult) where
 
   -- a report of this number and result
   own_reports : (me number : ℕ) (other : OrderResult) (mails : List Mail) → is_reported n ≡ true → number ≡ n → other ≡ result → Q (order_reported me number other mails)
-  own_reports me number other mails told same is = subst (λ (k : ℕ). Q (order_reported me k other mails)) (sym same) (subst (λ (x : OrderResult). Q (order_reported me n x mails)) (sym is) (order_reports me mails told))
+  own_reports me number other mails told same fact = subst (λ (k : ℕ). Q (order_reported me k other mails)) (sym same) (subst (λ (x : OrderResult). Q (order_reported me n x mails)) (sym fact) (order_reports me mails told))
 
   some_own : (other : OrderResult) → Some other ≡ Some result → other ≡ result
   some_own other e = cc
@@ -209,65 +206,10 @@ module _ (n : ℕ) (result : OrderResult) where
   begun_reports me number (Some other) mails told same e = own_reports me number other mails told same (some_own other e)
 
   -- how a transaction goes on comes behind the report
-  module _ (me : ℕ) where
-    asks_first : (lock : Lock) (core : Core) (mails : List Mail) → Q mails → Q (asked_first lock me core mails)
-    asks_first (Coordinating tx body order heard) core mails m = more_said mails _ m
-    asks_first Free core mails m = m
-    asks_first (Promised tx offer) core mails m = m
-    asks_first (Watching tx watch) core mails m = m
-
-    asks_on : (effect : Effect) (core : Core) (mails : List Mail) → Q mails → Q (asked_on effect me core mails)
-    asks_on effect core mails m = either_way Q (is_changed effect) (asked_first core.lock me core mails) mails (asks_first core.lock core mails m) m
-
-    votes_sent : (o : Option Past) (group : Group) (tx : Draw) (offer : Offer) (mails : List Mail) → Q mails → Q (vote_sent o me group tx offer mails)
-    votes_sent None group tx offer mails m = m
-    votes_sent (Some vote) group tx offer mails m = vote_reported me Q (talk me) group offer.by tx offer vote mails m
-
-    watches_sent : (o : Option Past) (tx : Draw) (watch : Watch) (mails : List Mail) → Q mails → Q (watch_sent o me tx watch mails)
-    watches_sent None tx watch mails m = m
-    watches_sent (Some vote) tx watch mails m = watch_reported me Q (talk me) watch.by tx watch vote mails m
-
-    aborts_sent : (tx : Draw) (link : Link) (mails : List Mail) → Q mails → Q (aborted_to me tx link mails)
-    aborts_sent tx link mails m = all_sent me Q (TxOutcome tx link.group Abort) (λ to ms q. more_said ms _ q) link.members mails m
-
-    watcher_aborts : (tx : Draw) (o : Option (ℕ × Link)) (mails : List Mail) → Q mails → Q (aborted_watcher me tx o mails)
-    watcher_aborts tx None mails m = m
-    watcher_aborts tx (Some heard) mails m = aborts_sent tx heard.1 mails m
-
-    gives_up : (o : Option Outcome) (before : Before) (tx : Draw) (mails : List Mail) → Q mails → Q (given_up_by o me before tx mails)
-    gives_up None before tx mails m = m
-    gives_up (Some outcome) before tx mails m = watcher_aborts tx before.heard (aborted_to me tx before.succ mails) (aborts_sent tx before.succ mails m)
-
-    vote_replies : (o : Option Outcome) (vote : Vote) (before : Before) (tx : Draw) (by : ℕ) (mails : List Mail) → Q mails → Q (vote_answered o vote me before tx by mails)
-    vote_replies None vote before tx by mails m = m
-    vote_replies (Some outcome) (Votes.Yes frozen) before tx by mails m = more_said mails _ m
-    vote_replies (Some outcome) (Votes.No why) before tx by mails m = m
-
-    releases : (o : Option (ℕ × Link)) (succ : Link) (tx : Draw) (by : ℕ) (outcome : Outcome) (mails : List Mail) → Q mails → Q (released_to o me succ tx by outcome mails)
-    releases None succ tx by outcome mails m = more_said mails _ m
-    releases (Some heard) succ tx by outcome mails m = more_said _ _ (more_said mails _ m)
-
-    watch_replies : (o : Option Outcome) (vote : Past) (before : Before) (tx : Draw) (by : ℕ) (mails : List Mail) → Q mails → Q (watch_answered_by o vote me before tx by mails)
-    watch_replies None vote before tx by mails m = m
-    watch_replies (Some outcome) Cast.Yes before tx by mails m = releases before.heard before.succ tx by outcome mails m
-    watch_replies (Some outcome) (Cast.No why) before tx by mails m = either_way Q before.merges (aborted_to me tx before.succ mails) mails (aborts_sent tx before.succ mails m) m
-    watch_replies (Some outcome) Cast.Ended before tx by mails m = m
-
-    went_more : (group : Group) (before : Before) (effect : Effect) (command : Command) (mails : List Mail) → Q mails → Q (went_on me group before effect command mails)
-    unfolding went_on
-    went_more group before effect (Split at child order) mails m = asks_on effect group.core mails m
-    went_more group before effect (Begin tx body order) mails m = either_way Q (is_changed effect) _ mails (more_said mails _ m) m
-    went_more group before effect (Prepared tx offer) mails m = votes_sent (cast_in effect) group tx offer mails m
-    went_more group before effect (RecordVote tx vote by) mails m = vote_replies (decided_in effect) vote before tx by (asked_on effect me group.core mails) (asks_on effect group.core mails m)
-    went_more group before effect (GiveUp tx) mails m = gives_up (decided_in effect) before tx mails m
-    went_more group before effect (Watched tx watch) mails m = watches_sent (cast_in effect) tx watch mails m
-    went_more group before effect (RecordWatch tx vote by) mails m = watch_replies (decided_in effect) vote before tx by mails m
-    went_more group before effect _ mails m = m
-
   spoken_reports : (before : Before) (effect : Effect) (command : Command) (place : Place) → is_reported n ≡ true → spoken_number before.order command ≡ n → begun_result before.alone effect command ≡ Some result → H (spoken true before effect command place)
   unfolding spoken spoken_mails begun_reported
   spoken_reports before effect command (r, mails) told number e =
-      went_more r.me r.group before effect command (result_reported r.me (begun_result before.alone effect command) (spoken_number before.order command) mails)
+      went_said r.me Q (parties r.me Q (talk r.me)) r.group before effect command (result_reported r.me (begun_result before.alone effect command) (spoken_number before.order command) mails)
       (begun_reports r.me (spoken_number before.order command) (begun_result before.alone effect command) mails told number e)
 
   one_ends : (command : Command) (r : ReplicaState) (mails : List Mail) → is_reported n ≡ true → Ends command r.group → H (executed_one true command (r, mails))

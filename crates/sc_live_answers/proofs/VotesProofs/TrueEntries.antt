@@ -13,7 +13,7 @@ use Rattle.sc_scenario.specs.declared.scenario.scenarios.Scenario.{Scenario}
 use Rattle.sc_meaning.specs.sound.Definitions.{as_nodes, births, world_at, Lawful, Player, schedule, system_of, IsOneMap}
 use Rattle.sc_law_entries.specs.names.Definitions.{CoreNames, IsUsed, NamesAreDrawn}
 use Rattle.sc_live_steps.specs.calm.Definitions.{Rows, StandsQuiet}
-use Rattle.sc_live_steps.specs.orders.Definitions.{IsBegun, work_by, Answers, Asking, Ends, First, Here, Lone, Next, Opens, Records, Turn, Work, is_watch, Deal, IsAt, IsOrder, Stage, Weighs, heard, heard_lead}
+use Rattle.sc_live_steps.specs.orders.Definitions.{IsBegun, work_by, Answers, Ends, First, Here, Lone, Next, Opens, Records, Turn, Work, is_watch, Deal, IsAt, IsOrder, Stage, Weighs, heard, heard_lead}
 use Rattle.sc_live_journals.specs.scenes.Definitions.{StaysIn, IsThere, scene_at}
 use Rattle.sc_live_answers.specs.Definitions.{IsTrueEntry, HasDone, Promising, doer, heard_doer, opened, IsAskedOrCast, LeadsSince, VotesAreTrue, IsAllowedBy, LockIsRecorded, ReplicasAreRecorded, IsTrueSince}
 use Rattle.sc_actor.proofs.Lemmas.{lawful-prefix}
@@ -85,9 +85,9 @@ ordered_not : (gone : Option Route) (lock : Option Draw) (core : Core) (tx : Dra
 ordered_not gone lock core tx body order after group e = by gone (refused_in lock core (Begin tx body order)) refl e
   where
     by : (gone : Option Route) (why : Option OrderRefusal) → refused_in lock core (Begin tx body order) ≡ why → is_changed (ordered gone why after group).1 ≡ true → is_alone core ≡ false
-    by (Some into) why is c = absurd (true≢false (sym c))
-    by None (Some why) is c = absurd (true≢false (sym c))
-    by None None is c = refused_not lock core tx body order is
+    by (Some into) why fact c = absurd (true≢false (sym c))
+    by None (Some why) fact c = absurd (true≢false (sym c))
+    by None None fact c = refused_not lock core tx body order fact
 
 changed_not : (group : Group) (tx : Draw) (body : Body) (order : ℕ) → is_changed (applied group (Begin tx body order)).1 ≡ true → is_alone group.core ≡ false
 changed_not group tx body order =
@@ -102,8 +102,8 @@ same_watch scenario journal tx one other watch again a b =
     let same : Some a.0 ≡ Some b.0 = sym a.1 ∙ b.1 in
     let story : a.0 ≡ b.0 = cc in
     let asked : Some (unsigned_watch watch) ≡ Some (unsigned_watch again) = sym a.2 ∙ (ap (λ (s : Story). s.watch) story ∙ b.2) in
-    let is : unsigned_watch watch ≡ unsigned_watch again = cc in
-    ap (λ (w : Watch). w.old) is
+    let fact : unsigned_watch watch ≡ unsigned_watch again = cc in
+    ap (λ (w : Watch). w.old) fact
 
 watch_none : (core : Core) (watch : Watch) → core.gone ≡ None → core.lock ≡ Free → core.pred.group ≡ watch.old → watch_vote_of core watch ≡ None
 watch_none core watch gone free pred =
@@ -120,10 +120,10 @@ module _ (tells : ReplicasAreRecorded) (sound : ValidJournalsAreSound) (logs : V
   all = births as_nodes scenario
 
   pub quiet_lawful : Lawful as_nodes words scenario quiet
-  quiet_lawful = lawful-prefix (system_of as_nodes words scenario) (schedule scenario) quiet l.rests.prefix.more (subst (Lawful as_nodes words scenario) l.rests.prefix.is l.calm.lawful)
+  quiet_lawful = lawful-prefix (system_of as_nodes words scenario) (schedule scenario) quiet l.rests.prefix.more (subst (Lawful as_nodes words scenario) l.rests.prefix.fact l.calm.lawful)
 
   pub the_map : IsOneMap (world_at as_nodes scenario.groups quiet)
-  the_map = (sound as_nodes refl words scenario l.calm.valid journal l.calm.lawful quiet l.rests.prefix.more l.rests.prefix.is).whole
+  the_map = (sound as_nodes refl words scenario l.calm.valid journal l.calm.lawful quiet l.rests.prefix.more l.rests.prefix.fact).whole
 
   pub the_logs : AreItsLogs as_nodes scenario.groups quiet
   the_logs = logs as_nodes refl words scenario l.calm.valid quiet quiet_lawful
@@ -133,12 +133,12 @@ module _ (tells : ReplicasAreRecorded) (sound : ValidJournalsAreSound) (logs : V
 
   -- ---- one that is asked
 
-  module _ (deal : Deal) (host : ℕ) (is : stage ≡ Weighs deal host) (own : deal.asked ≡ name) where
+  module _ (deal : Deal) (host : ℕ) (fact : stage ≡ Weighs deal host) (own : deal.asked ≡ name) where
     pub stands : IsAt (Weighs deal host) (scene_at (births as_nodes scenario) rows)
-    stands = subst (λ x. IsAt x (scene_at all rows)) is l.untouched.stands
+    stands = subst (λ x. IsAt x (scene_at all rows)) fact l.untouched.stands
 
     pub since : IsTrueSince scenario quiet rows (Weighs deal host)
-    since = subst (IsTrueSince scenario quiet rows) is l.true_since
+    since = subst (IsTrueSince scenario quiet rows) fact l.true_since
 
     abbrev d : HasDone (births as_nodes scenario) quiet rows (doer deal.asked host [])
     d = since.done.1.0
@@ -150,7 +150,7 @@ module _ (tells : ReplicasAreRecorded) (sound : ValidJournalsAreSound) (logs : V
     host_is = same_Some host node (sym stands.leads.1.0 ∙ (ap (scene_at all rows).lead own ∙ (tell.led all rows name node r l.leads).0))
 
     now_is : d.now ≡ r
-    now_is = same_Some d.now r (sym d.is ∙ (ap (λ h. view_at all rows deal.asked h) host_is ∙ (ap (λ n. view_at all rows n node) own ∙ l.leads.is_there)))
+    now_is = same_Some d.now r (sym d.fact ∙ (ap (λ h. view_at all rows deal.asked h) host_is ∙ (ap (λ n. view_at all rows n node) own ∙ l.leads.is_there)))
 
     -- it is as it was in the quiet
     pub group_is : r.group ≡ d.first.group
@@ -160,28 +160,25 @@ module _ (tells : ReplicasAreRecorded) (sound : ValidJournalsAreSound) (logs : V
     unvoted_there = ap (λ (g : Group). has_voted g.core deal.tx) group_is ∙ has_not_voted (IsUsed as_nodes scenario quiet) deal.tx since.new.0 d.first.group.core (used deal.asked host d.first d.was)
 
     free_there : r.group.core.lock ≡ Free
-    free_there = ap (λ (g : Group). g.core.lock) group_is ∙ free_first tells words scenario first journal quiet rows l.prefix.more l.prefix.is l.calm l.rests l.seen (doer deal.asked host []) d
+    free_there = ap (λ (g : Group). g.core.lock) group_is ∙ free_first tells words scenario first journal quiet rows l.prefix.more l.prefix.fact l.calm l.rests l.seen (doer deal.asked host []) d
 
     its_stand : (s : StandsQuiet (replicas_after scenario quiet) deal.asked) × (d.first ≡ s.lead)
-    its_stand = led_first tells words scenario first journal quiet rows l.prefix.more l.prefix.is l.calm l.rests l.seen (doer deal.asked host []) d
+    its_stand = led_first tells words scenario first journal quiet rows l.prefix.more l.prefix.fact l.calm l.rests l.seen (doer deal.asked host []) d
 
     -- its predecessor is whom the one before it names
     pred_of : (who : Draw) (q : StandsQuiet (replicas_after scenario quiet) who) → deal.asked ≡ q.lead.group.core.succ.group → r.group.core.pred.group ≡ who
     pred_of who q e = ap (λ (g : Group). g.core.pred.group) group_is ∙ (ap (λ (x : ReplicaState). x.group.core.pred.group) its_stand.1 ∙ pred_at tells sound logs words scenario first journal quiet rows name node r stage l who q deal.asked e its_stand.0)
 
-    abbrev coord_bond : ((scene_at (births as_nodes scenario) rows).at deal.coord).bond ≡ Asking deal.tx deal.asked deal.turn
-    coord_bond = ap (λ (h : Here). h.bond) stands.parties.0.0
-
     coord_locks : LockIsRecorded scenario journal deal.coord c.now.group
     coord_locks =
-        locks_at tells words scenario first journal quiet rows l.prefix.more l.prefix.is l.calm l.rests l.seen deal.coord deal.chief c.now
-        (there_of tells words scenario first journal quiet rows l.prefix.more l.prefix.is l.calm l.rests l.seen (doer deal.coord deal.chief (opened deal.tx deal.turn)) c) c.is
+        locks_at tells words scenario first journal quiet rows l.prefix.more l.prefix.fact l.calm l.rests l.seen deal.coord deal.chief c.now
+        (there_of tells words scenario first journal quiet rows l.prefix.more l.prefix.fact l.calm l.rests l.seen (doer deal.coord deal.chief (opened deal.tx deal.turn)) c) c.fact
 
     coord_stand : (s : StandsQuiet (replicas_after scenario quiet) deal.coord) × (c.first ≡ s.lead)
-    coord_stand = led_first tells words scenario first journal quiet rows l.prefix.more l.prefix.is l.calm l.rests l.seen (doer deal.coord deal.chief (opened deal.tx deal.turn)) c
+    coord_stand = led_first tells words scenario first journal quiet rows l.prefix.more l.prefix.fact l.calm l.rests l.seen (doer deal.coord deal.chief (opened deal.tx deal.turn)) c
 
     made : Coordinates c.first.group deal.tx deal.asked deal.turn c.now.group
-    made = coords tells words scenario first journal quiet rows l.prefix.more l.prefix.is l.calm l.rests l.seen deal stands.leads.0 coord_bond c
+    made = coords tells words scenario first journal quiet rows l.prefix.more l.prefix.fact l.calm l.rests l.seen deal stands.leads.0 (ap (λ (h : Here). h.bond) stands.parties.0.0) c
 
     abbrev Pred : Watch → Type 0
     Pred watch = r.group.core.pred.group ≡ watch.old
@@ -191,12 +188,12 @@ module _ (tells : ReplicasAreRecorded) (sound : ValidJournalsAreSound) (logs : V
     lone_pred e watch a =
         let o : IsOpened c.first.group deal.tx deal.asked Lone c.now.group = subst (λ t. Coordinates c.first.group deal.tx deal.asked t c.now.group) e made in
         let b = lone_split c.first.group.core o.body o.turn_is in
-        let lock : c.now.group.core.lock ≡ Coordinating deal.tx (At.Split b.0 b.1) o.order None = ap (λ (g : Group). g.core.lock) o.is ∙ ap (λ x. Coordinating deal.tx x o.order None) b.2 in
+        let lock : c.now.group.core.lock ≡ Coordinating deal.tx (At.Split b.0 b.1) o.order None = ap (λ (g : Group). g.core.lock) o.fact ∙ ap (λ x. Coordinating deal.tx x o.order None) b.2 in
         let core = c.now.group.core in
         let asks = watch_with core core.succ.group core.id (right_link core b.1) in
         let old = same_watch scenario journal deal.tx name asks.part watch asks a (coord_locks.asks deal.tx (At.Split b.0 b.1) o.order None lock asks refl) in
         pred_of deal.coord coord_stand.0 (o.asked_is ∙ ap (λ (x : ReplicaState). x.group.core.succ.group) coord_stand.1)
-        ∙ (sym (own_id tells sound logs words scenario first journal quiet rows name node r stage l (doer deal.coord deal.chief (opened deal.tx deal.turn)) c) ∙ (ap (λ (g : Group). g.core.id) (sym o.is) ∙ sym old))
+        ∙ (sym (own_id tells sound logs words scenario first journal quiet rows name node r stage l (doer deal.coord deal.chief (opened deal.tx deal.turn)) c) ∙ (ap (λ (g : Group). g.core.id) (sym o.fact) ∙ sym old))
 
     -- of a merge
     next_pred : (part : Draw) (at : ℕ) → deal.turn ≡ Next part at → (watch : Watch) → IsAllowedBy scenario journal name (Watched deal.tx watch) → Pred watch
@@ -204,15 +201,15 @@ module _ (tells : ReplicasAreRecorded) (sound : ValidJournalsAreSound) (logs : V
         let p : HasDone all quiet rows (doer part at (Promising deal.tx ∷ [])) = (subst (λ t. Each (HasDone all quiet rows) (heard_doer deal.tx t)) e since.done.1.1).0 in
         let lead = (subst (λ t. Each (λ (x : Draw × ℕ). (scene_at all rows).lead x.0 ≡ Some x.1) (heard_lead t)) e stands.leads.1.1).0 in
         let bond = ap (λ (h : Here). h.bond) (subst (λ t. Each (λ (x : Draw × Here). (scene_at all rows).at x.0 ≡ x.1) (heard deal.tx t)) e stands.parties.0.1.1).0 in
-        let b = both tells words scenario first journal quiet rows l.prefix.more l.prefix.is l.calm l.rests l.seen deal stands.leads.0 coord_bond c part at e lead bond p in
-        let tx = tx_is tells words scenario first journal quiet rows l.prefix.more l.prefix.is l.calm l.rests l.seen deal stands.leads.0 coord_bond c part at e lead bond p in
-        let next = next_is tells words scenario first journal quiet rows l.prefix.more l.prefix.is l.calm l.rests l.seen deal stands.leads.0 coord_bond c part at e lead bond p in
-        let stood = led_first tells words scenario first journal quiet rows l.prefix.more l.prefix.is l.calm l.rests l.seen (doer part at (Promising deal.tx ∷ [])) p in
+        let b = both tells words scenario first journal quiet rows l.prefix.more l.prefix.fact l.calm l.rests l.seen deal stands.leads.0 (ap (λ (h : Here). h.bond) stands.parties.0.0) c part at e lead bond p in
+        let tx = tx_is tells words scenario first journal quiet rows l.prefix.more l.prefix.fact l.calm l.rests l.seen deal stands.leads.0 (ap (λ (h : Here). h.bond) stands.parties.0.0) c part at e lead bond p in
+        let next = next_is tells words scenario first journal quiet rows l.prefix.more l.prefix.fact l.calm l.rests l.seen deal stands.leads.0 (ap (λ (h : Here). h.bond) stands.parties.0.0) c part at e lead bond p in
+        let stood = led_first tells words scenario first journal quiet rows l.prefix.more l.prefix.fact l.calm l.rests l.seen (doer part at (Promising deal.tx ∷ [])) p in
         let core = c.now.group.core in
-        let lock : core.lock ≡ Coordinating deal.tx At.Merge b.heard.order (Some b.heard.heard) = ap (λ (g : Group). g.core.lock) b.heard.is ∙ ap (λ t. Coordinating t At.Merge b.heard.order (Some b.heard.heard)) tx in
+        let lock : core.lock ≡ Coordinating deal.tx At.Merge b.heard.order (Some b.heard.heard) = ap (λ (g : Group). g.core.lock) b.heard.fact ∙ ap (λ t. Coordinating t At.Merge b.heard.order (Some b.heard.heard)) tx in
         let asks = watch_with core b.heard.heard.frozen.succ.group core.succ.group (merged_link core b.heard.heard.frozen) in
         let old = same_watch scenario journal deal.tx name asks.part watch asks a (coord_locks.asks deal.tx At.Merge b.heard.order (Some b.heard.heard) lock asks refl) in
-        pred_of part stood.0 (next ∙ ap (λ (x : ReplicaState). x.group.core.succ.group) stood.1) ∙ (b.heard.part_is ∙ (ap (λ (g : Group). g.core.succ.group) (sym b.heard.is) ∙ sym old))
+        pred_of part stood.0 (next ∙ ap (λ (x : ReplicaState). x.group.core.succ.group) stood.1) ∙ (b.heard.part_is ∙ (ap (λ (g : Group). g.core.succ.group) (sym b.heard.fact) ∙ sym old))
 
     pub pred_old : (turn : Turn) → deal.turn ≡ turn → is_watch turn ≡ true → (watch : Watch) → IsAllowedBy scenario journal name (Watched deal.tx watch) → r.group.core.pred.group ≡ watch.old
     pred_old First e w watch a = absurd (true≢false (sym w))
@@ -225,11 +222,11 @@ module _ (tells : ReplicasAreRecorded) (sound : ValidJournalsAreSound) (logs : V
     allowed_there : IsThere (births as_nodes scenario) quiet name → IsAllowedBy scenario journal name flight.value
     allowed_there there =
         Each-among (λ (f : Flight Command). IsAllowedBy scenario journal name f.value) r.leader.flights flight
-        (flights_at tells words scenario first journal quiet rows l.prefix.more l.prefix.is l.calm l.rests l.seen name node r there l.leads.is_there) among
+        (flights_at tells words scenario first journal quiet rows l.prefix.more l.prefix.fact l.calm l.rests l.seen name node r there l.leads.is_there) among
 
-    module _ (work : Work) (is : work_by flight.value ≡ Some work) where
+    module _ (work : Work) (fact : work_by flight.value ≡ Some work) where
       there : IsThere (births as_nodes scenario) quiet name
-      there = was_there tells words scenario first journal quiet rows name node r stage l flight among work is
+      there = was_there tells words scenario first journal quiet rows name node r stage l flight among work fact
 
       stays : IsIn r.me r.group
       stays = stands_in tells words scenario first journal quiet rows name node r stage l there

@@ -29,20 +29,20 @@ module _ (bounded : ValidScenariosAreBounded) (drawn : NamesAreDrawn) (words : �
   all = births as_nodes scenario
 
   lawful : Lawful as_nodes words scenario quiet
-  lawful = lawful-prefix (system_of as_nodes words scenario) (schedule scenario) quiet t.rests.prefix.more (subst (Lawful as_nodes words scenario) t.rests.prefix.is t.calm.lawful)
+  lawful = lawful-prefix (system_of as_nodes words scenario) (schedule scenario) quiet t.rests.prefix.more (subst (Lawful as_nodes words scenario) t.rests.prefix.fact t.calm.lawful)
 
   -- ---- a question
 
   -- at a group that is asked no vote stands
-  module _ (deal : Deal) (to : ℕ) (is : stage ≡ Asks deal to) (own : deal.asked ≡ group) where
+  module _ (deal : Deal) (to : ℕ) (fact : stage ≡ Asks deal to) (own : deal.asked ≡ group) where
     untouched : AreUntouched words (births as_nodes scenario) quiet rows (Asks deal to)
-    untouched = subst (AreUntouched words all quiet rows) is t.untouched
+    untouched = subst (AreUntouched words all quiet rows) fact t.untouched
 
     since : IsTrueSince scenario quiet rows (Asks deal to)
-    since = subst (IsTrueSince scenario quiet rows) is t.true_since
+    since = subst (IsTrueSince scenario quiet rows) fact t.true_since
 
     there : IsThere (births as_nodes scenario) quiet deal.asked
-    there = stands_there scenario quiet _ _ t.rests.is.quiet t.rests.known t.seen deal.asked since.asked.0
+    there = stands_there scenario quiet _ _ t.rests.fact.quiet t.rests.known t.seen deal.asked since.asked.0
 
     was : view_at (births as_nodes scenario) quiet deal.asked seat.who ≡ Some r
     was = sym (untouched.views deal.asked (asked_fresh (scene_at all rows) deal to untouched.stands) there seat.who) ∙ (ap (λ n. view_at all rows n seat.who) own ∙ (view_was all rows seat (Deliver number) group t.taking.seated (Node node) t.taking.is_node ∙ t.here))
@@ -56,35 +56,35 @@ module _ (bounded : ValidScenariosAreBounded) (drawn : NamesAreDrawn) (words : �
   same_question tx tx2 coord coord2 w w2 by by2 to to2 e = cc
 
   asks : (entry : Draw × Errand) (tx coord : Draw) (watch : Bool) (by to : ℕ) → entry ≡ (group, Question tx coord watch by to) → errand_by mail.from mail.to mail.body ≡ Some entry → standing_vote r.group.core tx ≡ None
-  asks entry tx coord watch by to is errand =
+  asks entry tx coord watch by to fact errand =
       let pending : Among (Question tx coord watch by to) ((scene_at all rows).at group).errands =
-      is_pending words all rows seat number mail t.taking.timely t.taking.sent (group, Question tx coord watch by to) (errand ∙ ap Some is) in
+      is_pending words all rows seat number mail t.taking.timely t.taking.sent (group, Question tx coord watch by to) (errand ∙ ap Some fact) in
       let a = question_at (scene_at all rows) stage t.untouched.stands group tx coord watch by to pending in
-      subst (λ x. standing_vote r.group.core x ≡ None) (same_question a.deal.tx tx a.deal.coord coord _ watch a.deal.chief by a.to to a.errand_is) (asked_unvoted a.deal a.to a.is a.group_is)
+      subst (λ x. standing_vote r.group.core x ≡ None) (same_question a.deal.tx tx a.deal.coord coord _ watch a.deal.chief by a.to to a.errand_is) (asked_unvoted a.deal a.to a.fact a.group_is)
 
   -- ---- a vote
 
-  module _ (deal : Deal) (agreed : Bool) (host : ℕ) (is : stage ≡ Replied deal agreed host) (own : deal.coord ≡ group) (chief : deal.chief ≡ seat.who) where
+  module _ (deal : Deal) (agreed : Bool) (host : ℕ) (fact : stage ≡ Replied deal agreed host) (own : deal.coord ≡ group) (chief : deal.chief ≡ seat.who) where
     replied : AreUntouched words (births as_nodes scenario) quiet rows (Replied deal agreed host)
-    replied = subst (AreUntouched words all quiet rows) is t.untouched
+    replied = subst (AreUntouched words all quiet rows) fact t.untouched
 
     truly : IsTrueSince scenario quiet rows (Replied deal agreed host)
-    truly = subst (IsTrueSince scenario quiet rows) is t.true_since
+    truly = subst (IsTrueSince scenario quiet rows) fact t.true_since
 
     abbrev d : HasDone (births as_nodes scenario) quiet rows (doer deal.coord deal.chief (opened deal.tx deal.turn))
     d = truly.done.0
 
     here : d.now ≡ r
-    here = same_Some d.now r (sym d.is ∙ (ap (λ n. view_at all rows deal.coord n) chief ∙ (ap (λ n. view_at all rows n seat.who) own ∙ (view_was all rows seat (Deliver number) group t.taking.seated (Node node) t.taking.is_node ∙ t.here))))
+    here = same_Some d.now r (sym d.fact ∙ (ap (λ n. view_at all rows deal.coord n) chief ∙ (ap (λ n. view_at all rows n seat.who) own ∙ (view_was all rows seat (Deliver number) group t.taking.seated (Node node) t.taking.is_node ∙ t.here))))
 
     free : d.first.group.core.lock ≡ Rattle.sc_words.specs.declared.commands.cores.Lock.TheVariants.Free
-    free = (t.rests.is.quiet.at_rest deal.coord deal.chief d.first (sym (t.seen deal.coord deal.chief) ∙ d.was)).free
+    free = (t.rests.fact.quiet.at_rest deal.coord deal.chief d.first (sym (t.seen deal.coord deal.chief) ∙ d.was)).free
 
     same_decided : r.group.core.decided ≡ d.first.group.core.decided
     same_decided =
         ap (λ (x : ReplicaState). x.group.core.decided) (sym here) ∙ (ap (λ (g : Group). g.core.decided) d.group_is
         ∙ decided_same d.first.group deal.tx deal.asked deal.turn _
-        (coordinates d.first.group free deal.tx deal.tx deal.asked deal.turn d.entries d.did (ap (λ (g : Group). bond_of g.core) (sym d.group_is) ∙ (sym (lead_bond all rows deal.coord deal.chief d.now replied.stands.leads.0 d.is) ∙ ap (λ (h : Here). h.bond) replied.stands.parties.0.0))))
+        (coordinates d.first.group free deal.tx deal.tx deal.asked deal.turn d.entries d.did (ap (λ (g : Group). bond_of g.core) (sym d.group_is) ∙ (sym (lead_bond all rows deal.coord deal.chief d.now replied.stands.leads.0 d.fact) ∙ ap (λ (h : Here). h.bond) replied.stands.parties.0.0))))
 
     coord_undecided : noted_outcome r.group.core deal.tx ≡ None
     coord_undecided =
@@ -100,7 +100,7 @@ module _ (bounded : ValidScenariosAreBounded) (drawn : NamesAreDrawn) (words : �
       let a = reply_at (scene_at all rows) stage t.untouched.stands group tx watch agreed mail.from mail.to pending in
       let both = same_reply a.deal.tx tx _ watch a.agreed agreed a.host mail.from a.deal.chief mail.to a.errand_is in
       let mine : a.deal.chief ≡ seat.who = both.1 ∙ goes_to words all rows seat number mail t.taking.timely t.taking.sent in
-      subst (λ x. noted_outcome r.group.core x ≡ None) both.0 (coord_undecided a.deal a.agreed a.host a.is a.group_is mine)
+      subst (λ x. noted_outcome r.group.core x ≡ None) both.0 (coord_undecided a.deal a.agreed a.host a.fact a.group_is mine)
 
   named_so : (body : MailBody) → mail.body ≡ body → Rattle.sc_node_table.specs.Node.group_of_mail body ≡ Some group
   named_so body e = ap Rattle.sc_node_table.specs.Node.group_of_mail (sym e) ∙ t.taking.named

@@ -62,11 +62,11 @@ module _ (group : Group) (tx : Draw) (order by : ℕ) (frozen : Frozen) where
         | inl t ↦ inl (subst Decides (sym (comes ∙ cond-true (same_draw frozen.succ.group group.core.id) (committed (closing_plan group frozen) group tx) (heard, Changed) t))
             (made_plan (may_merge group frozen) (closing_group group frozen, Merged (merged_route group.core frozen)) group tx may))
         | inr f ↦ (
-            let is : applied group (RecordVote tx (Vows.Yes frozen) by) ≡ (heard, Changed) = comes ∙ cond-false (same_draw frozen.succ.group group.core.id) (committed (closing_plan group frozen) group tx) (heard, Changed) f in
+            let fact : applied group (RecordVote tx (Vows.Yes frozen) by) ≡ (heard, Changed) = comes ∙ cond-false (same_draw frozen.succ.group group.core.id) (committed (closing_plan group frozen) group tx) (heard, Changed) f in
             inr (
-              ap (λ (x : Group × Effect). is_changed x.1) is,
+              ap (λ (x : Group × Effect). is_changed x.1) fact,
               (
-                record { stands = ap (λ (x : Group × Effect). x.0.core.gone) is ∙ stands; mine = ap (λ (x : Group × Effect). is_member x.0.core.members me) is ∙ mine },
+                record { stands = ap (λ (x : Group × Effect). x.0.core.gone) fact ∙ stands; mine = ap (λ (x : Group × Effect). is_member x.0.core.members me) fact ∙ mine },
                 λ e. true≢false (sym (same_name frozen.succ.group group.core.id e) ∙ f),
               ),
             ))

@@ -191,7 +191,7 @@ module _ (a : Affair) (g : Draw) where
     welcomed_goes before (r, mails) (inr old) k =
         let same : members r ≡ after.core.members = ap (λ (x : Group). x.core.members) k.2 in
         let none : filter (λ node. not (is_member before node)) (members r) ≡ [] =
-        none_new before (members r) (each_among (λ node. is_member before node ≡ true) (members r) (λ node is. old node (subst (λ (ms : List ℕ). is_member ms node ≡ true) same (among-member (members r) node is)))) in
+        none_new before (members r) (each_among (λ node. is_member before node ≡ true) (members r) (λ node fact. old node (subst (λ (ms : List ℕ). is_member ms node ≡ true) same (among-member (members r) node fact)))) in
         either_way (Goes counted after) counted (welcomed_all (filter (λ node. not (is_member before node)) (members r)) (r, mails)) (r, mails)
         (none_welcomed (filter (λ node. not (is_member before node)) (members r)) (r, mails) none k) k
 

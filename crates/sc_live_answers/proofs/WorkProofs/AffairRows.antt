@@ -2,17 +2,16 @@
 use Rattle.std.proofs.Common.{◌≡◌, ℕ, ◌<◌, ◌&&◌, ◌||◌, not, nat_lt, eqb, Bool, true, false, true≢false, cond, List, [], ◌∷◌, ◌++◌, length, Option, Some, None, refl, sym, ◌∙◌, ap, subst}
 use Rattle.std.proofs.lemmas.Bool.{cond_both, lt-leb, eqb-true}
 use Rattle.sc_base.specs.Definitions.{same_ballot, is_member, is_majority}
-use Rattle.sc_node_table.specs.Values.{Ballot, Draw, Offer, Watch, Command, Prepared as PreparedAct, RecordVote, Finish, Watched, RecordWatch, Base, Outcome, Past, Vote, Mail, MailBody, Request, Answer, Prepare, Promise, Accept, Accepted, Nack, Learn, Ask, Install, TxPrepare, TxVote, TxOutcome, TxElsewhere, TxWatch, TxWatched, Told, PrepareAnswer, AcceptAnswer, Counted, Chosen, NotYet, Flight, Report}
-use Rattle.sc_words.specs.declared.commands.votes.Past.TheVariants as Cast
-use Rattle.sc_words.specs.declared.commands.votes.Vote.TheVariants as Votes
+use Rattle.sc_node_table.specs.Values.{Ballot, Draw, Command, Base, Mail, MailBody, Request, Answer, Prepare, Promise, Accept, Accepted, Nack, Learn, Ask, Install, TxPrepare, TxVote, TxOutcome, TxElsewhere, TxWatch, TxWatched, Told, PrepareAnswer, AcceptAnswer, Counted, Chosen, NotYet, Flight, Report}
 use Rattle.sc_law_entries.specs.names.Definitions.{Opt}
 use Rattle.sc_law_entries.proofs.NamesProofs.Lemmas.{opt_find, slot_with, flight_without, voters_with}
 use Rattle.sc_words.specs.declared.paxos.answers.PrepareAnswer.TheVariants as Prepared
 use Rattle.sc_words.specs.declared.paxos.answers.AcceptAnswer.TheVariants as Asked
 use Rattle.sc_words.specs.paxos.Definitions.{prepared, accepted as accepted_by, AcceptorState, below, LeaderState, flight_at, promise_counted, counted, tallied, vote_at, voters_after, kept_voters}
 use Rattle.sc_words.proofs.PaxosProofs.Lemmas.{Each-append}
-use Rattle.sc_node_table.specs.Definitions.{has_act, act_queued, ended, stopped, saw, looked, executed, has_room, install_to, named, jumped, sent, pumped, ReplicaState, Place, Executed, childless, name_of, next, members, settled, set_at, last_slot, forgotten, installed_replica, learn_row, looked_up, took_over, install_row, mailed, made_by, with_slot, asked_next, noted_outcome, standing_vote, sent_elsewhere, offered_by, offer_row, watched_by, watch_row, awaits_vote, awaits_watch, outcome_sent, vote_met, vote_row, watch_met, watched_row, elsewhere_row, is_bound, outcome_row, hinted, promise_to, promised, prepare_row, accepted_to, took, accept_row, leads, promise_row, readied, vote_tallied, voted, accepted_row, nack_row}
-use Rattle.sc_law_walks.proofs.Lemmas.{either_way}
+use Rattle.sc_node_table.specs.Definitions.{has_act, act_queued, ended, stopped, saw, looked, executed, has_room, install_to, named, jumped, sent, pumped, ReplicaState, Place, Executed, childless, name_of, next, members, set_at, last_slot, forgotten, installed_replica, learn_row, looked_up, took_over, install_row, mailed, made_by, with_slot, hinted, promise_to, promised, prepare_row, accepted_to, took, accept_row, leads, promise_row, readied, vote_tallied, voted, accepted_row, nack_row}
+use Rattle.sc_law_walks.proofs.Lemmas.{either_way, TransactionParts}
+use Rattle.sc_law_walks.proofs.TransactionRows.{offer_keeps, watch_keeps, vote_keeps, watched_keeps, elsewhere_keeps, outcome_keeps}
 use Rattle.sc_live_answers.proofs.WorkProofs.Affairs.{Affair}
 use Rattle.sc_live_answers.proofs.WorkProofs.WorkMail.{one_sent, next_one_asked, vote_reported, watch_reported, outcome_said}
 use Rattle.sc_live_answers.proofs.WorkProofs.AffairParts.{Does, Fly, Held, Fine, Kids, saw_fine, stopped_fine, looked_fine, pumped_fine, executed_fine, executed_kids}
@@ -234,61 +233,16 @@ module _ (a : Affair) (g : Draw) where
       (either_way (λ (x : ReplicaState). F (x, mails)) (has_act act r) r (record r { acts = r.acts ++ act ∷ [] }) f
       ((f.0.0, f.0.1, Each-append (Does a g) r.acts (act ∷ []) f.0.2 (d, tt), f.0.3, f.0.4, f.0.5, f.0.6), f.1))
 
-  elsewhere_sent : (node : ℕ) (tx coord : Draw) (place : Place) → F place → F (sent_elsewhere node tx coord place)
-  elsewhere_sent node tx coord (r, mails) f = (f.0, one_sent a r.me node (TxElsewhere tx coord r.hint) mails tt f.1)
-
-  offered_fine : (o : Option Past) (from : ℕ) (tx : Draw) (offer : Offer) (place : Place) → a.Parts → F place → F (offered_by o from tx offer place)
-  offered_fine (Some vote) from tx offer (r, mails) p f = (f.0, vote_reported a r.me r.group from tx offer vote mails p f.1)
-  offered_fine None from tx offer (r, mails) p f =
-      either_way F r.running (act_queued (PreparedAct tx offer) (r, mails)) (sent_elsewhere from tx offer.coord (r, mails)) (queued_act (PreparedAct tx offer) (r, mails) (a.offer g tx offer p) f) (elsewhere_sent from tx offer.coord (r, mails) f)
-
-  offer_fine : (from : ℕ) (tx : Draw) (offer : Offer) (place : Place) → a.Parts → F place → F (offer_row from tx offer place)
-  unfolding offer_row
-  offer_fine from tx offer (r, mails) p f = offered_fine (standing_vote r.group.core tx) from tx offer (r, mails) p f
-
-  watched_fine : (o : Option Past) (from : ℕ) (tx : Draw) (watch : Watch) (place : Place) → F place → F (watched_by o from tx watch place)
-  watched_fine (Some vote) from tx watch (r, mails) f = (f.0, watch_reported a r.me from tx watch vote mails f.1)
-  watched_fine None from tx watch (r, mails) f =
-      either_way F r.running (act_queued (Watched tx watch) (r, mails)) (sent_elsewhere from tx watch.coord (r, mails)) (queued_act (Watched tx watch) (r, mails) (a.watched g tx watch) f) (elsewhere_sent from tx watch.coord (r, mails) f)
-
-  watch_fine : (from : ℕ) (tx : Draw) (watch : Watch) (place : Place) → F place → F (watch_row from tx watch place)
-  unfolding watch_row
-  watch_fine from tx watch (r, mails) f = watched_fine (standing_vote r.group.core tx) from tx watch (r, mails) f
-
-  -- a command of a transaction is filed
-  files : (act : Command) (wanted : Bool) (r : ReplicaState) (mails : List Mail) → Does a g act → F (r, mails) → F (cond (r.running && wanted) (act_queued act (r, mails)) (r, mails))
-  files act wanted r mails d f = either_way F (r.running && wanted) (act_queued act (r, mails)) (r, mails) (queued_act act (r, mails) d f) f
-
-  outcome_told : (from : ℕ) (tx part : Draw) (outcome : Outcome) (place : Place) → F place → F (place.0, outcome_sent place.0.me from tx part outcome place.1)
-  outcome_told from tx part outcome (r, mails) f = (f.0, outcome_said a r.me from tx part outcome mails f.1)
-
-  vote_met_fine : (vote : Vote) (o : Option Outcome) (from : ℕ) (tx part : Draw) (place : Place) → a.Parts → F place → F (vote_met vote o from tx part place)
-  vote_met_fine (Votes.Yes frozen) (Some outcome) from tx part (r, mails) p f = outcome_told from tx part outcome (r, mails) f
-  vote_met_fine (Votes.Yes frozen) None from tx part (r, mails) p f = files (RecordVote tx (Votes.Yes frozen) from) (awaits_vote r.group.core.lock tx) r mails (a.vote g tx (Votes.Yes frozen) from p) f
-  vote_met_fine (Votes.No why) outcome from tx part (r, mails) p f = files (RecordVote tx (Votes.No why) from) (awaits_vote r.group.core.lock tx) r mails (a.vote g tx (Votes.No why) from p) f
-
-  vote_fine : (from : ℕ) (tx part : Draw) (vote : Vote) (place : Place) → a.Parts → F place → F (vote_row from tx part vote place)
-  unfolding vote_row
-  vote_fine from tx part vote (r, mails) p f = vote_met_fine vote (noted_outcome r.group.core tx) from tx part (r, mails) p f
-
-  watch_met_fine : (vote : Past) (o : Option Outcome) (from : ℕ) (tx part : Draw) (place : Place) → F place → F (watch_met vote o from tx part place)
-  watch_met_fine Cast.Yes (Some outcome) from tx part (r, mails) f = outcome_told from tx part outcome (r, mails) f
-  watch_met_fine Cast.Yes None from tx part (r, mails) f = files (RecordWatch tx Cast.Yes from) (awaits_watch r.group.core.lock tx) r mails (a.watch g tx Cast.Yes from) f
-  watch_met_fine (Cast.No why) outcome from tx part (r, mails) f = files (RecordWatch tx (Cast.No why) from) (awaits_watch r.group.core.lock tx) r mails (a.watch g tx (Cast.No why) from) f
-  watch_met_fine Cast.Ended outcome from tx part (r, mails) f = files (RecordWatch tx Cast.Ended from) (awaits_watch r.group.core.lock tx) r mails (a.watch g tx Cast.Ended from) f
-
-  watched_row_fine : (from : ℕ) (tx part : Draw) (vote : Past) (place : Place) → F place → F (watched_row from tx part vote place)
-  unfolding watched_row
-  watched_row_fine from tx part vote (r, mails) f = watch_met_fine vote (noted_outcome r.group.core tx) from tx part (r, mails) f
-
-  elsewhere_fine : (from : ℕ) (tx : Draw) (hint : Option ℕ) (place : Place) → F place → F (elsewhere_row from tx hint place)
-  unfolding elsewhere_row
-  elsewhere_fine from tx hint (r, mails) f =
-      either_way F (settled r) (r, asked_next r.group.core.lock r.me r.group.core from tx hint mails) (r, mails) (f.0, next_one_asked a r.me g r.group.core.lock r.group.core from tx hint mails refl f.0.5 f.1) f
-
-  outcome_fine : (tx : Draw) (outcome : Outcome) (place : Place) → F place → F (outcome_row tx outcome place)
-  unfolding outcome_row
-  outcome_fine tx outcome (r, mails) f = files (Finish tx outcome) (is_bound r.group.core.lock tx) r mails (a.finish g tx outcome) f
+  abbrev transactions : TransactionParts F
+  transactions = record {
+    Files = λ act. Does a g act;
+    queues = λ act place d f. queued_act act place d f;
+    votes = λ to tx offer vote r mails d f. (f.0, vote_reported a r.me r.group to tx offer vote mails (a.votes g tx offer d) f.1);
+    sees = λ to tx watch vote r mails f. (f.0, watch_reported a r.me to tx watch vote mails f.1);
+    ends = λ to tx part outcome r mails f. (f.0, outcome_said a r.me to tx part outcome mails f.1);
+    sends_on = λ to tx coord r mails f. (f.0, one_sent a r.me to (TxElsewhere tx coord r.hint) mails tt f.1);
+    asks_next = λ from tx hint r mails f. (f.0, next_one_asked a r.me g r.group.core.lock r.group.core from tx hint mails refl f.0.5 f.1);
+  }
 
   -- ---- all mail
 
@@ -304,12 +258,12 @@ module _ (a : Affair) (g : Draw) where
   mailed_fine from (Nack group ballot) r mails h f = nack_fine ballot (r, mails) f
   mailed_fine from (Learn group slot command) r mails h f = learn_fine from slot command r mails (subst (λ n. a.Does n command) f.0.0 h.0) h.1 f
   mailed_fine from (Install group slot base sets) r mails h f = install_row_fine from slot base sets (r, mails) (subst (λ n. a.Is n base.core) f.0.0 h) f
-  mailed_fine from (TxPrepare tx offer) r mails h f = offer_fine from tx offer (r, mails) h f
-  mailed_fine from (TxVote tx coord part vote) r mails h f = vote_fine from tx part vote (r, mails) h f
-  mailed_fine from (TxOutcome tx part outcome) r mails h f = outcome_fine tx outcome (r, mails) f
-  mailed_fine from (TxElsewhere tx coord hint) r mails h f = elsewhere_fine from tx hint (r, mails) f
-  mailed_fine from (TxWatch tx watch) r mails h f = watch_fine from tx watch (r, mails) f
-  mailed_fine from (TxWatched tx coord part vote) r mails h f = watched_row_fine from tx part vote (r, mails) f
+  mailed_fine from (TxPrepare tx offer) r mails h f = offer_keeps F transactions from tx offer (r, mails) (a.offer g tx offer h) f
+  mailed_fine from (TxVote tx coord part vote) r mails h f = vote_keeps F transactions from tx part vote (r, mails) (a.vote g tx vote from h) f
+  mailed_fine from (TxOutcome tx part outcome) r mails h f = outcome_keeps F transactions tx outcome (r, mails) (a.finish g tx outcome) f
+  mailed_fine from (TxElsewhere tx coord hint) r mails h f = elsewhere_keeps F transactions from tx hint (r, mails) f
+  mailed_fine from (TxWatch tx watch) r mails h f = watch_keeps F transactions from tx watch (r, mails) (a.watched g tx watch) f
+  mailed_fine from (TxWatched tx coord part vote) r mails h f = watched_keeps F transactions from tx part vote (r, mails) (a.watch g tx vote from) f
   mailed_fine from (Told order result) r mails h f = f
 
   pub mailed_kids : (from : ℕ) (body : MailBody) (r : ReplicaState) (mails : List Mail) → Hears a r body → F (r, mails) → Kids a g (mailed from body (r, mails)).1

@@ -20,10 +20,10 @@ use Rattle.sc_group_table.proofs.MachineProofs.Lemmas.{state_push}
 -- ---- entries
 
 deeds_push : (deeds : List Deed) (entries : List Command) (deed : Deed) (command : Command) → AreDeeds deeds entries → IsDeed deed command → AreDeeds (deeds ++ deed ∷ []) (entries ++ command ∷ [])
-deeds_push [] [] deed command are is = (is, tt)
-deeds_push [] (entry ∷ entries) deed command are is = absurd are
-deeds_push (first ∷ deeds) [] deed command are is = absurd are
-deeds_push (first ∷ deeds) (entry ∷ entries) deed command are is = (are.0, deeds_push deeds entries deed command are.1 is)
+deeds_push [] [] deed command are fact = (fact, tt)
+deeds_push [] (entry ∷ entries) deed command are fact = absurd are
+deeds_push (first ∷ deeds) [] deed command are fact = absurd are
+deeds_push (first ∷ deeds) (entry ∷ entries) deed command are fact = (are.0, deeds_push deeds entries deed command are.1 fact)
 
 -- a promise is a vote
 votes_too : (tx : Draw) (entries : List Command) → AreDeeds (Promising tx ∷ []) entries → AreDeeds (Voting tx ∷ []) entries
@@ -67,10 +67,10 @@ module _ (words : ℕ → ℕ → ℕ × ℕ) (births : List (Seat Player)) (qui
 
   module _ (it : Doer) (d : Was it) (led : now.lead it.group ≡ Some it.host) (leads : after.lead it.group ≡ Some it.host) where
     to : Comes words births rows seat number born timely finds (before, stands) it.group it.host d.now
-    to = goes_on words births rows seat number born timely finds (before, stands) it.group d.now (lead_runs_so births rows it.group it.host d.now led d.is) it.host d.is
+    to = goes_on words births rows seat number born timely finds (before, stands) it.group d.now (lead_runs_so births rows it.group it.host d.now led d.fact) it.host d.fact
 
     was_work : works d.now ≡ (now.at it.group).work
-    was_work = lead_works births rows it.group it.host d.now led d.is
+    was_work = lead_works births rows it.group it.host d.now led d.fact
 
     has_work : works to.0 ≡ (after.at it.group).work
     has_work = lead_works births (with_event rows seat (Deliver number)) it.group it.host to.0 leads to.1
@@ -80,8 +80,8 @@ module _ (words : ℕ → ℕ → ℕ × ℕ) (births : List (Seat Player)) (qui
     keeps kept = by to.2
       where
         by : HasStepped d.now to.0 → Has it
-        by (Rested same rest) = record { first = d.first; was = d.was; led = d.led; now = to.0; is = to.1; entries = d.entries; did = d.did; group_is = same ∙ d.group_is }
-        by (Executed flight work among had is none made) = elim kept [
+        by (Rested same rest) = record { first = d.first; was = d.was; led = d.led; now = to.0; fact = to.1; entries = d.entries; did = d.did; group_is = same ∙ d.group_is }
+        by (Executed flight work among had fact none made) = elim kept [
           | inl idle ↦ absurd (one_not_none work (works d.now) had (was_work ∙ idle))
           | inr some ↦ absurd (some (sym has_work ∙ none))
         ]
@@ -95,17 +95,17 @@ module _ (words : ℕ → ℕ → ℕ × ℕ) (births : List (Seat Player)) (qui
           | inl idle ↦ absurd (one_not_none work (works d.now) (was_work ∙ one) idle)
           | inr some ↦ absurd (some (has_work ∙ none))
         ]
-        by (Executed flight other among had is gone made) =
+        by (Executed flight other among had fact gone made) =
             let same : other ≡ work = same_one other work (sym had ∙ (was_work ∙ one)) in
-            let so : BeginsSo flight.value = Each-among (λ (f : Flight Command). BeginsSo f.value) d.now.leader.flights flight (begin_so it.group it.host d.now (it.host, d.first, d.was) d.is (lead_runs_so births rows it.group it.host d.now led d.is)) among in
+            let so : BeginsSo flight.value = Each-among (λ (f : Flight Command). BeginsSo f.value) d.now.leader.flights flight (begin_so it.group it.host d.now (it.host, d.first, d.was) d.fact (lead_runs_so births rows it.group it.host d.now led d.fact)) among in
             record {
               first = d.first;
               was = d.was;
               led = d.led;
               now = to.0;
-              is = to.1;
+              fact = to.1;
               entries = d.entries ++ flight.value ∷ [];
-              did = deeds_push it.deeds d.entries deed flight.value d.did (deeds flight.value (is ∙ ap Some same) so);
+              did = deeds_push it.deeds d.entries deed flight.value d.did (deeds flight.value (fact ∙ ap Some same) so);
               group_is = made ∙ (ap (λ g. (applied g flight.value).0) d.group_is ∙ sym (state_push d.first.group d.entries flight.value));
             }
 
@@ -221,7 +221,7 @@ module _ (words : ℕ → ℕ → ℕ × ℕ) (births : List (Seat Player)) (qui
     keeps (doer deal.coord deal.chief (opened deal.tx deal.turn)) d.0 a.leads.0 b.leads.0 (inl (ap (λ (h : Here). h.work) a.parties.0.0)),
     (
       voted_done deal.tx deal.asked host deal.turn deal.coord deal.chief
-          (λ deed is. runs (doer deal.asked host []) d.1.0 a.leads.1.0 b.leads.1.0 deed (Answers deal.tx deal.coord (is_watch deal.turn) deal.chief) (ap (λ (h : Here). h.work) a.parties.0.1.0) (ap (λ (h : Here). h.work) b.parties.0.1.0) is),
+          (λ deed fact. runs (doer deal.asked host []) d.1.0 a.leads.1.0 b.leads.1.0 deed (Answers deal.tx deal.coord (is_watch deal.turn) deal.chief) (ap (λ (h : Here). h.work) a.parties.0.1.0) (ap (λ (h : Here). h.work) b.parties.0.1.0) fact),
       heard_keeps deal.tx deal.turn a.parties.0.1.1 a.leads.1.1 b.leads.1.1 d.1.1,
     ),
   )
@@ -255,7 +255,7 @@ module _ (words : ℕ → ℕ → ℕ × ℕ) (births : List (Seat Player)) (qui
 
   -- a vote as a party keeps it
   as_party : (tx group : Draw) (host : ℕ) → Has (doer group host (Promising tx ∷ [])) → Has (doer group host (Voting tx ∷ []))
-  as_party tx group host h = record { first = h.first; was = h.was; led = h.led; now = h.now; is = h.is; entries = h.entries; did = votes_too tx h.entries h.did; group_is = h.group_is }
+  as_party tx group host h = record { first = h.first; was = h.was; led = h.led; now = h.now; fact = h.fact; entries = h.entries; did = votes_too tx h.entries h.did; group_is = h.group_is }
 
   decides : (tx asked coord : Draw) (turn : Turn) (host : ℕ) → Each (λ lead. now.lead lead.0 ≡ Some lead.1) ((asked, host) ∷ heard_lead turn) → (now.at asked).work ≡ [] → Each (λ party. now.at party.0 ≡ party.1) (heard tx turn)
       → IsAt (closed tx asked turn host) after → Each Was (doer asked host (voted tx turn) ∷ heard_doer tx turn) → Each Has (doers_of (closed tx asked turn host))

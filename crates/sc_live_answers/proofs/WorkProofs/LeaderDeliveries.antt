@@ -16,7 +16,7 @@ use Rattle.sc_law_walks.proofs.Lemmas.{either_way}
 use Rattle.sc_meaning.specs.sound.Definitions.{Player, player_table}
 use Rattle.sc_live_steps.specs.calm.Definitions.{players, Rows}
 use Rattle.sc_live_steps.specs.orders.Definitions.{bond_of, errand_by, is_yes, is_cast_yes, work_by, works, FliesLone, RunsAlone, Answers, Bound, Elsewhere, Errand, Question, Reply, Result, Here, Records, Ends, Unbound, Work, IsUnderWay, IsUnbound, MayFile, Works}
-use Rattle.sc_live_steps.proofs.OrdersProofs.Lemmas.{votes-count-alone, tables-file, tables-ask-on, cases-draw, tables-rest, promises-keep, entries-run-alone}
+use Rattle.sc_live_steps.proofs.OrderStepsProofs.Lemmas.{votes-count-alone, tables-file, tables-ask-on, cases-draw, tables-rest, promises-keep, entries-run-alone}
 use Rattle.sc_live_journals.specs.rows.Definitions.{view_at, IsSeat, with_event}
 use Rattle.sc_live_journals.proofs.RowsProofs.Lemmas.{view_is, view_others, view_was, none_some}
 use Rattle.sc_live_journals.specs.scenes.Definitions.{Expects, IsAsking, IsWaiting, Aborted, BesideFinds, AtAnother, AtLeader, Changed, Decided, Ended, FindsFlight, FindsOrder, FindsReplica, Heard, Late, LeaderFinds, Leaves, Opened, Voted, ComesTo, ComesToLeader, IsBeside, Led, Unled, scene_at, IsTaking, IsTablesRow, StaysIn, Creates, LeadsAlone, LeavesOrMakes}
@@ -41,7 +41,7 @@ pub data HasActed (r : ReplicaState) (after : Place) : Type 0 where
 pub steps_of : (r : ReplicaState) (after : Place) → HasActed r after → HasStepped r after.0
 steps_of r after (Waited runs same (inl idle)) = Rested same (inl idle)
 steps_of r after (Waited runs same (inr kept)) = Rested same (elim (some_or_none (works r)) [ inl none ↦ inl none | inr some ↦ inr (λ e. some (sym kept ∙ e)) ])
-steps_of r after (Ran flight work among had is none made stays reports) = Executed flight work among had is none made
+steps_of r after (Ran flight work among had fact none made stays reports) = Executed flight work among had fact none made
 
 -- a replica that stays
 stays_put : (r : ReplicaState) → HasActed r (r, [])
@@ -57,13 +57,13 @@ files_work work r sent after may w = Waited w.running w.group (inl may.idle)
 
 -- a vote for the one command
 counts : (from : ℕ) (named : Draw) (ballot : Ballot) (slot : ℕ) (flight : Flight Command) (work : Work) (r : ReplicaState) → FliesLone flight r → work_by flight.value ≡ Some work → HasActed r (mailed from (Accepted named ballot slot) (r, [])).0
-counts from named ballot slot flight work r flies is = elim (votes-count-alone from named ballot slot flight r flies) [
+counts from named ballot slot flight work r flies fact = elim (votes-count-alone from named ballot slot flight r flies) [
   | inl w ↦ keeps_work r [] (mailed from (Accepted named ballot slot) (r, [])).0 w
   | inr d ↦ (let made : Place = (mailed from (Accepted named ballot slot) (r, [])).0 in
-      let run : RunsAlone flight.value d.readied made = subst (λ p. RunsAlone flight.value d.readied p) (sym d.is) (entries-run-alone flight.value work d.readied d.lone is) in
-      Ran flight work (subst (Among flight) (sym flies.flights) (inl refl)) (flies_work flight work r flies is) is run.work (run.group ∙ ap (λ g. (applied g flight.value).0) d.group)
+      let run : RunsAlone flight.value d.readied made = subst (λ p. RunsAlone flight.value d.readied p) (sym d.fact) (entries-run-alone flight.value work d.readied d.lone fact) in
+      Ran flight work (subst (Among flight) (sym flies.flights) (inl refl)) (flies_work flight work r flies fact) fact run.work (run.group ∙ ap (λ g. (applied g flight.value).0) d.group)
       (λ stays. run.leads (ap (λ (g : Group). (applied g flight.value).0.core.gone) d.group ∙ stays.stands) (ap (λ (g : Group). is_member (applied g flight.value).0.core.members d.readied.me) d.group ∙ (ap (is_member (applied r.group flight.value).0.core.members) d.me ∙ stays.mine)))
-      (λ n result told ends. subst (λ (p : Place). IsTold p.1 n result) (sym d.is) (entry_reports n result flight.value d.readied [] told (subst (EndsOrder n result flight.value) (sym d.group) ends))))
+      (λ n result told ends. subst (λ (p : Place). IsTold p.1 n result) (sym d.fact) (entry_reports n result flight.value d.readied [] told (subst (EndsOrder n result flight.value) (sym d.group) ends))))
 ]
 
 module _ (words : ℕ → ℕ → ℕ × ℕ) (births : List (Seat Player)) (rows : Rows) (seat : Seat Player) (number : ℕ) (mail : Mail) (group : Draw) (r : ReplicaState) (c : ComesToLeader words births rows seat number mail group r) (under : IsUnderWay (scene_at births rows)) where
@@ -89,7 +89,7 @@ module _ (words : ℕ → ℕ → ℕ × ℕ) (births : List (Seat Player)) (row
       let l = votes_late r mail.from named ballot slot none in
       keeps_work r [] (mailed mail.from (Accepted named ballot slot) (r, [])).0 (untouched r (mailed mail.from (Accepted named ballot slot) (r, [])).0 l)
   flight_steps named ballot slot e (Leaves w) = keeps_work r [] (mailed mail.from (Accepted named ballot slot) (r, [])).0 (subst (λ b. Works (works r) [] r (mailed mail.from b (r, [])).0) e w)
-  flight_steps named ballot slot e (Changed flight order flies me entry is) = counts mail.from named ballot slot flight order r flies entry.work_is
+  flight_steps named ballot slot e (Changed flight order flies me entry fact) = counts mail.from named ballot slot flight order r flies entry.work_is
   flight_steps named ballot slot e (Opened flight tx asked watch node flies me entry stays apart) = counts mail.from named ballot slot flight _ r flies entry.work_is
   flight_steps named ballot slot e (Voted flight tx coord watch agreed by flies me entry unbound stays willing) = counts mail.from named ballot slot flight _ r flies entry.work_is
   flight_steps named ballot slot e (Aborted flight tx by flies me entry) = counts mail.from named ballot slot flight _ r flies entry.work_is
@@ -156,17 +156,17 @@ module _ (words : ℕ → ℕ → ℕ × ℕ) (births : List (Seat Player)) (row
 
   module _ (name : Draw) where
     of_client : (client : ClientState) → value player_table seat rows ≡ Client client → Fate name
-    of_client client is =
+    of_client client fact =
         let calm = (last_in_time (players words births) rows (row_of player_table seat rows event) timely).0 in
         let one = takes_one words births rows seat.who number (calm_is words births rows seat event calm) in
-        Same (view_is births rows seat event name born (Client client) is (Some (Got one.mail)) (ap (option_map Got) one.sent) ∙ sym (view_was births rows seat event name born (Client client) is))
+        Same (view_is births rows seat event name born (Client client) fact (Some (Got one.mail)) (ap (option_map Got) one.sent) ∙ sym (view_was births rows seat event name born (Client client) fact))
 
-    module _ (node : NodeState) (is : value player_table seat rows ≡ Node node) (mail : Mail) (at : numbered (mails rows) number ≡ Some mail) where
+    module _ (node : NodeState) (fact : value player_table seat rows ≡ Node node) (mail : Mail) (at : numbered (mails rows) number ≡ Some mail) where
       makes : (step : NodeState × List Mail) → on_mail mail.from mail.body node ≡ step → replica_of name step.0.replicas ≡ replica_of name node.replicas → Fate name
       makes step e stays =
           let response = ap (λ (x : NodeState × List Mail). (Node x.0, x.1)) e in
           let input = ap (option_map Got) at in
-          Same (now_is births rows seat event node born is step (Some (Got mail)) input response name ∙ (stays ∙ sym (was_is births rows seat event node born is step (Some (Got mail)) input response name)))
+          Same (now_is births rows seat event node born fact step (Some (Got mail)) input response name ∙ (stays ∙ sym (was_is births rows seat event node born fact step (Some (Got mail)) input response name)))
 
       module _ (group : Draw) (t : IsTaking words births rows seat number mail group node) where
         left : LeavesOrMakes births rows seat event name → Fate name
@@ -198,14 +198,14 @@ module _ (words : ℕ → ℕ → ℕ × ℕ) (births : List (Seat Player)) (row
           makes (node, [])
           (either_way (λ (step : NodeState × List Mail). step ≡ (node, [])) (may_come mail.from mail.body) (routed (group_of_mail mail.body) mail.from mail.body node) (node, []) (ap (λ g. routed g mail.from mail.body node) e) refl) refl
       mail_so true comes (Some group) e =
-          taken_so group (record { seated = born; timely = timely; is_node = is; me_is = finds.me_is node is; sent = at; comes = comes; named = e }) (replica_of group node.replicas) refl (cases-draw group name)
+          taken_so group (record { seated = born; timely = timely; is_node = fact; me_is = finds.me_is node fact; sent = at; comes = comes; named = e }) (replica_of group node.replicas) refl (cases-draw group name)
 
     by_player : (player : Player) → value player_table seat rows ≡ player → Fate name
-    by_player (Client client) is = of_client client is
-    by_player (Node node) is =
+    by_player (Client client) fact = of_client client fact
+    by_player (Node node) fact =
         let calm = (last_in_time (players words births) rows (row_of player_table seat rows event) timely).0 in
         let one = takes_one words births rows seat.who number (calm_is words births rows seat event calm) in
-        mail_so node is one.mail one.sent (may_come one.mail.from one.mail.body) refl (group_of_mail one.mail.body) refl
+        mail_so node fact one.mail one.sent (may_come one.mail.from one.mail.body) refl (group_of_mail one.mail.body) refl
 
     pub fate : Fate name
     fate = by_player (value player_table seat rows) refl
@@ -224,7 +224,7 @@ module _ (words : ℕ → ℕ → ℕ × ℕ) (births : List (Seat Player)) (row
 
     from_fate : view_at births rows name seat.who ≡ Some r → Fate name → Acts name seat.who r
     from_fate has (Same e) = waits seat.who (e ∙ has)
-    from_fate has (Leading x after leads row acts) = (after, row.is, subst (λ y. HasActed y after) (same_Some x r (sym leads.is_there ∙ has)) acts, λ n result k. subst (λ ms. IsTold ms n result) (sym row.sends) k)
+    from_fate has (Leading x after leads row acts) = (after, row.fact, subst (λ y. HasActed y after) (same_Some x r (sym leads.is_there ∙ has)) acts, λ n result k. subst (λ ms. IsTold ms n result) (sym row.sends) k)
     from_fate has (Aside mail x c (Led node lead leads ne off) f) = absurd (ne (sym (leads.alone seat.who r has runs)))
     from_fate has (Aside mail x c (Unled u) f) = absurd (true≢false (sym runs ∙ u.none seat.who r has))
     from_fate has (Missed mail node t none) = absurd (none_some (sym none ∙ (sym (view_was births rows seat event name born (Node node) t.is_node) ∙ has)))
@@ -232,8 +232,8 @@ module _ (words : ℕ → ℕ → ℕ × ℕ) (births : List (Seat Player)) (row
 
     pub acts_on : (host : ℕ) → view_at births rows name host ≡ Some r → Acts name host r
     acts_on host has = elim (cases_Bool (eqb host seat.who)) [
-      | inl t ↦ (let is : host ≡ seat.who = eqb-true host seat.who t in
-          subst (λ h. Acts name h r) (sym is) (from_fate (subst (λ h. view_at births rows name h ≡ Some r) is has) (fate name)))
+      | inl t ↦ (let fact : host ≡ seat.who = eqb-true host seat.who t in
+          subst (λ h. Acts name h r) (sym fact) (from_fate (subst (λ h. view_at births rows name h ≡ Some r) fact has) (fate name)))
       | inr f ↦ waits host (view_others births rows (row_of player_table seat rows event) name host (λ e. true≢false (sym (eq-eqb host seat.who e) ∙ f)) ∙ has)
     ]
 

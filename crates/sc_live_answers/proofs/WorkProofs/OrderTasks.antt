@@ -1,8 +1,9 @@
 -- An order that splits, and any other, is such an affair.
-use Rattle.std.proofs.Common.{◌≡◌, ℕ, zero, suc, ◌||◌, Bool, true, false, List, [], ◌∷◌, take, Option, Some, None, inl, inr, refl, sym, subst}
+use Rattle.sc_live_plain.proofs.PlainProofs.PlainKnownGroups.{among_first}
+use Rattle.std.proofs.Common.{◌≡◌, ℕ, ◌||◌, Bool, true, false, List, take, Option, Some, None, inl, inr, refl, sym, subst}
 use Rattle.std.specs.List.{list_any}
 use Rattle.std.proofs.lemmas.Bool.{cond_both}
-use Rattle.sc_base.specs.Definitions.{Among, same_draw, is_member}
+use Rattle.sc_base.specs.Definitions.{same_draw, is_member}
 use Rattle.sc_node_table.specs.Values.{Draw, Body, Watch, Command, Noop, Call, Join, Leave, Split, Begin, Prepared, RecordVote, GiveUp, Finish, Watched, RecordWatch, Base, Core, Lock, Free, Coordinating, Promised, Watching, Effect, Route, OrderRefusal, Heard, No, Outcome, Past, Vote, Frozen}
 use Rattle.sc_words.specs.commands.Definitions.{is_alone}
 use Rattle.sc_words.specs.declared.commands.bodies.Body.TheVariants as At
@@ -43,8 +44,8 @@ module _ (told child : Draw) where
       (λ _. subst (λ l. LockSplits told child name (left_group group at child).core.born l) (sym free) tt) (λ _. (same, refl, unborn))
 
   order_so : (name : Draw) (group : Group) (at : ℕ) (drawn : Draw) (order : ℕ) → name ≡ told → drawn ≡ child → S name group.core → P name (applied group (Split at drawn order))
-  order_so name group at drawn order same is s =
-      subst (λ d. P name (applied group (Split at d order))) (sym is)
+  order_so name group at drawn order same fact s =
+      subst (λ d. P name (applied group (Split at d order))) (sym fact)
       (cond_both (has_named group.core child) _ _ (P name) (λ _. s)
       (λ new. ordered_if (λ g. S name g.core) group.core.gone (refusal_of group.core (Split at child order)) (split_group group at child order) group (λ e. split_so name group at order same new e) s))
 
@@ -94,13 +95,13 @@ module _ (told child : Draw) where
   Child name base = CreatesBy true told child name base
 
   the_child : (name : Draw) (group : Group) (at : ℕ) (drawn : Draw) (kid : Base) → name ≡ told → drawn ≡ child → Some (child_of group at drawn) ≡ Some kid → Child name kid
-  the_child name group at drawn kid same is e = (let own : child_of group at drawn ≡ kid = cc in subst (Child name) own (same, is, refl))
+  the_child name group at drawn kid same fact e = (let own : child_of group at drawn ≡ kid = cc in subst (Child name) own (same, fact, refl))
 
   ordered_kid : (name : Draw) (gone : Option Route) (why : Option OrderRefusal) (group : Group) (at : ℕ) (drawn : Draw) (kid : Base) → name ≡ told → drawn ≡ child → ordered_child gone why group at drawn ≡ Some kid → Child name kid
-  ordered_kid name (Some into) why group at drawn kid same is e = none_some e
-  ordered_kid name None (Some why) group at drawn kid same is e = none_some e
-  ordered_kid name None None group at drawn kid same is e =
-      cond_both (is_alone group.core) (Some (child_of group at drawn)) None (λ o. o ≡ Some kid → Child name kid) (λ _ x. the_child name group at drawn kid same is x) (λ _ x. none_some x) e
+  ordered_kid name (Some into) why group at drawn kid same fact e = none_some e
+  ordered_kid name None (Some why) group at drawn kid same fact e = none_some e
+  ordered_kid name None None group at drawn kid same fact e =
+      cond_both (is_alone group.core) (Some (child_of group at drawn)) None (λ o. o ≡ Some kid → Child name kid) (λ _ x. the_child name group at drawn kid same fact x) (λ _ x. none_some x) e
 
   released_kid : (name : Draw) (body : Body) (group : Group) (kid : Base) → SplitsInto told child name group.core.born body → released_child body group ≡ Some kid → Child name kid
   released_kid name At.Merge group kid b e = none_some e
@@ -138,18 +139,12 @@ module _ (group : Group) where
   abbrev Were : Group × Effect → Type 0
   Were x = (node : ℕ) → is_member x.0.core.members node ≡ true → is_member group.core.members node ≡ true
 
-  among_take : {X : Type 0} (n : ℕ) (xs : List X) (x : X) → Among x (take n xs) → Among x xs
-  among_take zero xs x is = absurd is
-  among_take (suc n) [] x is = absurd is
-  among_take (suc n) (y ∷ xs) x (inl e) = inl e
-  among_take (suc n) (y ∷ xs) x (inr is) = inr (among_take n xs x is)
-
   left_were : (at : ℕ) (child : Draw) (effect : Effect) → Were (left_group group at child, effect)
-  left_were at child effect node is =
-      among-member group.core.members node (among_take (staying group.core.members) group.core.members node (member-among (take (staying group.core.members) group.core.members) node is))
+  left_were at child effect node fact =
+      among-member group.core.members node (among_first (staying group.core.members) group.core.members node (member-among (take (staying group.core.members) group.core.members) node fact))
 
   stays_were : (effect : Effect) → Were (group, effect)
-  stays_were effect node is = is
+  stays_were effect node fact = fact
 
   split_were : (at : ℕ) (child : Draw) (order : ℕ) (effect : Effect) → Were (split_group group at child order, effect)
   split_were at child order effect =
@@ -157,40 +152,40 @@ module _ (group : Group) where
 
   order_were : (at : ℕ) (child : Draw) (order : ℕ) → Were (applied group (Split at child order))
   order_were at child order =
-      cond_both (has_named group.core child) _ _ Were (λ _ node is. is)
+      cond_both (has_named group.core child) _ _ Were (λ _ node fact. fact)
       (λ _. ordered_if (λ g. (node : ℕ) → is_member g.core.members node ≡ true → is_member group.core.members node ≡ true) group.core.gone (refusal_of group.core (Split at child order)) (split_group group at child order) group
-      (λ _ node is. split_were at child order (applied group Noop).1 node is) (λ node is. is))
+      (λ _ node fact. split_were at child order (applied group Noop).1 node fact) (λ node fact. fact))
 
   plan_were : (at : ℕ) (child tx : Draw) → Were (committed (split_plan group at child) group tx)
   plan_were at child tx =
-      cond_both (can_split group.core at) (Some (left_group group at child, _)) None (λ plan. Were (committed plan group tx)) (λ _ node is. left_were at child (applied group Noop).1 node is) (λ _ node is. is)
+      cond_both (can_split group.core at) (Some (left_group group at child, _)) None (λ plan. Were (committed plan group tx)) (λ _ node fact. left_were at child (applied group Noop).1 node fact) (λ _ node fact. fact)
 
   answer_were : (told child name : Draw) (vote : Past) (body : Body) (heard : Option Heard) (tx : Draw) → SplitsInto told child name group.core.born body → Were (watch_answered vote body heard group tx)
   answer_were told child name Cast.Yes (At.Split at drawn) heard tx b = plan_were at drawn tx
   answer_were told child name Cast.Yes At.Merge heard tx b = absurd b
   answer_were told child name Cast.Yes (At.Repart at) heard tx b = absurd b
   answer_were told child name Cast.Yes (At.Migrate node) heard tx b = absurd b
-  answer_were told child name (Cast.No why) body heard tx b = λ node is. is
-  answer_were told child name Cast.Ended body heard tx b = λ node is. is
+  answer_were told child name (Cast.No why) body heard tx b = λ node fact. fact
+  answer_were told child name Cast.Ended body heard tx b = λ node fact. fact
 
   watch_were : (told child name : Draw) (lock : Lock) (tx : Draw) (vote : Past) → LockSplits told child name group.core.born lock → Were (watch_recorded lock group tx vote)
-  watch_were told child name Free tx vote l = λ node is. is
-  watch_were told child name (Promised locked offer) tx vote l = λ node is. is
-  watch_were told child name (Watching locked watch) tx vote l = λ node is. is
+  watch_were told child name Free tx vote l = λ node fact. fact
+  watch_were told child name (Promised locked offer) tx vote l = λ node fact. fact
+  watch_were told child name (Watching locked watch) tx vote l = λ node fact. fact
   watch_were told child name (Coordinating locked body order heard) tx vote l =
-      cond_both (same_draw locked tx) _ _ Were (λ _. cond_both (asks_watcher body heard) _ _ Were (λ _. answer_were told child name vote body heard tx l) (λ _ node is. is)) (λ _ node is. is)
+      cond_both (same_draw locked tx) _ _ Were (λ _. cond_both (asks_watcher body heard) _ _ Were (λ _. answer_were told child name vote body heard tx l) (λ _ node fact. fact)) (λ _ node fact. fact)
 
   finish_were : (told child name : Draw) (lock : Lock) (tx : Draw) (outcome : Outcome) → LockSplits told child name group.core.born lock → Were (finished lock group tx outcome)
-  finish_were told child name Free tx outcome l = λ node is. is
-  finish_were told child name (Coordinating locked body order heard) tx outcome l = λ node is. is
+  finish_were told child name Free tx outcome l = λ node fact. fact
+  finish_were told child name (Coordinating locked body order heard) tx outcome l = λ node fact. fact
   finish_were told child name (Promised locked offer) tx outcome l = absurd l
-  finish_were told child name (Watching locked watch) tx outcome l = cond_both (same_draw locked tx) (watch_ended outcome group tx watch) _ Were (λ _ node is. is) (λ _ node is. is)
+  finish_were told child name (Watching locked watch) tx outcome l = cond_both (same_draw locked tx) (watch_ended outcome group tx watch) _ Were (λ _ node fact. fact) (λ _ node fact. fact)
 
   pub split_adds : (told child name : Draw) (command : Command) → LockSplits told child name group.core.born group.core.lock → DoesSplit told child name command → Were (applied group command)
   split_adds told child name (Split at drawn order) l d = order_were at drawn order
   split_adds told child name (RecordWatch tx vote by) l d = watch_were told child name group.core.lock tx vote l
   split_adds told child name (Finish tx outcome) l d = finish_were told child name group.core.lock tx outcome l
-  split_adds told child name (Watched tx watch) l d = cond_both (has_voted group.core tx) _ _ Were (λ _ node is. is) (λ _ node is. is)
+  split_adds told child name (Watched tx watch) l d = cond_both (has_voted group.core tx) _ _ Were (λ _ node fact. fact) (λ _ node fact. fact)
   split_adds told child name _ l d = absurd d
 
 -- what is asked then is asked of a watcher

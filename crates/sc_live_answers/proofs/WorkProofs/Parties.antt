@@ -38,9 +38,9 @@ coordinates group free tx tx2 asked (Next part host) (c ∷ (d ∷ (more ∷ res
 
 -- it has decided nothing since
 pub decided_same : (group : Group) (tx asked : Draw) (turn : Turn) (made : Group) → Coordinates group tx asked turn made → made.core.decided ≡ group.core.decided
-decided_same group tx asked First made c = ap (λ (g : Group). g.core.decided) c.is
-decided_same group tx asked Lone made c = ap (λ (g : Group). g.core.decided) c.is
-decided_same group tx asked (Next part host) made c = ap (λ (g : Group). g.core.decided) c.heard.is ∙ ap (λ (g : Group). g.core.decided) c.opened.is
+decided_same group tx asked First made c = ap (λ (g : Group). g.core.decided) c.fact
+decided_same group tx asked Lone made c = ap (λ (g : Group). g.core.decided) c.fact
+decided_same group tx asked (Next part host) made c = ap (λ (g : Group). g.core.decided) c.heard.fact ∙ ap (λ (g : Group). g.core.decided) c.opened.fact
 
 -- ---- one that voted
 

@@ -43,8 +43,8 @@ abbrev pub IsPromisedAs : Group → Draw → Group → Type 0
 IsPromisedAs group tx made = (offer : Offer) × (made.core.lock ≡ Promised tx offer) × (frozen_of made ≡ frozen_of group)
 
 pub promised_as : (group : Group) (free : group.core.lock ≡ Free) (tx tx2 coord : Draw) (by : ℕ) (made : Group) → IsBoundBy group free tx tx2 coord false by made → IsPromisedAs group tx made
-promised_as group free tx tx2 coord by made (ByOffer offer w c v is) = (offer, ap (λ (x : Group). x.core.lock) is, ap frozen_of is)
-promised_as group free tx tx2 coord by made (ByWatch asks w c v is) = absurd (true≢false (sym w))
+promised_as group free tx tx2 coord by made (ByOffer offer w c v fact) = (offer, ap (λ (x : Group). x.core.lock) fact, ap frozen_of fact)
+promised_as group free tx tx2 coord by made (ByWatch asks w c v fact) = absurd (true≢false (sym w))
 
 opened_one : (group : Group) (tx asked : Draw) (turn : Turn) (made : Group) → (turn ≡ First) ⊎ (turn ≡ Lone) → Coordinates group tx asked turn made → asked ≡ group.core.succ.group
 opened_one group tx asked turn made (inl e) c = (let o : IsOpened group tx asked First made = subst (λ t. Coordinates group tx asked t made) e c in o.asked_is)
@@ -55,7 +55,7 @@ same_tx t tx body body2 order order2 h h2 e = cc
 
 -- ---- after some rows
 
-module _ (tells : ReplicasAreRecorded) (words : ℕ → ℕ → ℕ × ℕ) (scenario : Scenario) (first : Base) (journal quiet xs more : Rows) (is : journal ≡ xs ++ more) (calm : IsCalmJournal words scenario journal) (rests : RestsAt words scenario first journal quiet) (seen : AreSeen scenario quiet) where
+module _ (tells : ReplicasAreRecorded) (words : ℕ → ℕ → ℕ × ℕ) (scenario : Scenario) (first : Base) (journal quiet xs more : Rows) (fact : journal ≡ xs ++ more) (calm : IsCalmJournal words scenario journal) (rests : RestsAt words scenario first journal quiet) (seen : AreSeen scenario quiet) where
   abbrev all : List (Seat Player)
   all = births as_nodes scenario
 
@@ -69,20 +69,20 @@ module _ (tells : ReplicasAreRecorded) (words : ℕ → ℕ → ℕ × ℕ) (sce
   pub base_of : (name : Draw) → IsThere (births as_nodes scenario) quiet name → (base : Base) × IsGroupOf as_nodes words scenario journal base × (base.core.id ≡ name)
   base_of name there =
       let named = rests.known.named name there.0 there.1 (sym (seen name there.0) ∙ there.2) in
-      (named.0, tells.groups words scenario journal quiet rests.prefix.more named.0 calm.valid calm.lawful rests.prefix.is named.1, named.2)
+      (named.0, tells.groups words scenario journal quiet rests.prefix.more named.0 calm.valid calm.lawful rests.prefix.fact named.1, named.2)
 
   -- what its lock says, and what it has in flight
   pub locks_at : (name : Draw) (who : ℕ) (r : ReplicaState) → IsThere (births as_nodes scenario) quiet name → view_at (births as_nodes scenario) xs name who ≡ Some r → LockIsRecorded scenario journal name r.group
   locks_at name who r there has =
       let base = base_of name there in
-      let at = views_are_replicas as_nodes words scenario journal base.0 base.1 xs more is who r (ap (λ n. view_at all xs n who) base.2 ∙ has) in
+      let at = views_are_replicas as_nodes words scenario journal base.0 base.1 xs more fact who r (ap (λ n. view_at all xs n who) base.2 ∙ has) in
       subst (λ n. LockIsRecorded scenario journal n r.group) base.2 (tells.locks words scenario journal base.0 base.1 xs at.0 at.1 r at.2)
 
   pub flights_at : (name : Draw) (who : ℕ) (r : ReplicaState) → IsThere (births as_nodes scenario) quiet name → view_at (births as_nodes scenario) xs name who ≡ Some r
       → Each (λ (flight : Flight Command). IsAllowedBy scenario journal name flight.value) r.leader.flights
   flights_at name who r there has =
       let base = base_of name there in
-      let at = views_are_replicas as_nodes words scenario journal base.0 base.1 xs more is who r (ap (λ n. view_at all xs n who) base.2 ∙ has) in
+      let at = views_are_replicas as_nodes words scenario journal base.0 base.1 xs more fact who r (ap (λ n. view_at all xs n who) base.2 ∙ has) in
       subst (λ n. Each (λ (flight : Flight Command). IsAllowedBy scenario journal n flight.value) r.leader.flights) base.2 (tells.flights words scenario journal base.0 base.1 xs at.0 at.1 r at.2)
 
   pub begin_so : FlightsBeginSo (births as_nodes scenario) quiet xs
@@ -93,17 +93,17 @@ module _ (tells : ReplicasAreRecorded) (words : ℕ → ℕ → ℕ × ℕ) (sce
   -- ---- who has done something
 
   pub free_first : (it : Doer) (d : Has it) → d.first.group.core.lock ≡ Free
-  free_first it d = (rests.is.quiet.at_rest it.group it.host d.first (sym (seen it.group it.host) ∙ d.was)).free
+  free_first it d = (rests.fact.quiet.at_rest it.group it.host d.first (sym (seen it.group it.host) ∙ d.was)).free
 
   -- it led in the quiet
   pub led_first : (it : Doer) (d : Has it) → (stands : StandsQuiet (replicas_after scenario quiet) it.group) × (d.first ≡ stands.lead)
-  led_first it d = leads_it scenario quiet _ _ rests.is.quiet rests.known it.group it.host d.first (sym (seen it.group it.host) ∙ d.was) d.led
+  led_first it d = leads_it scenario quiet _ _ rests.fact.quiet rests.known it.group it.host d.first (sym (seen it.group it.host) ∙ d.was) d.led
 
   -- the successor of the group stood in the quiet
   pub succ_stands : (it : Doer) (d : Has it) → StandsQuiet (replicas_after scenario quiet) d.first.group.core.succ.group
   succ_stands it d =
       let s = led_first it d in
-      subst (λ (r : ReplicaState). StandsQuiet (replicas_after scenario quiet) r.group.core.succ.group) (sym s.1) (link_stands scenario quiet _ _ rests.is.quiet rests.known it.group s.0)
+      subst (λ (r : ReplicaState). StandsQuiet (replicas_after scenario quiet) r.group.core.succ.group) (sym s.1) (link_stands scenario quiet _ _ rests.fact.quiet rests.known it.group s.0)
 
   pub there_of : (it : Doer) → Has it → IsThere (births as_nodes scenario) quiet it.group
   there_of it d = (it.host, d.first, d.was)
@@ -113,7 +113,7 @@ module _ (tells : ReplicasAreRecorded) (words : ℕ → ℕ → ℕ × ℕ) (sce
   module _ (deal : Deal) (leads : (scene_at (births as_nodes scenario) xs).lead deal.coord ≡ Some deal.chief) (bond : ((scene_at (births as_nodes scenario) xs).at deal.coord).bond ≡ Asking deal.tx deal.asked deal.turn)
       (d : HasDone (births as_nodes scenario) quiet xs (doer deal.coord deal.chief (opened deal.tx deal.turn))) where
     pub asking : bond_of d.now.group.core ≡ Asking deal.tx deal.asked deal.turn
-    asking = sym (lead_bond all xs deal.coord deal.chief d.now leads d.is) ∙ bond
+    asking = sym (lead_bond all xs deal.coord deal.chief d.now leads d.fact) ∙ bond
 
     pub coords : Coordinates d.first.group deal.tx deal.asked deal.turn d.now.group
     coords =
@@ -132,15 +132,15 @@ module _ (tells : ReplicasAreRecorded) (words : ℕ → ℕ → ℕ × ℕ) (sce
       both = subst (λ t. Coordinates d.first.group deal.tx deal.asked t d.now.group) turn coords
 
       bound_is : bond_of p.now.group.core ≡ Bound deal.tx
-      bound_is = sym (lead_bond all xs part host p.now its_lead p.is) ∙ its_bond
+      bound_is = sym (lead_bond all xs part host p.now its_lead p.fact) ∙ its_bond
 
       pub tx_is : both.heard.tx ≡ deal.tx
-      tx_is = same_tx both.heard.tx deal.tx both.opened.body At.Merge both.opened.order both.heard.order None both.heard.got (sym (ap (λ (x : Group). x.core.lock) both.opened.is) ∙ both.heard.lock)
+      tx_is = same_tx both.heard.tx deal.tx both.opened.body At.Merge both.opened.order both.heard.order None both.heard.got (sym (ap (λ (x : Group). x.core.lock) both.opened.fact) ∙ both.heard.lock)
 
       pub heard_vote : IsAllowedBy scenario journal deal.coord (RecordVote deal.tx (Vows.Yes both.heard.heard.frozen) 0)
       heard_vote =
-          let lock = ap (λ (x : Group). x.core.lock) both.heard.is in
-          let l = locks_at deal.coord deal.chief d.now (there_of (doer deal.coord deal.chief (opened deal.tx deal.turn)) d) d.is in
+          let lock = ap (λ (x : Group). x.core.lock) both.heard.fact in
+          let l = locks_at deal.coord deal.chief d.now (there_of (doer deal.coord deal.chief (opened deal.tx deal.turn)) d) d.fact in
           subst (λ t. IsAllowedBy scenario journal deal.coord (RecordVote t (Vows.Yes both.heard.heard.frozen) 0)) tx_is (l.heard both.heard.tx At.Merge both.heard.order both.heard.heard lock).1
 
       -- what it promised is what it was
@@ -150,7 +150,7 @@ module _ (tells : ReplicasAreRecorded) (words : ℕ → ℕ → ℕ × ℕ) (sce
           subst (IsPromisedAs p.first.group deal.tx) (sym p.group_is) (promised_as p.first.group (free_first (doer part host (Promising deal.tx ∷ [])) p) deal.tx deal.tx made.0 made.1 _ made.2)
 
       its_vote : IsAllowedBy scenario journal part (RecordVote deal.tx (Vows.Yes (frozen_of p.now.group)) 0)
-      its_vote = ((locks_at part host p.now (there_of (doer part host (Promising deal.tx ∷ [])) p) p.is).promises deal.tx promise.0 promise.1).1
+      its_vote = ((locks_at part host p.now (there_of (doer part host (Promising deal.tx ∷ [])) p) p.fact).promises deal.tx promise.0 promise.1).1
 
       pub frozen_is : both.heard.heard.frozen ≡ frozen_of p.first.group
       frozen_is = one_vote scenario journal deal.tx deal.coord part both.heard.heard.frozen (frozen_of p.now.group) 0 0 heard_vote its_vote ∙ promise.2

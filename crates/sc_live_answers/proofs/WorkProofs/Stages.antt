@@ -4,7 +4,7 @@ use Rattle.sc_base.specs.Definitions.{Among}
 use Rattle.sc_node_table.specs.Values.{Draw}
 use Rattle.sc_words.proofs.PaxosProofs.Lemmas.{Each-among}
 use Rattle.sc_live_steps.specs.orders.Definitions.{Turn, First, Lone, Next, Work, Opens, Scene, Deal, Leg, Mailed, Filed, Stage, Still, Ordered, Asks, SentOn, Weighs, Replied, Recorded, Closes, ClosesBoth, heard, closing, parties_of, heard_lead, leads_of, IsAt, TakesOutcome, LastTakes, OneTakes, TwoTakes, IsFreed, LastFreed, OneFreed, TwoFreed, OfQuestion, OfVote, OfOutcome, closed, filed_there, IsStepOf, ByRest, ByOrder, ByChange, ByDeal, ByPassing, ByAsking, ByTaking, ByVote, ByNo, ByHearing, ByDeciding, ByEnd}
-use Rattle.sc_live_steps.proofs.OrdersProofs.Lemmas.{tagged, tokens, found, work_of, no-work}
+use Rattle.sc_live_steps.proofs.OrderStepsProofs.Lemmas.{tagged, tokens, found, work_of, no-work}
 use Rattle.sc_live_answers.specs.Definitions.{MustLead}
 
 -- ---- a group at whose leader work stands
@@ -32,10 +32,10 @@ module _ (name : Draw) (work : Work) where
   by_stage (Replied deal agreed host) t = none_heard deal.tx deal.turn (Replied deal agreed host) t
   by_stage (Recorded deal agreed host) (inl e) = (deal.chief, inl (ap (λ n. (n, deal.chief)) (ap (λ p. p.0) e)))
   by_stage (Recorded deal agreed host) (inr t) = none_heard deal.tx deal.turn (Recorded deal agreed host) t
-  by_stage (Closes tx party) t = elim (party_leads tx party.group party.host party.leg [] t) [ inl is ↦ (party.host, inl (ap (λ n. (n, party.host)) is)) | inr none ↦ absurd none ]
+  by_stage (Closes tx party) t = elim (party_leads tx party.group party.host party.leg [] t) [ inl fact ↦ (party.host, inl (ap (λ n. (n, party.host)) fact)) | inr none ↦ absurd none ]
   by_stage (ClosesBoth tx one two) t = elim (party_leads tx one.group one.host one.leg (tagged two.group (work_of (closing tx two.leg two.host)) ++ []) t) [
-    | inl is ↦ (one.host, inl (ap (λ n. (n, one.host)) is))
-    | inr more ↦ elim (party_leads tx two.group two.host two.leg [] more) [ inl is ↦ (two.host, inr (inl (ap (λ n. (n, two.host)) is))) | inr none ↦ absurd none ]
+    | inl fact ↦ (one.host, inl (ap (λ n. (n, one.host)) fact))
+    | inr more ↦ elim (party_leads tx two.group two.host two.leg [] more) [ inl fact ↦ (two.host, inr (inl (ap (λ n. (n, two.host)) fact))) | inr none ↦ absurd none ]
   ]
 
 -- something is to come to it
@@ -70,28 +70,28 @@ module _ (name : Draw) where
   back_freed group stage later (TwoFreed tx one two e l g a) m = (let n : Leads (Closes tx one) = subst Leads a m in was stage (ClosesBoth tx one two) e (first n))
     where
       first : Leads (Closes tx one) → Leads (ClosesBoth tx one two)
-      first (node, inl is) = (node, inl is)
+      first (node, inl fact) = (node, inl fact)
       first (node, inr none) = absurd none
 
   -- the coordinator leads, or one of those that said Yes
   question_back : (deal : Deal) (host to : ℕ) → Leads (Weighs deal host) → Before (Asks deal to)
-  question_back deal host to (node, inl is) = inl (node, inl is)
-  question_back deal host to (node, inr (inl is)) = inr (inr (deal, to, refl, ap (λ p. p.0) is))
+  question_back deal host to (node, inl fact) = inl (node, inl fact)
+  question_back deal host to (node, inr (inl fact)) = inr (inr (deal, to, refl, ap (λ p. p.0) fact))
   question_back deal host to (node, inr (inr more)) = inl (node, inr more)
 
   closed_back : (deal : Deal) (turn : Turn) (host : ℕ) → deal.turn ≡ turn → Leads (closed deal.tx deal.asked turn host) → Leads (Recorded deal true host)
-  closed_back deal First host e (node, inl is) = (node, inr (inl is))
+  closed_back deal First host e (node, inl fact) = (node, inr (inl fact))
   closed_back deal First host e (node, inr none) = absurd none
-  closed_back deal Lone host e (node, inl is) = (node, inr (inl is))
+  closed_back deal Lone host e (node, inl fact) = (node, inr (inl fact))
   closed_back deal Lone host e (node, inr none) = absurd none
-  closed_back deal (Next part there) host e (node, inl is) = (node, inr (inr (subst (λ t. Among (name, node) (heard_lead t)) (sym e) (inl is))))
-  closed_back deal (Next part there) host e (node, inr (inl is)) = (node, inr (inl is))
+  closed_back deal (Next part there) host e (node, inl fact) = (node, inr (inr (subst (λ t. Among (name, node) (heard_lead t)) (sym e) (inl fact))))
+  closed_back deal (Next part there) host e (node, inr (inl fact)) = (node, inr (inl fact))
   closed_back deal (Next part there) host e (node, inr (inr none)) = absurd none
 
   begun_back : (group : Draw) (deal : Deal) (to : ℕ) (work : Work) → deal.coord ≡ group → (deal.turn ≡ First) ⊎ (deal.turn ≡ Lone) → Leads (Asks deal to) → Leads (Ordered group deal.chief work)
-  begun_back group deal to work is turn (node, inl e) = (node, inl (ap (λ n. (n, deal.chief)) (sym is) ∙ e))
-  begun_back group deal to work is (inl turn) (node, inr more) = absurd (subst (λ t. Among (name, node) (heard_lead t)) turn more)
-  begun_back group deal to work is (inr turn) (node, inr more) = absurd (subst (λ t. Among (name, node) (heard_lead t)) turn more)
+  begun_back group deal to work fact turn (node, inl e) = (node, inl (ap (λ n. (n, deal.chief)) (sym fact) ∙ e))
+  begun_back group deal to work fact (inl turn) (node, inr more) = absurd (subst (λ t. Among (name, node) (heard_lead t)) turn more)
+  begun_back group deal to work fact (inr turn) (node, inr more) = absurd (subst (λ t. Among (name, node) (heard_lead t)) turn more)
 
   hearing_back : (deal next : Deal) (host to : ℕ) → next.coord ≡ deal.coord → next.chief ≡ deal.chief → next.turn ≡ Next deal.asked host → Leads (Asks next to) → Leads (Recorded deal true host)
   hearing_back deal next host to coord chief turn (node, inl e) = (node, inl (ap (λ n. (n, deal.chief)) (sym coord) ∙ (ap (λ c. (next.coord, c)) (sym chief) ∙ e)))

@@ -1,12 +1,13 @@
 -- An order given in a quiet journal stands at its group, or nothing does.
-use Rattle.std.proofs.Common.{◌≡◌, ℕ, ◌≤◌, eqb, cond, true, false, true≢false, List, [], ◌∷◌, ◌++◌, Option, Some, None, inl, inr, refl, sym, ◌∙◌, ap, subst}
+use Rattle.std.proofs.Common.{◌≡◌, ℕ, ◌≤◌, true, false, true≢false, List, [], Option, Some, None, inl, inr, refl, sym, ◌∙◌, ap, subst, eqb, cond, ◌∷◌, ◌++◌}
+use Rattle.sc_live_journals.proofs.ScenesProofs.Deliveries.{some_or_none, client_or_node}
 use Rattle.sc_base.specs.Definitions.{Each, next_name}
-use Rattle.sc_node_table.specs.Values.{Draw, Command, Order, OrderLine, OrderRefusal, Refused, Mail, Node, Client, Seat, Go, Input}
+use Rattle.sc_node_table.specs.Values.{Draw, Command, Order, OrderLine, OrderRefusal, Refused, Mail, Node, Client, Seat, Go}
 use Rattle.sc_words.specs.declared.commands.orders.Order.TheVariants as An
 use Rattle.sc_words.specs.declared.commands.orders.OrderRefusal.TheVariants.{NotLeader}
 use Rattle.sc_actor.specs.declared.rows.Event.TheVariants.{Told}
 use Rattle.sc_actor.specs.declared.rows.Input.TheVariants.{Told as ToldInput}
-use Rattle.sc_actor.specs.Definitions.{value, acted, input_of, replay, row_of, is_quiet}
+use Rattle.sc_actor.specs.Definitions.{value, row_of, is_quiet}
 use Rattle.sc_client_table.specs.table.Definitions.{Client as ClientState}
 use Rattle.sc_live_orderly.specs.Definitions.{AreInTime}
 use Rattle.sc_live_orderly.proofs.Lemmas.{in_time_before, in_time_tidy, quiet-empty}
@@ -15,12 +16,11 @@ use Rattle.sc_scenario.specs.declared.scenario.scenarios.Scenario.{Scenario}
 use Rattle.sc_node_table.specs.Definitions.{result_sent, NodeState, replica_of, group_of_order, ordered_of, takes_name, untaken, ordered_row, ReplicaState, Place, name_of, next, last_slot}
 use Rattle.sc_meaning.specs.sound.Definitions.{Player, player_table, births, as_nodes, Lawful}
 use Rattle.sc_live_steps.specs.calm.Definitions.{players, IsAtRest, Rows}
-use Rattle.sc_live_steps.proofs.CalmProofs.Lemmas.{put_others}
-use Rattle.sc_live_steps.proofs.OrdersProofs.Lemmas.{cases-draw}
+use Rattle.sc_live_steps.proofs.CalmStepsProofs.Lemmas.{put_others}
+use Rattle.sc_live_steps.proofs.OrderStepsProofs.Lemmas.{cases-draw}
 use Rattle.sc_live_journals.specs.rows.Definitions.{view_at, IsSeat, with_event, IsReplicasRow, IsWellKept}
 use Rattle.sc_live_journals.proofs.RowsProofs.Lemmas.{names_stay, found_name, rows_replicas, view_was, sent_is, Plays, Found, found_well, replay_well}
 use Rattle.sc_live_journals.specs.groups.Definitions.{ScenariosAreWellBorn}
-use Rattle.sc_law_walks.proofs.Lemmas.{either_way}
 use Rattle.sc_live_journals.proofs.ScenesProofs.Lemmas.{client_leaves, now_is, all_sent}
 use Rattle.sc_live_answers.specs.Definitions.{Task, is_split, AreAtWork, IsTaskOf, OrdersBeginWork}
 use Rattle.sc_live_answers.proofs.WorkProofs.Affairs.{Affair, BeginsFree, AreGood}
@@ -31,24 +31,8 @@ use Rattle.sc_live_answers.proofs.WorkProofs.WorkInPrefixes.{AreHeld, goes_on, h
 use Rattle.sc_live_answers.proofs.ChildrenProofs.DrawnNames.{drawn_nowhere, drawn_unknown}
 use Rattle.std.proofs.lemmas.Option.{same_Some}
 use Rattle.sc_live_answers.proofs.BallotsProofs.WellPlayers.{plays_of}
-use Rattle.sc_live_answers.proofs.OrdersProofs.HeldOrdersAtStart.{order_refused}
-
--- who is born as a client stays one
-IsClient : Player → Type 0
-IsClient (Node node) = ⊥
-IsClient (Client client) = Unit {0}
-
-acted_client : (player : Player) (o : Option (Input Mail OrderLine)) → IsClient player → IsClient (acted player_table player o).0
-unfolding IsClient
-acted_client (Client client) None k = tt
-acted_client (Client client) (Some input) k = tt
-acted_client (Node node) o k = absurd k
-
-replay_client : (who : ℕ) (rows : Rows) (player : Player) (sent : List Mail) → IsClient player → IsClient (replay player_table who player sent rows)
-replay_client who [] player sent k = k
-replay_client who (row ∷ rows) player sent k =
-    replay_client who rows (cond (eqb row.who who) (acted player_table player (input_of sent row.event)).0 player) (sent ++ row.sent)
-    (either_way IsClient (eqb row.who who) (acted player_table player (input_of sent row.event)).0 player (acted_client player (input_of sent row.event) k) k)
+use Rattle.sc_law_walks.proofs.Lemmas.{order_refused}
+use Rattle.sc_law_entries.proofs.NamesProofs.Fresh.{IsClient, replay_client}
 
 -- at one that rests nothing stands
 rest_so : (a : Affair) (begins : BeginsFree a) (name : Draw) (r : ReplicaState) → IsAtRest r → HeldSo a name r
@@ -82,8 +66,8 @@ module _ (well : ScenariosAreWellBorn) (words : ℕ → ℕ → ℕ × ℕ) (sce
   quiet_held : (a : Affair) → BeginsFree a → AreHeld a words (births as_nodes scenario) quiet
   quiet_held a b = record {
     replicas = λ name who r v. rest_so a b name r (rests name who r v).0;
-    mail = λ who is.
-        subst (AreGood a) (sym (quiet-empty (players words all) quiet who (in_time_tidy (players words all) quiet (in_time_before (players words all) quiet (row_of player_table seat quiet (Told line)) timely)) is calm)) tt;
+    mail = λ who fact.
+        subst (AreGood a) (sym (quiet-empty (players words all) quiet who (in_time_tidy (players words all) quiet (in_time_before (players words all) quiet (row_of player_table seat quiet (Told line)) timely)) fact calm)) tt;
   }
 
   abbrev Done : Type 0
@@ -98,33 +82,32 @@ module _ (well : ScenariosAreWellBorn) (words : ℕ → ℕ → ℕ × ℕ) (sce
   nothing b = finish (record { number = line.number; group = group; name = group; splits = false }) (record { number = refl; group = refl; there = λ t. absurd (true≢false (sym t)); new = λ t. absurd (true≢false (sym t)); unknown = λ t. absurd (true≢false (sym t)) }) b
 
   client_begins : (client : ClientState) → value player_table seat quiet ≡ Client client → Done
-  client_begins client is =
+  client_begins client fact =
       nothing (record {
         views = λ name r v. rest_so (affair_of line.number false group group) (begins_free line.number false group group) name r
-            (rests name seat.who r (sym (client_leaves words all quiet seat (Told line) seated timely client is name (ToldInput line) refl refl).view ∙ v)).0;
-        good = subst (AreGood (affair_of line.number false group group)) (sym (sent_is all quiet seat (Told line) group seated (Client client) is (Some (ToldInput line)) refl)) tt;
+            (rests name seat.who r (sym (client_leaves words all quiet seat (Told line) seated timely client fact name (ToldInput line) refl refl).view ∙ v)).0;
+        good = subst (AreGood (affair_of line.number false group group)) (sym (sent_is all quiet seat (Told line) group seated (Client client) fact (Some (ToldInput line)) refl)) tt;
       })
 
-  module _ (node : NodeState) (is : value player_table seat quiet ≡ Node node) where
+  module _ (node : NodeState) (fact : value player_table seat quiet ≡ Node node) where
     plays : Plays seat.who (Node node)
-    plays = subst (Plays seat.who) is (replay_well seat.who seat.who quiet seat.actor [] (plays_of seat.who seat.actor ((well scenario).well seat seated)))
+    plays = subst (Plays seat.who) fact (replay_well seat.who seat.who quiet seat.actor [] (plays_of seat.who seat.actor ((well scenario).well seat seated)))
 
     view_of : (name : Draw) (o : Option ReplicaState) → replica_of name node.replicas ≡ o → view_at all quiet name seat.who ≡ o
-    view_of name o here = view_was all quiet seat Go name seated (Node node) is ∙ here
+    view_of name o here = view_was all quiet seat Go name seated (Node node) fact ∙ here
 
     -- who is a node was born as one
     born_node : (player : Player) → seat.actor ≡ player → (born : NodeState) × (seat.actor ≡ Node born)
-    unfolding IsClient
     born_node (Node born) e = (born, e)
-    born_node (Client client) e = absurd (subst IsClient is (replay_client seat.who quiet seat.actor [] (subst IsClient (sym e) tt)))
+    born_node (Client client) e = absurd (subst IsClient fact (replay_client seat.who seat.actor [] quiet (subst IsClient (sym e) tt)))
 
     none_begins : replica_of group node.replicas ≡ None → Done
     none_begins here =
         nothing (record {
           views = λ name r v. rest_so (affair_of line.number false group group) (begins_free line.number false group group) name r
-              (rests name seat.who r (view_of name (Some r) (sym (now_is all quiet seat (Told line) node seated is (node, result_sent node.me line.number (Refused (NotLeader None)) []) (Some (ToldInput line)) refl
+              (rests name seat.who r (view_of name (Some r) (sym (now_is all quiet seat (Told line) node seated fact (node, result_sent node.me line.number (Refused (NotLeader None)) []) (Some (ToldInput line)) refl
               (ap (λ (x : NodeState × List Mail). (Node x.0, x.1)) (ap (λ o. ordered_of o line node) here)) name) ∙ v))).0;
-          good = subst (AreGood (affair_of line.number false group group)) (sym (all_sent all quiet seat (Told line) node seated is (node, result_sent node.me line.number (Refused (NotLeader None)) []) (Some (ToldInput line)) refl
+          good = subst (AreGood (affair_of line.number false group group)) (sym (all_sent all quiet seat (Told line) node seated fact (node, result_sent node.me line.number (Refused (NotLeader None)) []) (Some (ToldInput line)) refl
               (ap (λ (x : NodeState × List Mail). (Node x.0, x.1)) (ap (λ o. ordered_of o line node) here)))) (tt, tt);
         })
 
@@ -136,10 +119,7 @@ module _ (well : ScenariosAreWellBorn) (words : ℕ → ℕ → ℕ × ℕ) (sce
       own = found_name group node.replicas r here
 
       row : IsReplicasRow all quiet seat (Told line) group (Some r) after
-      row = rows_replicas.ordered all quiet seat line node r seated is here
-
-      rest : IsAtRest r × (r.running ≡ true → r.leader.reports ≡ []) × (next r ≤ last_slot)
-      rest = rests group seat.who r (view_of group (Some r) here)
+      row = rows_replicas.ordered all quiet seat line node r seated fact here
 
       kept : IsWellKept seat.who r
       kept = subst (Found seat.who) here (found_well seat.who group node.replicas plays.1)
@@ -148,10 +128,10 @@ module _ (well : ScenariosAreWellBorn) (words : ℕ → ℕ → ℕ × ℕ) (sce
       begins : (a : Affair) → BeginsFree a → HeldSo a group after.0 → AreGood a after.1 → Begins a
       begins a b h m = record {
         views = λ name x v. elim (cases-draw name group) [
-          | inl i ↦ subst (HeldSo a name) (same_Some after.0 x (sym row.is ∙ (ap (λ n. view_at all (with_event quiet seat (Told line)) n seat.who) (sym i) ∙ v))) (subst (λ n. HeldSo a n after.0) (sym i) h)
+          | inl i ↦ subst (HeldSo a name) (same_Some after.0 x (sym row.fact ∙ (ap (λ n. view_at all (with_event quiet seat (Told line)) n seat.who) (sym i) ∙ v))) (subst (λ n. HeldSo a n after.0) (sym i) h)
           | inr ne ↦ rest_so a b name x
               (rests name seat.who x (view_of name (Some x) (sym (put_others group name after.0 node.replicas (names_stay.ordered node.draws line r ∙ own) ne)
-              ∙ (sym (now_is all quiet seat (Told line) node seated is (ordered_of (Some r) line node) (Some (ToldInput line)) refl (ap (λ (s : NodeState × List Mail). (Node s.0, s.1)) (ap (λ o. ordered_of o line node) here)) name) ∙ v)))).0
+              ∙ (sym (now_is all quiet seat (Told line) node seated fact (ordered_of (Some r) line node) (Some (ToldInput line)) refl (ap (λ (s : NodeState × List Mail). (Node s.0, s.1)) (ap (λ o. ordered_of o line node) here)) name) ∙ v)))).0
         ];
         good = subst (AreGood a) (sym row.sends_all) m;
       }
@@ -159,25 +139,20 @@ module _ (well : ScenariosAreWellBorn) (words : ℕ → ℕ → ℕ × ℕ) (sce
       by_taken : (o : Option OrderRefusal) → untaken node.draws line r ≡ o → Done
       by_taken (Some why) e =
           let is_ : after ≡ (r, result_sent r.me line.number (Refused why) []) = order_refused node.draws line r why e in
-          nothing (begins (affair_of line.number false group group) (begins_free line.number false group group) (subst (λ (p : Place). HeldSo (affair_of line.number false group group) group p.0) (sym is_) (rest_so (affair_of line.number false group group) (begins_free line.number false group group) group r rest.0))
+          nothing (begins (affair_of line.number false group group) (begins_free line.number false group group) (subst (λ (p : Place). HeldSo (affair_of line.number false group group) group p.0) (sym is_) (rest_so (affair_of line.number false group group) (begins_free line.number false group group) group r (rests group seat.who r (view_of group (Some r) here)).0))
           (subst (λ (p : Place). AreGood (affair_of line.number false group group) p.1) (sym is_) (tt, tt)))
       by_taken None e =
-          let fine = order_fine node.draws line r rest.0 own rest.1 rest.2 kept.1 in
+          let fine = order_fine node.draws line r (rests group seat.who r (view_of group (Some r) here)).0 own (rests group seat.who r (view_of group (Some r) here)).1 (rests group seat.who r (view_of group (Some r) here)).2 kept.1 in
           let born = born_node seat.actor refl in
           finish (record { number = line.number; group = group; name = next_name node.draws; splits = is_split line.order })
-          (record { number = refl; group = refl; there = λ t. (seat.who, r, view_of group (Some r) here); unknown = λ t. drawn_unknown words scenario quiet bounded lawful seat line born.0 born.1 seated node is r here e (split_names line.order t); new = λ t. drawn_nowhere words scenario quiet bounded lawful seat line born.0 born.1 seated node is r here e (split_names line.order t) })
+          (record { number = refl; group = refl; there = λ t. (seat.who, r, view_of group (Some r) here); unknown = λ t. drawn_unknown words scenario quiet bounded lawful seat line born.0 born.1 seated node fact r here e (split_names line.order t); new = λ t. drawn_nowhere words scenario quiet bounded lawful seat line born.0 born.1 seated node fact r here e (split_names line.order t) })
           (begins (affair_of line.number (is_split line.order) group (next_name node.draws)) (begins_free line.number (is_split line.order) group (next_name node.draws)) (fine.0.1, fine.0.2, fine.0.3, fine.0.4, fine.0.5) fine.1)
 
-    node_begins : (o : Option ReplicaState) → replica_of group node.replicas ≡ o → Done
-    node_begins None here = none_begins here
-    node_begins (Some r) here = by_taken r here (untaken node.draws line r) refl
-
-  player_begins : (player : Player) → value player_table seat quiet ≡ player → Done
-  player_begins (Client client) is = client_begins client is
-  player_begins (Node node) is = node_begins node is (replica_of group node.replicas) refl
-
   pub order_begins : Done
-  order_begins = player_begins (value player_table seat quiet) refl
+  order_begins = elim (client_or_node (value player_table seat quiet)) [
+    | inl client ↦ client_begins client.0 client.1
+    | inr node ↦ elim (some_or_none (replica_of group node.0.replicas)) [ inl none ↦ none_begins node.0 node.1 none | inr one ↦ by_taken node.0 node.1 one.0 one.1 (untaken node.0.draws line one.0) refl ]
+  ]
 
 pub orders_begin : ScenariosAreWellBorn → ValidScenariosAreBounded → OrdersBeginWork
 orders_begin well bound words scenario quiet seat line valid lawful seated timely calm rests = order_begins well words scenario quiet seat line (bound scenario valid) lawful seated timely calm rests

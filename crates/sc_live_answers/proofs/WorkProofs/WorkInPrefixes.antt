@@ -43,12 +43,12 @@ module _ (a : Affair) (words : ℕ → ℕ → ℕ × ℕ) (births : List (Seat 
   pub goes_on : RowHolds a words births rows seat event → AreHeld a words births rows → AreHeld a words births (with_event rows seat event)
   goes_on h k = record {
     replicas = λ name who r v. elim (cases_eq who seat.who) [
-      | inl is ↦ h.views name r (ap (view_at births (with_event rows seat event) name) (sym is) ∙ v)
+      | inl fact ↦ h.views name r (ap (view_at births (with_event rows seat event) name) (sym fact) ∙ v)
       | inr ne ↦ k.replicas name who r (sym (view_others births rows (row_of player_table seat rows event) name who ne) ∙ v)
     ];
-    mail = λ who is.
+    mail = λ who fact.
         subst (AreGood a) (sym (rest-calm s rows row who (in_time_tidy s rows (in_time_before s rows row timely)) (last_in_time s rows row timely).0))
-        (Each-append (IsGood a) (drop (taken who row) (rest s rows who)) (mail_for s who row.sent) (Each-drop (IsGood a) (taken who row) (rest s rows who) (k.mail who is))
+        (Each-append (IsGood a) (drop (taken who row) (rest s rows who)) (mail_for s who row.sent) (Each-drop (IsGood a) (taken who row) (rest s rows who) (k.mail who fact))
         (each_filter (IsGood a) (λ (m : Mail). eqb (s.receiver m) who) row.sent h.good));
   }
 
@@ -149,13 +149,13 @@ module _ (task : Task) (words : ℕ → ℕ → ℕ × ℕ) (births : List (Seat
   pub work_held : AreAtWork task words births rows → AreHeld (affair_of task.number task.splits task.group task.name) words births rows
   work_held k = record {
     replicas = λ name who r v. held_so task.number task.splits task.group task.name name r (k.replicas name who r v);
-    mail = λ who is. Each-weaker (λ (mail : Mail). SaysWork task mail.body) (IsGood (affair_of task.number task.splits task.group task.name)) (λ mail q. says_so task.number task.splits task.group task.name mail.body q) (rest (players words births) rows who) (k.mail who is);
+    mail = λ who fact. Each-weaker (λ (mail : Mail). SaysWork task mail.body) (IsGood (affair_of task.number task.splits task.group task.name)) (λ mail q. says_so task.number task.splits task.group task.name mail.body q) (rest (players words births) rows who) (k.mail who fact);
   }
 
   pub held_work : AreHeld (affair_of task.number task.splits task.group task.name) words births rows → AreAtWork task words births rows
   held_work k = record {
     replicas = λ name who r v. held_back task.number task.splits task.group task.name name r (k.replicas name who r v);
-    mail = λ who is. Each-weaker (IsGood (affair_of task.number task.splits task.group task.name)) (λ (mail : Mail). SaysWork task mail.body) (λ mail q. says_back task.number task.splits task.group task.name mail.body q) (rest (players words births) rows who) (k.mail who is);
+    mail = λ who fact. Each-weaker (IsGood (affair_of task.number task.splits task.group task.name)) (λ (mail : Mail). SaysWork task mail.body) (λ mail q. says_back task.number task.splits task.group task.name mail.body q) (rest (players words births) rows who) (k.mail who fact);
   }
 
 pub deliveries_keep : ScenariosAreWellBorn → DeliveriesKeepWork

@@ -12,8 +12,8 @@ use Rattle.sc_law_walks.proofs.Lemmas.{either_way}
 use Rattle.sc_scenario.specs.declared.scenario.scenarios.Scenario.{Scenario}
 use Rattle.sc_meaning.specs.sound.Definitions.{Player, player_table, births, as_nodes}
 use Rattle.sc_live_steps.specs.calm.Definitions.{players, Rows}
-use Rattle.sc_live_steps.proofs.CalmProofs.Lemmas.{put_others}
-use Rattle.sc_live_steps.proofs.OrdersProofs.Lemmas.{cases-draw}
+use Rattle.sc_live_steps.proofs.CalmStepsProofs.Lemmas.{put_others}
+use Rattle.sc_live_steps.proofs.OrderStepsProofs.Lemmas.{cases-draw}
 use Rattle.sc_live_steps.specs.following.Definitions.{Mark, Asks, Prepares, mark_of, IsFit, from_slot_of}
 use Rattle.sc_live_steps.proofs.FollowingProofs.Lemmas.{prepares_are_known, same_mark}
 use Rattle.sc_live_journals.specs.rows.Definitions.{view_at, next_in, progress_at, TakesMail, HoldsReplica, IsSeat, with_event, IsReplicasRow, IsWellKept}
@@ -69,19 +69,19 @@ module _ (well : ScenariosAreWellBorn) (a : Affair) (begins : BeginsFree a) (wor
   abbrev Done : Type 0
   Done = RowHolds a words (births as_nodes scenario) rows seat (Deliver number)
 
-  module _ (node : NodeState) (is : value player_table seat rows ≡ Node node) where
+  module _ (node : NodeState) (fact : value player_table seat rows ≡ Node node) where
     plays : Plays seat.who (Node node)
-    plays = subst (Plays seat.who) is (replay_well seat.who seat.who rows seat.actor [] (plays_of seat.who seat.actor ((well scenario).well seat born)))
+    plays = subst (Plays seat.who) fact (replay_well seat.who seat.who rows seat.actor [] (plays_of seat.who seat.actor ((well scenario).well seat born)))
 
     view_of : (group : Draw) (o : Option ReplicaState) → replica_of group node.replicas ≡ o → view_at all rows group seat.who ≡ o
-    view_of group o here = view_was all rows seat Go group born (Node node) is ∙ here
+    view_of group o here = view_was all rows seat Go group born (Node node) fact ∙ here
 
     -- a node's step, by the replica of each group after it
     response : (step : NodeState × List Mail) → on_mail mail.from mail.body node ≡ step → ((name : Draw) (r : ReplicaState) → replica_of name step.0.replicas ≡ Some r → HeldSo a name r) → AreGood a step.1 → Done
     response step e views sends = record {
       views = λ name r v.
-          views name r (sym (now_is all rows seat (Deliver number) node born is step (Some (Got mail)) (ap (option_map Got) at) (ap (λ (x : NodeState × List Mail). (Node x.0, x.1)) e) name) ∙ v);
-      good = subst (AreGood a) (sym (all_sent all rows seat (Deliver number) node born is step (Some (Got mail)) (ap (option_map Got) at) (ap (λ (x : NodeState × List Mail). (Node x.0, x.1)) e))) sends;
+          views name r (sym (now_is all rows seat (Deliver number) node born fact step (Some (Got mail)) (ap (option_map Got) at) (ap (λ (x : NodeState × List Mail). (Node x.0, x.1)) e) name) ∙ v);
+      good = subst (AreGood a) (sym (all_sent all rows seat (Deliver number) node born fact step (Some (Got mail)) (ap (option_map Got) at) (ap (λ (x : NodeState × List Mail). (Node x.0, x.1)) e))) sends;
     }
 
     had : (name : Draw) (r : ReplicaState) → replica_of name node.replicas ≡ Some r → HeldSo a name r
@@ -115,7 +115,7 @@ module _ (well : ScenariosAreWellBorn) (a : Affair) (begins : BeginsFree a) (wor
             (own, h.0, h.1, h.2, h.3, h.4, (λ on. (g.led.orderly seat.who r own_view on).plain))
 
         delivers : Delivers (with_event rows seat (Deliver number)) rows seat number mail
-        delivers = record { row = record { more = []; is = sym (append-nil (with_event rows seat (Deliver number))) }; sent = at }
+        delivers = record { row = record { more = []; fact = sym (append-nil (with_event rows seat (Deliver number))) }; sent = at }
 
         takes : TakesMail words all rows seat number mail
         takes = record { timely = timely; sent = at; comes = t.comes }
@@ -124,7 +124,7 @@ module _ (well : ScenariosAreWellBorn) (a : Affair) (begins : BeginsFree a) (wor
         holds = record { here = own_here; well = kept }
 
         led : IsLedScene g.at g.over g.by words all rows seat node guide.base g.course
-        led = record { log = g.log.log; seated = born; is = is; led = g.led }
+        led = record { log = g.log.log; seated = born; fact = fact; led = g.led }
 
         comes : group_of_mail mail.body ≡ Some guide.base.core.id
         comes = t.named ∙ ap Some (sym guide.named)
@@ -132,7 +132,7 @@ module _ (well : ScenariosAreWellBorn) (a : Affair) (begins : BeginsFree a) (wor
         fitting : (mark : Mark) → mark_of guide.base.core.id mail.from mail.body ≡ Some mark → IsFit (next r) r.acceptor.promised mark
         fitting mark e =
             fit g.at words all rows seat node guide.base g.course (scene g.at g.over g.by words all rows seat node guide.base g.course led) number mail takes r holds mark e (mailed mail.from mail.body (r, [])).0
-            (rows_replicas.taken all rows seat number mail guide.base.core.id node r born is at t.comes comes own_here)
+            (rows_replicas.taken all rows seat number mail guide.base.core.id node r born fact at t.comes comes own_here)
 
         named_body : (n : Draw) (b : Draw → MailBody) → mail.body ≡ b n → group_of_mail (b n) ≡ Some n → mail.body ≡ b guide.base.core.id
         named_body n b e is_of = e ∙ ap b (same_Some n guide.base.core.id (sym is_of ∙ (sym (ap group_of_mail e) ∙ comes)))
@@ -194,7 +194,7 @@ module _ (well : ScenariosAreWellBorn) (a : Affair) (begins : BeginsFree a) (wor
         put = record node { replicas = with_replica group made.0.0 node.replicas }
 
         row : IsReplicasRow all rows seat (Deliver number) group (Some r) made.0
-        row = rows_replicas.taken all rows seat number mail group node r born is at t.comes t.named here
+        row = rows_replicas.taken all rows seat number mail group node r born fact at t.comes t.named here
 
         other_view : (name : Draw) → (name ≡ group → ⊥) → (x : ReplicaState) → replica_of name (with_children made.1 put).replicas ≡ Some x → HeldSo a name x
         other_view name ne x v = by (all_children seat.who name made.1 put t.me_is)
@@ -208,9 +208,9 @@ module _ (well : ScenariosAreWellBorn) (a : Affair) (begins : BeginsFree a) (wor
         takes_it : Done
         takes_it = record {
           views = λ name x v. elim (cases-draw name group) [
-            | inl i ↦ subst (HeldSo a name) (same_Some made.0.0 x (sym row.is ∙ (ap (λ n. view_at all (with_event rows seat (Deliver number)) n seat.who) (sym i) ∙ v))) (subst (λ n. HeldSo a n made.0.0) (sym i) (held_so a group made.0.0 fine.0))
+            | inl i ↦ subst (HeldSo a name) (same_Some made.0.0 x (sym row.fact ∙ (ap (λ n. view_at all (with_event rows seat (Deliver number)) n seat.who) (sym i) ∙ v))) (subst (λ n. HeldSo a n made.0.0) (sym i) (held_so a group made.0.0 fine.0))
             | inr ne ↦ other_view name ne x
-                (sym (now_is all rows seat (Deliver number) node born is (with_children made.1 put, made.0.1) (Some (Got mail)) (ap (option_map Got) at) (ap (λ (s : NodeState × List Mail). (Node s.0, s.1)) (mail_taken mail.from mail.body node group t.named t.comes (Some r) here)) name) ∙ v)
+                (sym (now_is all rows seat (Deliver number) node born fact (with_children made.1 put, made.0.1) (Some (Got mail)) (ap (option_map Got) at) (ap (λ (s : NodeState × List Mail). (Node s.0, s.1)) (mail_taken mail.from mail.body node group t.named t.comes (Some r) here)) name) ∙ v)
           ];
           good = subst (AreGood a) (sym row.sends_all) fine.1;
         }
@@ -226,15 +226,15 @@ module _ (well : ScenariosAreWellBorn) (a : Affair) (begins : BeginsFree a) (wor
           let same : n ≡ group = same_Some n group (sym (ap group_of_mail e) ∙ t.named) in
           let body : mail.body ≡ Install group slot state sets = e ∙ ap (λ x. Install x slot state sets) same in
           let found = subst (NodeFinds (births as_nodes scenario) rows seat number mail group) body (meets.missed mail group node t here) in
-          let row = rows_replicas.made all rows seat number mail group slot state sets node born is at t.comes body found.0.whole here in
+          let row = rows_replicas.made all rows seat number mail group slot state sets node born fact at t.comes body found.0.whole here in
           let fine = made_fine a group node.me mail.from slot state sets (subst (λ x. a.Is x state.core) same s) in
           record {
             views = λ name x v. elim (cases-draw name group) [
-              | inl i ↦ subst (HeldSo a name) (same_Some _ x (sym row.is ∙ (ap (λ k. view_at all (with_event rows seat (Deliver number)) k seat.who) (sym i) ∙ v)))
+              | inl i ↦ subst (HeldSo a name) (same_Some _ x (sym row.fact ∙ (ap (λ k. view_at all (with_event rows seat (Deliver number)) k seat.who) (sym i) ∙ v)))
                   (subst (λ k. HeldSo a k (made_by node.me mail.from group slot state sets).0) (sym i) (held_so a group (made_by node.me mail.from group slot state sets).0 fine.0))
               | inr ne ↦ had name x
                   (sym (unknown_apart name group ne node mail.from mail.body t.named).0
-                  ∙ (sym (now_is all rows seat (Deliver number) node born is (unknown mail.from mail.body node) (Some (Got mail)) (ap (option_map Got) at) (ap (λ (k : NodeState × List Mail). (Node k.0, k.1)) (mail_taken mail.from mail.body node group t.named t.comes None here)) name) ∙ v))
+                  ∙ (sym (now_is all rows seat (Deliver number) node born fact (unknown mail.from mail.body node) (Some (Got mail)) (ap (option_map Got) at) (ap (λ (k : NodeState × List Mail). (Node k.0, k.1)) (mail_taken mail.from mail.body node group t.named t.comes None here)) name) ∙ v))
             ];
             good = subst (AreGood a) (sym row.sends_all) fine.1;
           }
@@ -250,7 +250,7 @@ module _ (well : ScenariosAreWellBorn) (a : Affair) (begins : BeginsFree a) (wor
       taken_so (Some r) here = takes_it r here (groups group seat.who r (view_of group (Some r) here))
 
     taking : (group : Draw) → may_come mail.from mail.body ≡ true → group_of_mail mail.body ≡ Some group → IsTaking words (births as_nodes scenario) rows seat number mail group node
-    taking group comes e = record { seated = born; timely = timely; is_node = is; me_is = plays.0; sent = at; comes = comes; named = e }
+    taking group comes e = record { seated = born; timely = timely; is_node = fact; me_is = plays.0; sent = at; comes = comes; named = e }
 
     mail_so : (b : Bool) → may_come mail.from mail.body ≡ b → (o : Option Draw) → group_of_mail mail.body ≡ o → Done
     mail_so false bar o e = response (node, []) (cond-false (may_come mail.from mail.body) (routed (group_of_mail mail.body) mail.from mail.body node) (node, []) bar) had tt
@@ -262,14 +262,14 @@ module _ (well : ScenariosAreWellBorn) (a : Affair) (begins : BeginsFree a) (wor
   no_answer group seq answer e = subst (Says a) e good
 
   player_so : (player : Player) → value player_table seat rows ≡ player → Done
-  player_so (Client client) is = record {
-    views = λ name r v. (let l = client_leaves words all rows seat (Deliver number) born timely client is name (Got mail) (ap (option_map Got) at) (got_nothing mail.from mail.body client no_answer) in has name r (sym l.view ∙ v));
-    good = subst (AreGood a) (sym (client_silent client is)) tt;
+  player_so (Client client) fact = record {
+    views = λ name r v. (let l = client_leaves words all rows seat (Deliver number) born timely client fact name (Got mail) (ap (option_map Got) at) (got_nothing mail.from mail.body client no_answer) in has name r (sym l.view ∙ v));
+    good = subst (AreGood a) (sym (client_silent client fact)) tt;
   }
     where
       client_silent : (client : ClientState) → value player_table seat rows ≡ Client client → (row_of player_table seat rows (Deliver number)).sent ≡ []
-      client_silent client is = sent_is all rows seat (Deliver number) (record { node = 0; count = 0 }) born (Client client) is (Some (Got mail)) (ap (option_map Got) at) ∙ got_nothing mail.from mail.body client no_answer
-  player_so (Node node) is = mail_so node is (may_come mail.from mail.body) refl (group_of_mail mail.body) refl
+      client_silent client fact = sent_is all rows seat (Deliver number) (record { node = 0; count = 0 }) born (Client client) fact (Some (Got mail)) (ap (option_map Got) at) ∙ got_nothing mail.from mail.body client no_answer
+  player_so (Node node) fact = mail_so node fact (may_come mail.from mail.body) refl (group_of_mail mail.body) refl
 
   pub delivery_holds : Done
   delivery_holds = player_so (value player_table seat rows) refl

@@ -26,11 +26,11 @@ module _ (names : List Draw) (replicas : List ReplicaState) (turn : Draw → ℕ
       gone_one n group into went ∙ (ap (λ k. 1 + k) (enough n m into.group (went_in into.group replicas) refl (λ some. (let up = g.1 some in let one = r.0 in let other = r.1 in (omega (arith, up, one), omega (arith, up, other))))) ∙ sym (gone_one m group into went))
 
   falls : (group : Draw) (into : Route) (size : ℕ) → size ≡ length names → went_in group replicas ≡ Some into → ends_by size replicas into.group + 1 ≤ ends_by size replicas group
-  falls group into zero is went = (let low = (goes group into went).0 in absurd (omega (arith, is, low)))
-  falls group into (suc n) is went =
+  falls group into zero fact went = (let low = (goes group into went).0 in absurd (omega (arith, fact, low)))
+  falls group into (suc n) fact went =
       let g = goes group into went in
       let one = gone_one n group into went in
-      let same = enough n (suc n) into.group (went_in into.group replicas) refl (λ some. (let up = g.1 some in (omega (arith, up, is), omega (arith, up, is)))) in
+      let same = enough n (suc n) into.group (went_in into.group replicas) refl (λ some. (let up = g.1 some in (omega (arith, up, fact), omega (arith, up, fact)))) in
       omega (arith, one, same)
 
 -- Where groups go one after another, each is farther by one end from one that stands than the one that it went into.

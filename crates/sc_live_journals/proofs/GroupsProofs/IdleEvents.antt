@@ -7,7 +7,7 @@ use Rattle.sc_live_orderly.specs.Definitions.{AreInTime}
 use Rattle.sc_node_table.specs.Definitions.{ReplicaState, born_replica, slots_ahead}
 use Rattle.sc_meaning.specs.sound.Definitions.{Player}
 use Rattle.sc_live_steps.specs.calm.Definitions.{players, Rows}
-use Rattle.sc_live_steps.specs.following.Definitions.{Course, Sets, Tellers, IsOrderly}
+use Rattle.sc_live_steps.specs.following.Definitions.{Course, Sets, SlotLeaders, IsOrderly}
 use Rattle.sc_live_steps.proofs.FollowingProofs.Lemmas.{leaders_begin}
 use Rattle.sc_live_journals.specs.rows.Definitions.{view_at, begun_course, IsLedBy, with_event, IsIdleIn, IsBornOr}
 use Rattle.sc_live_journals.proofs.RowsProofs.Lemmas.{same_some, leads_stay}
@@ -16,7 +16,7 @@ use Rattle.sc_live_journals.proofs.GroupsProofs.LearningReplicas.{learns}
 use Rattle.sc_live_journals.proofs.GroupsProofs.NodeMail.{accepts, prepares, installs, passes_vote, passes_promise, stays_aside, makes, stays_ordered}
 use Rattle.sc_live_journals.proofs.GroupsProofs.Rows.{rows_keep_led}
 
-module _ (at : Sets) (over : Ends) (by : Tellers) (words : ℕ → ℕ → ℕ × ℕ) (births : List (Seat Player)) (rows : Rows) (seat : Seat Player) (event : Event OrderLine) (base : Base) (course : Course) (log : IsLogOf at by)
+module _ (at : Sets) (over : Ends) (by : SlotLeaders) (words : ℕ → ℕ → ℕ × ℕ) (births : List (Seat Player)) (rows : Rows) (seat : Seat Player) (event : Event OrderLine) (base : Base) (course : Course) (log : IsLogOf at by)
     (timely : AreInTime (players words births) (with_event rows seat event)) (was : IsWellLed at over by words births rows base course) where
   abbrev stage : IsStage at over by words births rows seat event base course
   stage = record { rosters = log.rosters; timely = timely; was = was }

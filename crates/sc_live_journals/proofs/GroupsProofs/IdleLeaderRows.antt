@@ -15,7 +15,7 @@ module _ (at : Sets) (now : Progress) (r : ReplicaState) (was : IsLeadOf at now 
 
   -- what it offers then leaves what is executed
   pumps_stay : (acts backlog : List Command) → next (pumped (record r { acts = acts; backlog = backlog }, [])).0 ≡ next r
-  pumps_stay acts backlog = ap next (pumps_offer at now.course (record r { acts = acts; backlog = backlog }, []) (queued_may acts backlog)).is
+  pumps_stay acts backlog = ap next (pumps_offer at now.course (record r { acts = acts; backlog = backlog }, []) (queued_may acts backlog)).fact
 
   pub asides_stay : (from : ℕ) (body : MailBody) → IsAside r body → next (mailed from body (r, [])).0.0 ≡ next r
   asides_stay from body aside = aside_is (λ p. next p.0 ≡ next r) r was.led.running (λ top acts backlog more none. refl) pumps_stay from body aside
@@ -34,7 +34,7 @@ module _ (at : Sets) (now : Progress) (r : ReplicaState) (was : IsLeadOf at now 
     where
       counted : next (pumped (record r { leader = (promise_counted from ballot reports r.leader).1 }, [])).0 ≡ next r
       counted = ap next (pumps_offer at now.course (record r { leader = (promise_counted from ballot reports r.leader).1 }, [])
-          (pledged_may (r.leader.promisers ++ from ∷ []) (r.leader.reports ++ reports) (same_ballot ballot r.leader.ballot && not (is_member r.leader.promisers from)))).is
+          (pledged_may (r.leader.promisers ++ from ∷ []) (r.leader.reports ++ reports) (same_ballot ballot r.leader.ballot && not (is_member r.leader.promisers from)))).fact
 
       by : (b : Bool) → next (cond b (pumped (record r { leader = (promise_counted from ballot reports r.leader).1 }, [])) (r, [])).0 ≡ next r
       by true = counted

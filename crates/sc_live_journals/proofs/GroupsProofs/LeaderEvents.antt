@@ -9,7 +9,7 @@ use Rattle.sc_live_orderly.specs.Definitions.{AreInTime}
 use Rattle.sc_node_table.specs.Definitions.{NodeState, replica_of, group_of_mail, group_of_order, ordered_row, ReplicaState, Place, name_of, next, mailed}
 use Rattle.sc_meaning.specs.sound.Definitions.{Player}
 use Rattle.sc_live_steps.specs.calm.Definitions.{players, Rows}
-use Rattle.sc_live_steps.specs.following.Definitions.{AsksLow, Mark, Votes, Promises, mark_of, Course, Progress, Sets, members_at, Tellers, LeavesLast, IsLeadOf, LeadsInto, IsAside, DecidesNext, IsOrderly, CountsOwn}
+use Rattle.sc_live_steps.specs.following.Definitions.{AsksLow, Mark, Votes, Promises, mark_of, Course, Progress, Sets, members_at, SlotLeaders, LeavesLast, IsLeadOf, LeadsInto, IsAside, DecidesNext, IsOrderly, CountsOwn}
 use Rattle.sc_live_steps.proofs.FollowingProofs.Lemmas.{acts_stop_alone, rows_ask_next, rows_lead, same_mark, order_is_kept, leaders_count_own, leaders_leave_last}
 use Rattle.sc_live_journals.specs.rows.Definitions.{view_at, progress_at, mark_in, taken_mark, IsScene, TakesMail, HoldsReplica, led_course, LedBy, with_event, IsReplicasRow}
 use Rattle.sc_live_journals.proofs.RowsProofs.Lemmas.{steps_lead, aside_mark, told_is, leads_here, named, row_to, taken, found_name, rows_replicas}
@@ -19,7 +19,7 @@ use Rattle.sc_live_journals.proofs.GroupsProofs.NodeMail.{scene, stage}
 use Rattle.sc_live_journals.proofs.GroupsProofs.Rows.{rows_keep_led}
 use Rattle.sc_live_journals.proofs.GroupsProofs.SentStates.{votes_own, promises_own, asides_own, orders_own}
 
-module _ (at : Sets) (over : Ends) (by : Tellers) (words : ℕ → ℕ → ℕ × ℕ) (births : List (Seat Player)) (rows : Rows) (seat : Seat Player) (node : NodeState) (base : Base) (course : Course) (s : IsLedScene at over by words births rows seat node base course) where
+module _ (at : Sets) (over : Ends) (by : SlotLeaders) (words : ℕ → ℕ → ℕ × ℕ) (births : List (Seat Player)) (rows : Rows) (seat : Seat Player) (node : NodeState) (base : Base) (course : Course) (s : IsLedScene at over by words births rows seat node base course) where
   abbrev the_scene : IsScene at words births rows seat node base course
   the_scene = scene at over by words births rows seat node base course s
 
@@ -45,8 +45,8 @@ module _ (at : Sets) (over : Ends) (by : Tellers) (words : ℕ → ℕ → ℕ �
     -- it is a member at each slot that it executes
     member : (slot : ℕ) → next r ≤ slot → slot < next after.0 → is_member (members_at at slot) seat.who ≡ true
     member slot least most = elim (cases_eq slot (next r)) [
-      | inl is ↦ subst (λ n. is_member (members_at at slot) n ≡ true) (sym lead.1)
-          (subst (λ k. is_member (members_at at k) course.ballot.node ≡ true) (lead.0.newest ∙ sym is) (s.led.followed.follows.leads lead.0.runs).member)
+      | inl fact ↦ subst (λ n. is_member (members_at at slot) n ≡ true) (sym lead.1)
+          (subst (λ k. is_member (members_at at k) course.ballot.node ≡ true) (lead.0.newest ∙ sym fact) (s.led.followed.follows.leads lead.0.runs).member)
       | inr ne ↦ (let up : next r < slot = past least ne in
           subst (λ k. is_member (members_at at k) seat.who ≡ true) (omega (arith, up)) (subst (λ n. is_member (members_at at (slot - 1 + 1)) n ≡ true) me (into.stayed (slot - 1) (omega (arith, up)) (omega (arith, up, most)))))
     ]
@@ -59,11 +59,11 @@ module _ (at : Sets) (over : Ends) (by : Tellers) (words : ℕ → ℕ → ℕ �
 
     -- it executes nothing of a group that is gone
     rests_after : RestsBy over after.0
-    rests_after = elim rests [ inl same ↦ (λ slot gone. (let low = s.led.rests slot gone in let is = lead.0.newest in omega (arith, low, is, same))) | inr well ↦ well ]
+    rests_after = elim rests [ inl same ↦ (λ slot gone. (let low = s.led.rests slot gone in let fact = lead.0.newest in omega (arith, low, fact, same))) | inr well ↦ well ]
 
     -- it counts its entries, and nobody comes by one by which it goes
     its_own : (slot : ℕ) → course.newest ≤ slot → slot < next after.0 → by slot ≡ course.ballot.node
-    its_own slot least most = (let is = lead.0.newest in counts slot (omega (arith, least, is)) most ∙ lead.1)
+    its_own slot least most = (let fact = lead.0.newest in counts slot (omega (arith, least, fact)) most ∙ lead.1)
 
     alone : (slot : ℕ) → course.newest ≤ slot → suc slot ≡ next after.0
         → (is_member (members_at at (slot + 1)) course.ballot.node ≡ true) ⊎ ((who : ℕ) → is_member (members_at at (slot + 1)) who ≡ true → is_member (members_at at slot) who ≡ true)
@@ -118,7 +118,7 @@ module _ (at : Sets) (over : Ends) (by : Tellers) (words : ℕ → ℕ → ℕ �
         → IsLedStep at over by words births rows seat (Deliver number) base course
     counts_vote ballot slot body decides rests logs counts =
         let mark = Votes mail.from ballot slot in
-        let is : mark_of name mail.from mail.body ≡ Some mark = ap (mark_of name mail.from) body ∙ same_mark name mark in
+        let fact : mark_of name mail.from mail.body ≡ Some mark = ap (mark_of name mail.from) body ∙ same_mark name mark in
         let own : mail.body ≡ Accepted (name_of r) ballot slot = body ∙ ap (λ n. Accepted n ballot slot) (sym own_name) in
         let after = (mailed mail.from (Accepted (name_of r) ballot slot) (r, [])).0 in
         let row = row_to at words births rows seat node base course the_scene number mail takes r has mail.from (Accepted (name_of r) ballot slot) refl own (ap group_of_mail body) in
@@ -126,7 +126,7 @@ module _ (at : Sets) (over : Ends) (by : Tellers) (words : ℕ → ℕ → ℕ �
         let old = ordered_r row.was in
         let stops = acts_stop_alone at now mail.from ballot slot r s.log.rosters leads decides (order_is_kept.alone at course r leads.led old) in
         let into = rows_lead.votes at now mail.from ballot slot r s.log.rosters leads decides stops in
-        leads_on (Deliver number) takes.timely r after row own_name has.well.0 runs (subst (λ o. LeadsInto at now o r after) (sym (taken at words births rows seat node base course the_scene number mail takes mark is)) into)
+        leads_on (Deliver number) takes.timely r after row own_name has.well.0 runs (subst (λ o. LeadsInto at now o r after) (sym (taken at words births rows seat node base course the_scene number mail takes mark fact)) into)
         (rows_ask_next.votes at now mail.from ballot slot r s.log.rosters leads decides) (votes_own at now seat.who r leads has.well.0 mail.from ballot slot s.log.rosters decides) (λ on. order_is_kept.votes at now mail.from ballot slot r s.log.rosters leads decides old on)
         (subst (λ b. IsOfLog at over (mailed mail.from b (r, [])).0.0) own logs) (inr (subst (λ b. RestsBy over (mailed mail.from b (r, [])).0.0) own rests)) (subst (λ b. CountsAsMember at by r (mailed mail.from b (r, [])).0.0 seat.who) own counts)
 
@@ -134,14 +134,14 @@ module _ (at : Sets) (over : Ends) (by : Tellers) (words : ℕ → ℕ → ℕ �
         → IsLedStep at over by words births rows seat (Deliver number) base course
     counts_promise ballot body logs counts =
         let mark = Promises mail.from ballot in
-        let is : mark_of name mail.from mail.body ≡ Some mark = ap (mark_of name mail.from) body ∙ same_mark name mark in
+        let fact : mark_of name mail.from mail.body ≡ Some mark = ap (mark_of name mail.from) body ∙ same_mark name mark in
         let own : mail.body ≡ Promise (name_of r) ballot [] = body ∙ ap (λ n. Promise n ballot []) (sym own_name) in
         let after = (mailed mail.from (Promise (name_of r) ballot []) (r, [])).0 in
         let row = row_to at words births rows seat node base course the_scene number mail takes r has mail.from (Promise (name_of r) ballot []) refl own (ap group_of_mail body) in
         let leads = (leads_here at words births rows seat node base course the_scene r row.was runs).0 in
         let old = ordered_r row.was in
         let into = rows_lead.promises at now mail.from ballot [] r leads in
-        leads_on (Deliver number) takes.timely r after row own_name has.well.0 runs (subst (λ o. LeadsInto at now o r after) (sym (taken at words births rows seat node base course the_scene number mail takes mark is)) into)
+        leads_on (Deliver number) takes.timely r after row own_name has.well.0 runs (subst (λ o. LeadsInto at now o r after) (sym (taken at words births rows seat node base course the_scene number mail takes mark fact)) into)
         (rows_ask_next.promises at now mail.from ballot [] r leads) (promises_own at now seat.who r leads has.well.0 mail.from ballot []) (λ on. order_is_kept.promises at now mail.from ballot r leads old)
         (subst (λ b. IsOfLog at over (mailed mail.from b (r, [])).0.0) own logs) (inl (promises_stay at now r leads mail.from ballot [])) (subst (λ b. CountsAsMember at by r (mailed mail.from b (r, [])).0.0 seat.who) own counts)
 
@@ -162,7 +162,7 @@ module _ (at : Sets) (over : Ends) (by : Tellers) (words : ℕ → ℕ → ℕ �
   ordered line r timely has group runs logs counts =
       let after : Place = ordered_row node.draws line (r, []) in
       let here : replica_of (group_of_order line.order) node.replicas ≡ Some r = ap (λ n. replica_of n node.replicas) group ∙ has.here in
-      let row : IsReplicasRow births rows seat (Told line) name (Some r) after = subst (λ n. IsReplicasRow births rows seat (Told line) n (Some r) after) group (rows_replicas.ordered births rows seat line node r s.seated s.is here) in
+      let row : IsReplicasRow births rows seat (Told line) name (Some r) after = subst (λ n. IsReplicasRow births rows seat (Told line) n (Some r) after) group (rows_replicas.ordered births rows seat line node r s.seated s.fact here) in
       let leads = (leads_here at words births rows seat node base course the_scene r row.was runs).0 in
       let old = s.led.orderly seat.who r row.was runs in
       let into : LeadsInto at now None r after = subst (λ p. LeadsInto at now None r p) (told_is node line r) (rows_lead.orders at now false node.draws line r leads) in

@@ -11,9 +11,10 @@ use Rattle.sc_node_table.specs.Definitions.{entered, is_among, NodeState, group_
 use Rattle.sc_law_walks.proofs.Lemmas.{entered_next}
 use Rattle.sc_meaning.specs.sound.Definitions.{Player}
 use Rattle.sc_live_steps.specs.calm.Definitions.{players, Rows}
-use Rattle.sc_live_steps.specs.following.Definitions.{Dated, IsNoPrepare, dated_for, Mark, Asks, Votes, Tells, Installs, Prepares, Promises, mark_of, pledged, Course, Progress, Sets, members_at, IsOpen, IsHeir, Tellers, hint_by, AreAt, AreLearntLast, IsInTime, Stays, MayElect, next_ballot}
+use Rattle.sc_live_steps.specs.following.Definitions.{IsOther, Dated, IsNoPrepare, dated_for, Mark, Asks, Votes, Teaches, Installs, Prepares, Promises, mark_of, pledged, Course, Progress, Sets, members_at, IsOpen, IsHeir, SlotLeaders, hint_by, AreAt, AreLearntLast, IsInTime, Stays, MayElect, next_ballot}
 use Rattle.sc_live_steps.proofs.FollowingProofs.Lemmas.{elections_ask_next, tables_elect, elections_lead, nodes_heed, least_in, tables, same_mark, hints_follow, heirs_elect}
 use Rattle.sc_live_journals.specs.rows.Definitions.{IsNextLead, promise_in, progress_at, marks_at, taken_mark, IsScene, TakesMail, HoldsReplica, WaitsStill, elected_course, IsReplicasRow}
+use Rattle.sc_live_journals.proofs.RowsProofs.RowMarks.{HasMark}
 use Rattle.sc_live_journals.proofs.RowsProofs.Lemmas.{elections_keep, entered_name, entered_me, apart_off, row_in, head, all_fit, within, no_lead, named, row_to, fit, taken, steps_elect}
 use Rattle.sc_live_journals.specs.groups.Definitions.{RowElects, IsLedStep, Ends, hint_in, hints_at, IsOfLog, HasRounds, IsLedScene, ElectsWell}
 use Rattle.sc_live_journals.proofs.GroupsProofs.NodeMail.{scene, stage, takes_further}
@@ -25,7 +26,7 @@ pledged_none promise [] e = refl
 pledged_none promise (Prepares ballot ∷ marks) e = absurd e.0
 pledged_none promise (Asks ballot slot ∷ marks) e = pledged_none promise marks e.1
 pledged_none promise (Votes node ballot slot ∷ marks) e = pledged_none promise marks e.1
-pledged_none promise (Tells slot ∷ marks) e = pledged_none promise marks e.1
+pledged_none promise (Teaches slot ∷ marks) e = pledged_none promise marks e.1
 pledged_none promise (Installs slot ∷ marks) e = pledged_none promise marks e.1
 pledged_none promise (Promises node ballot ∷ marks) e = pledged_none promise marks e.1
 
@@ -34,7 +35,7 @@ entered_hint : (command : Command) (r : ReplicaState) → (entered command r).hi
 unfolding entered forgotten
 entered_hint command r = refl
 
-module _ (at : Sets) (over : Ends) (by : Tellers) (words : ℕ → ℕ → ℕ × ℕ) (births : List (Seat Player)) (rows : Rows) (seat : Seat Player) (node : NodeState) (base : Base) (course : Course) (s : IsLedScene at over by words births rows seat node base course)
+module _ (at : Sets) (over : Ends) (by : SlotLeaders) (words : ℕ → ℕ → ℕ × ℕ) (births : List (Seat Player)) (rows : Rows) (seat : Seat Player) (node : NodeState) (base : Base) (course : Course) (s : IsLedScene at over by words births rows seat node base course)
     (number : ℕ) (mail : Mail) (takes : TakesMail words births rows seat number mail) (r : ReplicaState) (has : HoldsReplica seat node base r) (slot : ℕ) (command : Command) (body : mail.body ≡ Learn base.core.id slot command)
     (low : slot ≤ last_slot) (logs : IsOfLog at over (entered command r)) (rounds : HasRounds r) where
   abbrev the_scene : IsScene at words births rows seat node base course
@@ -53,13 +54,13 @@ module _ (at : Sets) (over : Ends) (by : Tellers) (words : ℕ → ℕ → ℕ �
   hints = hints_at births rows base
 
   abbrev mark : Mark
-  mark = Tells slot
+  mark = Teaches slot
 
   abbrev after : Place
   after = (mailed mail.from (Learn (name_of r) slot command) (r, [])).0
 
-  abbrev is : mark_of base.core.id mail.from mail.body ≡ Some (Tells slot)
-  is = ap (mark_of name mail.from) body ∙ same_mark name mark
+  abbrev fact : HasMark base mail (Teaches slot)
+  fact = ap (mark_of name mail.from) body ∙ same_mark name mark
 
   own_name : name_of r ≡ base.core.id
   own_name = named at words births rows seat node base course the_scene number mail takes r has
@@ -67,27 +68,27 @@ module _ (at : Sets) (over : Ends) (by : Tellers) (words : ℕ → ℕ → ℕ �
   row : IsReplicasRow births rows seat (Deliver number) base.core.id (Some r) after
   row = row_to at words births rows seat node base course the_scene number mail takes r has mail.from (Learn (name_of r) slot command) refl (body ∙ ap (λ n. Learn n slot command) (sym own_name)) (ap group_of_mail body)
 
-  fits : IsInTime (Tells slot) r
-  fits = fit at words births rows seat node base course the_scene number mail takes r has mark is after row
+  fits : IsInTime (Teaches slot) r
+  fits = fit at words births rows seat node base course the_scene number mail takes r has mark fact after row
 
-  takes_it : taken_mark base.core.id (mails rows) (Deliver number) ≡ Some (Tells slot)
-  takes_it = taken at words births rows seat node base course the_scene number mail takes mark is
+  takes_it : taken_mark base.core.id (mails rows) (Deliver number) ≡ Some (Teaches slot)
+  takes_it = taken at words births rows seat node base course the_scene number mail takes mark fact
 
-  apart : course.runs ≡ true → seat.who ≡ course.ballot.node → ⊥
-  apart = (let at_next = (all_fit at words births rows seat node base course the_scene number mail takes mark is).0.1 in no_lead at words births rows seat node base course the_scene number mail takes mark is (omega (arith, at_next)))
+  apart : IsOther course seat.who
+  apart = (let at_next = (all_fit at words births rows seat node base course the_scene number mail takes mark fact).0.1 in no_lead at words births rows seat node base course the_scene number mail takes mark fact (omega (arith, at_next)))
 
   off : r.running ≡ false
   off = apart_off at words births rows seat node base course the_scene r row.was apart
 
   most : suc slot ≤ course.newest
-  most = within at words births rows seat node base course the_scene number mail takes mark is
+  most = within at words births rows seat node base course the_scene number mail takes mark fact
 
   left : List Mark
   left = (row_in at words births rows seat node base course the_scene number mail takes).left
 
-  head_is : marks seat.who ≡ Tells slot ∷ left
+  head_is : marks seat.who ≡ Teaches slot ∷ left
   unfolding left
-  head_is = head at words births rows seat node base course the_scene number mail takes mark is
+  head_is = head at words births rows seat node base course the_scene number mail takes mark fact
 
   e_next : next (entered command r) ≡ suc slot
   e_next = (let up = entered_next command r in let here = fits.1 in omega (arith, up, here))
@@ -105,7 +106,7 @@ module _ (at : Sets) (over : Ends) (by : Tellers) (words : ℕ → ℕ → ℕ �
   hint_here = sym (ap (hint_in base) row.was)
 
   which : Stays (entered command r) ⊎ IsHeir (progress_at births rows base course) slot command r
-  which = heirs_elect at by now hints marks slot left command r s.led.heeded (subst (λ n. marks n ≡ Tells slot ∷ left) (sym has.well.0) head_is) (record {
+  which = heirs_elect at by now hints marks slot left command r s.led.heeded (subst (λ n. marks n ≡ Teaches slot ∷ left) (sym has.well.0) head_is) (record {
     other = λ runs mine. apart runs (sym has.well.0 ∙ mine);
     hint = subst (λ n. r.hint ≡ hints n) (sym has.well.0) hint_here;
     members_are = members_e;
@@ -143,7 +144,7 @@ module _ (at : Sets) (over : Ends) (by : Tellers) (words : ℕ → ℕ → ℕ �
     stays_led : IsLedStep at over by words births rows seat (Deliver number) base course
     stays_led =
         let steps = tables.learn mail.from slot command r fits off (has.well.3 off).0 low stays in
-        takes_further at over by words births rows seat node base course s number mail takes r has mark is after row off steps (λ count. count) apart (λ idle stands least. (let w = waits idle stands least in let to = steps.reaches in omega (arith, w, to)))
+        takes_further at over by words births rows seat node base course s number mail takes r has mark fact after row off steps (λ count. count) apart (λ idle stands least. (let w = waits idle stands least in let to = steps.reaches in omega (arith, w, to)))
         (hinted_or (entered command r).group.core.gone refl steps.reaches)
 
   -- ---- it does
@@ -189,7 +190,7 @@ module _ (at : Sets) (over : Ends) (by : Tellers) (words : ℕ → ℕ → ℕ �
           self_election = steps_elect at births rows seat (Deliver number) base course slot (entered command r).sets r after row own_name has.well.0 takes_it steps
               (record { idle = heir.idle; stands = heir.stands; last = heir.last; least = has.well.0 ∙ least_here; later = later; opens = opens_last; many = logs.many; nodes = s.log.nodes });
           runs = steps.runs;
-          leads = (follows.given.gives seat.who after.0 row.is steps.runs).0;
+          leads = (follows.given.gives seat.who after.0 row.fact steps.runs).0;
           told = (slot, heir.last, takes_it);
           low = λ who. subst (λ n. Each (λ (d : Dated). n ≤ d.1) (dated_for name who after.1)) heir.last
               (subst (λ n. Each (λ (d : Dated). suc slot ≤ d.1) (dated_for n who after.1)) own_name (elections_ask_next mail.from slot command r fits off flights low may (entered_name command r) who));

@@ -2,12 +2,11 @@
 use Rattle.std.proofs.Common.{◌≡◌, ℕ, ◌+◌, ◌<◌, cond, true, true≢false, List, Option, Some, inl, refl, sym, ◌∙◌, ap, subst, arith}
 use Rattle.std.proofs.lemmas.Bool.{cond_both, and_from, eqb-true}
 use Rattle.sc_base.specs.Definitions.{Each}
-use Rattle.sc_node_table.specs.Values.{Ballot, Draw, Command, Base, Mail, OrderLine, Row}
-use Rattle.sc_actor.specs.Definitions.{replay}
+use Rattle.sc_node_table.specs.Values.{Ballot, Draw, Command, Base}
 use Rattle.sc_words.specs.paxos.Definitions.{IsAtLeast, below, LeaderState, promise_counted, counted}
 use Rattle.sc_words.proofs.PaxosProofs.Lemmas.{at_least_itself, at_least_trans, at_least_from_below, below_from}
 use Rattle.sc_node_table.specs.Definitions.{entered, jumped, forgotten, ReplicaState, replica_of, installed_replica, first_ballot}
-use Rattle.sc_meaning.specs.sound.Definitions.{Player, player_table}
+use Rattle.sc_meaning.specs.sound.Definitions.{Player}
 use Rattle.sc_law_walks.specs.Definitions.{IsKept, GoesOn}
 use Rattle.sc_law_walks.proofs.Lemmas.{StateParts, ended_replica, promise_ballot, counted_ballot, StateBirths}
 use Rattle.sc_live_journals.proofs.RowsProofs.Players as players
@@ -95,13 +94,13 @@ module _ (me : ℕ) where
   pub found_well : (group : Draw) (replicas : List ReplicaState) → Each (IsTopKept me) replicas → Found (replica_of group replicas)
   found_well group replicas k = players.found me (λ r. Stands r) parts begins (λ r. IsTopKept me r) to from group replicas k
 
-  pub replay_well : (who : ℕ) (rows : List (Row Mail OrderLine)) (player : Player) (sent : List Mail) → Plays player → Plays (replay player_table who player sent rows)
+  pub replay_well : players.RowsKeep Plays
   replay_well who rows player sent k = players.replays me (λ r. Stands r) parts begins (λ r. IsTopKept me r) to from who rows player sent k
 
 -- Each replica of a node is so after any rows, and the node keeps its number.
 pub nodes_keep : NodesKeepTops
-nodes_keep seat rows born node is well e =
-    let after = players.stays born.me (λ r. Stands born.me r) (parts born.me) (begins born.me) (λ r. IsTopKept born.me r) (to born.me) (from born.me) seat rows born node is (refl, well) e in
+nodes_keep seat rows born node fact well e =
+    let after = players.stays born.me (λ r. Stands born.me r) (parts born.me) (begins born.me) (λ r. IsTopKept born.me r) (to born.me) (from born.me) seat rows born node fact (refl, well) e in
     (subst (λ m. Each (IsTopKept m) node.replicas) (sym after.0) after.1, after.0)
 
 -- So it is of each replica that is made at the birth of groups.

@@ -33,6 +33,6 @@ all_well scenario =
 -- The players of a scenario are born with their numbers and with replicas that are well kept, and each that runs does so with a ballot of its own.
 pub scenarios_well_born : ScenariosAreWellBorn
 scenarios_well_born scenario = record {
-  well = λ seat is. Each-among IsWellSeat (births as_nodes scenario) seat (all_well scenario) (find_found (λ other. eqb other.who seat.who) (births as_nodes scenario) seat is).0;
+  well = λ seat fact. Each-among IsWellSeat (births as_nodes scenario) seat (all_well scenario) (find_found (λ other. eqb other.who seat.who) (births as_nodes scenario) seat fact).0;
   alone = births_alone scenario;
 }

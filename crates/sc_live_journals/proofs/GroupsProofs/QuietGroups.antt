@@ -9,8 +9,8 @@ use Rattle.sc_words.specs.paxos.Definitions.{below}
 use Rattle.sc_node_table.specs.Definitions.{ReplicaState, next, first_set, may_offer, settled}
 use Rattle.sc_meaning.specs.sound.Definitions.{Player}
 use Rattle.sc_live_steps.specs.calm.Definitions.{players, MayVote, Rows}
-use Rattle.sc_live_steps.specs.following.Definitions.{Course, Progress, Sets, members_at, IsOpen, Tellers, hinted, AreAt, IsLeadOf}
-use Rattle.sc_live_steps.proofs.CalmProofs.Lemmas.{unbound_new}
+use Rattle.sc_live_steps.specs.following.Definitions.{Course, Progress, Sets, members_at, IsOpen, SlotLeaders, hinted, AreAt, IsLeadOf}
+use Rattle.sc_live_steps.proofs.CalmStepsProofs.Lemmas.{unbound_new}
 use Rattle.sc_live_journals.specs.rows.Definitions.{IsEvenAt, view_at, next_in, promise_in, progress_at, marks_at}
 use Rattle.sc_live_journals.proofs.RowsProofs.Lemmas.{quiet_rests, same_some}
 use Rattle.sc_live_journals.specs.groups.Definitions.{Ends, hint_in, hints_at, IsWellLed, IsLedQuietly, QuietGroupsAreLed}
@@ -23,7 +23,7 @@ pub first_at : (at : Sets) (slot : ℕ) (sets : List (List ℕ)) → AreAt at sl
 first_at at slot [] are some = absurd (omega (arith, some))
 first_at at slot (set ∷ sets) are some = are.0
 
-module _ (at : Sets) (over : Ends) (by : Tellers) (words : ℕ → ℕ → ℕ × ℕ) (births : List (Seat Player)) (rows : Rows) (base : Base) (course : Course) (lead : ReplicaState) (rosters : (slot : ℕ) → IsRoster (at slot)) (timely : AreInTime (players words births) rows)
+module _ (at : Sets) (over : Ends) (by : SlotLeaders) (words : ℕ → ℕ → ℕ × ℕ) (births : List (Seat Player)) (rows : Rows) (base : Base) (course : Course) (lead : ReplicaState) (rosters : (slot : ℕ) → IsRoster (at slot)) (timely : AreInTime (players words births) rows)
     (quiet : is_quiet (players words births) rows ≡ true) (strangers : (who : ℕ) → is_born (players words births) who ≡ false → marks_at (players words births) rows base.core.id who ≡ []) (was : IsWellLed at over by words births rows base course)
     (stands : course.gone ≡ false) (there : view_at births rows base.core.id course.ballot.node ≡ Some lead) where
   abbrev now : Progress
@@ -49,7 +49,7 @@ module _ (at : Sets) (over : Ends) (by : Tellers) (words : ℕ → ℕ → ℕ �
     hint_is =
         sym (ap (hint_in base) e)
         ∙ (ap (λ ms. hinted at by (now.promise node) (hints_at births rows base node) ms) (sym (none_pending words births rows base timely quiet strangers node))
-        ∙ (was.heeded.ends leads.runs node (λ is. ne (is ∙ me)) open_ ∙ ap Some me));
+        ∙ (was.heeded.ends leads.runs node (λ fact. ne (fact ∙ me)) open_ ∙ ap Some me));
     promised = λ later.
         (let led = even.led stands in (
           sym (ap (promise_in base) e) ∙ (led.voters node open_ ∙ sym ballot),
@@ -87,7 +87,7 @@ module _ (at : Sets) (over : Ends) (by : Tellers) (words : ℕ → ℕ → ℕ �
     settled_is = settled_lead;
     unbound = λ slot low. unbound_new lead.leader (was.orderly course.ballot.node lead there leads.led.running).plain slot;
     orderly = was.orderly course.ballot.node lead there leads.led.running;
-    alone = λ node r e runs. (let is = even.alone node r e runs in same_some (view_at births rows base.core.id course.ballot.node) r lead (subst (λ n. view_at births rows base.core.id n ≡ Some r) is e) there);
+    alone = λ node r e runs. (let fact = even.alone node r e runs in same_some (view_at births rows base.core.id course.ballot.node) r lead (subst (λ n. view_at births rows base.core.id n ≡ Some r) fact e) there);
     most = λ node r e. (let most = even.even.most node in let here = place node r e in let newest = leads.newest in omega (arith, most, here, newest));
     member = λ node r e m. sym (place node r e) ∙ (even.even.members node (ap (λ ms. is_member ms node) (ap (members_at at) leads.newest ∙ leads.led.was) ∙ m) ∙ leads.newest);
     promised = not_below;

@@ -40,7 +40,7 @@ all_kept scenario =
 
 -- The players of a scenario are born so.
 pub scenarios_kept_born : ScenariosAreKeptBorn
-scenarios_kept_born scenario seat is = Each-among IsKeptSeat (births as_nodes scenario) seat (all_kept scenario) (find_found (λ other. eqb other.who seat.who) (births as_nodes scenario) seat is).0
+scenarios_kept_born scenario seat fact = Each-among IsKeptSeat (births as_nodes scenario) seat (all_kept scenario) (find_found (λ other. eqb other.who seat.who) (births as_nodes scenario) seat fact).0
 
 -- ---- after rows
 

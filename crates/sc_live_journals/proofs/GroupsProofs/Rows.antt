@@ -9,7 +9,7 @@ use Rattle.sc_live_orderly.specs.Definitions.{rest}
 use Rattle.sc_node_table.specs.Definitions.{ReplicaState, Place}
 use Rattle.sc_meaning.specs.sound.Definitions.{Player, player_table}
 use Rattle.sc_live_steps.specs.calm.Definitions.{players, Rows}
-use Rattle.sc_live_steps.specs.following.Definitions.{Dated, dated_for, marks_in, IsNoPrepare, AreLow, IsAskedLow, IsDatedRow, Mark, Course, Progress, Sets, IsFollowing, Tellers, GoesBy, IsOrderly, IsRow, IsIdle, Takes, Leads, Elects, IsOffered, marks_for}
+use Rattle.sc_live_steps.specs.following.Definitions.{Dated, dated_for, marks_in, IsNoPrepare, AreLow, IsAskedLow, IsDatedRow, Mark, Course, Progress, Sets, IsFollowing, SlotLeaders, GoesBy, IsOrderly, IsRow, IsIdle, Takes, Leads, Elects, IsOffered, marks_for}
 use Rattle.sc_live_steps.proofs.FollowingProofs.Lemmas.{slots_are_kept, prepares_are_known, hints_are_kept, idle-keeps, own_is_kept}
 use Rattle.sc_live_journals.specs.rows.Definitions.{view_at, progress_at, marks_at, taken_mark, begun_course, led_course, elected_course, with_event, IsKind, IsReplicasRow}
 use Rattle.sc_live_journals.proofs.RowsProofs.Lemmas.{rows_keep, same_some, rows_are, view_others}
@@ -21,9 +21,9 @@ pub use Rattle.sc_live_steps.proofs.FollowingProofs.AskedSlots.{marks_all}
 
 following_same : (at : Sets) (now : Progress) (one two : ℕ → List Mark) → ((who : ℕ) → two who ≡ one who) → IsFollowing at now one → IsFollowing at now two
 following_same at now one two same f =
-    idle-keeps at now now 0 None (λ who. []) one two
+    idle-keeps now now 0 None (λ who. []) one two
     (record { left = one 0; takes = refl; own = same 0 ∙ sym (append-nil (one 0)); others = λ who ne. same who ∙ sym (append-nil (one who)); next = λ who ne. refl; promise = λ who ne. refl })
-    (record { takes = refl; next = refl; promise = refl; course = refl; sends = λ who. refl }) f
+    (record { takes = refl; next = refl; promise = refl; course = refl; sends = λ who. refl }) at f
 
 takes_same : (at : Sets) (now after : Progress) (node : ℕ) (taken : Option Mark) (one two : ℕ → List Mark) → ((who : ℕ) → two who ≡ one who) → Takes at now after node taken one → Takes at now after node taken two
 takes_same at now after node taken one two same t =
@@ -89,7 +89,7 @@ none_of (d ∷ dated) e = (e.0, none_of dated e.1)
 
 -- ---- the rows
 
-module _ (at : Sets) (over : Ends) (by : Tellers) (words : ℕ → ℕ → ℕ × ℕ) (births : List (Seat Player)) (rows : Rows) (seat : Seat Player) (event : Event OrderLine) (base : Base) (course : Course)
+module _ (at : Sets) (over : Ends) (by : SlotLeaders) (words : ℕ → ℕ → ℕ × ℕ) (births : List (Seat Player)) (rows : Rows) (seat : Seat Player) (event : Event OrderLine) (base : Base) (course : Course)
     (stage : IsStage at over by words births rows seat event base course) where
   abbrev then_ : Rows
   then_ = with_event rows seat event
@@ -155,14 +155,14 @@ module _ (at : Sets) (over : Ends) (by : Tellers) (words : ℕ → ℕ → ℕ �
   -- replicas that run are in order
   orderly_then : ((r : ReplicaState) → view_at births then_ name seat.who ≡ Some r → r.running ≡ true → IsOrderly r) → (node : ℕ) (r : ReplicaState) → view_at births then_ name node ≡ Some r → r.running ≡ true → IsOrderly r
   orderly_then own node r e runs = elim (cases_eq node seat.who) [
-    | inl is ↦ own r (subst (λ n. view_at births then_ name n ≡ Some r) is e) runs
+    | inl fact ↦ own r (subst (λ n. view_at births then_ name n ≡ Some r) fact e) runs
     | inr ne ↦ stage.was.orderly node r (sym (others_view node ne) ∙ e) runs
   ]
 
   -- where the first member's node has no replica after it, it had none
   none_before : (view_at births then_ name seat.who ≡ None → view_at births rows name seat.who ≡ None) → view_at births then_ name base.core.first ≡ None → view_at births rows name base.core.first ≡ None
   none_before there none = elim (cases_eq base.core.first seat.who) [
-    | inl is ↦ subst (λ n. view_at births rows name n ≡ None) (sym is) (there (subst (λ n. view_at births then_ name n ≡ None) is none))
+    | inl fact ↦ subst (λ n. view_at births rows name n ≡ None) (sym fact) (there (subst (λ n. view_at births then_ name n ≡ None) fact none))
     | inr ne ↦ sym (others_view base.core.first ne) ∙ none
   ]
 
@@ -203,7 +203,7 @@ module _ (at : Sets) (over : Ends) (by : Tellers) (words : ℕ → ℕ → ℕ �
 
   -- one that has a replica after it, and where none has one at the first member's node
   some_there : (place : Place) → view_at births then_ name seat.who ≡ Some place.0 → view_at births then_ name seat.who ≡ None → view_at births rows name seat.who ≡ None
-  some_there place is none = (let bad : Some place.0 ≡ None = sym is ∙ none in cc)
+  some_there place fact none = (let bad : Some place.0 ≡ None = sym fact ∙ none in cc)
 
   keeps_leading : (r : ReplicaState) (after : Place) → IsReplicasRow births rows seat event name (Some r) after → (l : LeadsWell at over by births rows seat event base course after) → IsWellLed at over by words births then_ base (led_course l.led.bound course after.0)
   keeps_leading r after row l =
@@ -221,9 +221,9 @@ module _ (at : Sets) (over : Ends) (by : Tellers) (words : ℕ → ℕ → ℕ �
             }) was_low;
         own = own_is_kept.leads at now (after_ c) seat.who taken sent marks marks_then (row_in c) leads stage.was.followed.follows l.counts stage.was.own;
         orderly = orderly_then (λ other e runs.
-            (let same : after.0 ≡ other = same_some (view_at births then_ name seat.who) after.0 other row.is e in
+            (let same : after.0 ≡ other = same_some (view_at births then_ name seat.who) after.0 other row.fact e in
             subst IsOrderly same (l.orderly (ap (λ (x : ReplicaState). x.running) same ∙ runs))));
-        young = λ none. absurd (never_led r after row leads.mine (stage.was.young (none_before (some_there after row.is) none)) none);
+        young = λ none. absurd (never_led r after row leads.mine (stage.was.young (none_before (some_there after row.fact) none)) none);
         ends = l.ends;
         rests = l.rests;
       }
@@ -232,7 +232,7 @@ module _ (at : Sets) (over : Ends) (by : Tellers) (words : ℕ → ℕ → ℕ �
       never_led : (r : ReplicaState) (after : Place) → IsReplicasRow births rows seat event name (Some r) after → seat.who ≡ course.ballot.node → course ≡ begun_course base → view_at births then_ name base.core.first ≡ None → ⊥
       never_led r after row mine begins none =
           (let first : seat.who ≡ base.core.first = mine ∙ ap (λ (c : Course). c.ballot.node) begins in
-          let bad : Some after.0 ≡ None = sym row.is ∙ subst (λ n. view_at births then_ name n ≡ None) (sym first) none in
+          let bad : Some after.0 ≡ None = sym row.fact ∙ subst (λ n. view_at births then_ name n ≡ None) (sym first) none in
           cc)
 
   keeps_electing : (ballot : Ballot) (r : ReplicaState) (after : Place) → IsReplicasRow births rows seat event name (Some r) after → ElectsWell at births rows seat event base course ballot after → IsWellLed at over by words births then_ base (elected_course course ballot)
@@ -247,8 +247,8 @@ module _ (at : Sets) (over : Ends) (by : Tellers) (words : ℕ → ℕ → ℕ �
             (elects_same at now (after_ c) seat.who (Some some.0.0) sent (λ who. marks_in (sent_dated who)) sent_same (subst (λ o. Elects at now (after_ c) seat.who o sent) (self_election.takes ∙ ap Some (sym some.2)) self_election))
             (λ who. subst (λ ms. Each (λ (d : Dated). course.newest ≤ d.1) (dated_for name who ms)) (sym row.sends_all) (e.low who)) was_low;
         own = own_is_kept.self_election at now (after_ c) seat.who taken sent marks marks_then (row_in c) self_election stage.was.followed.follows (record { none = λ who. refl; told = e.told }) stage.was.own;
-        orderly = orderly_then (λ other view runs. subst IsOrderly (same_some (view_at births then_ name seat.who) after.0 other row.is view) e.orderly);
-        young = λ none. absurd (true≢false (sym (ap (λ (x : Course). x.runs) (stage.was.young (none_before (some_there after row.is) none))) ∙ self_election.idle));
+        orderly = orderly_then (λ other view runs. subst IsOrderly (same_some (view_at births then_ name seat.who) after.0 other row.fact view) e.orderly);
+        young = λ none. absurd (true≢false (sym (ap (λ (x : Course). x.runs) (stage.was.young (none_before (some_there after row.fact) none))) ∙ self_election.idle));
         ends = sym self_election.stands ∙ stage.was.ends;
         rests = stage.was.rests;
       }

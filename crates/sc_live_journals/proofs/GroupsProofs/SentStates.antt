@@ -20,11 +20,11 @@ pub use Rattle.sc_words.proofs.PaxosProofs.ListLemmas.{Each-from as each_among}
 
 -- a mail's mark is among those for its receiver
 pub among_marks : (name : Draw) (mails : List Mail) (mail : Mail) (mark : Mark) → Among mail mails → mark_of name mail.from mail.body ≡ Some mark → Among mark (marks_for name mail.to mails)
-among_marks name [] mail mark a is = absurd a
-among_marks name (m ∷ mails) mail mark a is = by (eqb m.to mail.to) refl a (λ later. among_marks name mails mail mark later is)
+among_marks name [] mail mark a fact = absurd a
+among_marks name (m ∷ mails) mail mark a fact = by (eqb m.to mail.to) refl a (λ later. among_marks name mails mail mark later fact)
   where
     here : m ≡ mail → Among mark (listed (mark_of name m.from m.body) ++ marks_for name mail.to mails)
-    here same = among-left mark (listed (mark_of name m.from m.body)) (marks_for name mail.to mails) (subst (λ o. Among mark (listed o)) (sym (ap (λ (x : Mail). mark_of name x.from x.body) same ∙ is)) (inl refl))
+    here same = among-left mark (listed (mark_of name m.from m.body)) (marks_for name mail.to mails) (subst (λ o. Among mark (listed o)) (sym (ap (λ (x : Mail). mark_of name x.from x.body) same ∙ fact)) (inl refl))
 
     by : (b : Bool) → eqb m.to mail.to ≡ b → Among mail (m ∷ mails) → (Among mail mails → Among mark (marks_for name mail.to mails))
         → Among mark (marks_of name (cond b (m ∷ filter (λ x. eqb x.to mail.to) mails) (filter (λ x. eqb x.to mail.to) mails)))
@@ -42,11 +42,11 @@ module _ (name : Draw) (own : ℕ) where
   IsNoState body = (slot : ℕ) (state : Base) (sets : List (List ℕ)) → body ≡ Install name slot state sets → ⊥
 
   own_one : (me to : ℕ) (body : MailBody) (mails : List Mail) → IsNoState body → Own mails → Own (sent me to body mails)
-  own_one me to body mails none f = Each-append (IsStateFrom name own) mails (record { from = me; to = to; body = body } ∷ []) f ((λ slot state sets is. absurd (none slot state sets is)), tt)
+  own_one me to body mails none f = Each-append (IsStateFrom name own) mails (record { from = me; to = to; body = body } ∷ []) f ((λ slot state sets fact. absurd (none slot state sets fact)), tt)
 
   -- a node that sends a state sends it as its own
   own_sent : (me to : ℕ) (body : MailBody) (mails : List Mail) → me ≡ own → Own mails → Own (sent me to body mails)
-  own_sent me to body mails mine f = Each-append (IsStateFrom name own) mails (record { from = me; to = to; body = body } ∷ []) f ((λ slot state sets is. mine), tt)
+  own_sent me to body mails mine f = Each-append (IsStateFrom name own) mails (record { from = me; to = to; body = body } ∷ []) f ((λ slot state sets fact. mine), tt)
 
   -- what is kept by mails of no mark
   abbrev Keeps : List Mail → List Mail → Type 0
@@ -54,7 +54,7 @@ module _ (name : Draw) (own : ℕ) where
 
   keep : (mails : List Mail) (mail : Mail) → mark_of name mail.from mail.body ≡ None → Keeps mails (mails ++ mail ∷ [])
   keep mails mail e f = Each-append (IsStateFrom name own) mails (mail ∷ []) f
-      ((λ slot state sets is. (let bad : None ≡ Some (Installs slot) = sym e ∙ (ap (mark_of name mail.from) is ∙ same_mark name (Installs slot)) in cc)), tt)
+      ((λ slot state sets fact. (let bad : None ≡ Some (Installs slot) = sym e ∙ (ap (mark_of name mail.from) fact ∙ same_mark name (Installs slot)) in cc)), tt)
 
   own_all : (me : ℕ) (body : MailBody) → IsNoState body → (nodes : List ℕ) (mails : List Mail) → Keeps mails (sent_all me nodes body mails)
   unfolding sent_all
@@ -183,8 +183,8 @@ module _ (name : Draw) (own : ℕ) where
         (λ acts backlog more kept.
         let q : ReplicaState = record (entered command r) { acts = acts; backlog = backlog } in
         let said : Place = spoken true (before_of r.group.core) (applied r.group command).1 command (q, more) in
-        let is = spoken_kept name Keeps (λ _ h. h) (λ a b c one other h. other (one h)) keep (before_of r.group.core) (applied r.group command).1 command q more in
-        subst (λ (x : ReplicaState). Own (looked (left (landed true (next r) command (welcomed true (members r) (learnt_to true (members r) (next r) command (x, said.1)))))).1) (sym is.0) (own_past acts backlog said.1 (is.1 (kept f))))
+        let fact = spoken_kept name Keeps (λ _ h. h) (λ a b c one other h. other (one h)) keep (before_of r.group.core) (applied r.group command).1 command q more in
+        subst (λ (x : ReplicaState). Own (looked (left (landed true (next r) command (welcomed true (members r) (learnt_to true (members r) (next r) command (x, said.1)))))).1) (sym fact.0) (own_past acts backlog said.1 (fact.1 (kept f))))
         (applied r.group command).1 command
 
 -- ---- all that is executed at once
@@ -198,8 +198,8 @@ module _ (name : Draw) (own : ℕ) (at : Sets) (course : Course) (command : Comm
 
   own_step : (es : List (ℕ × Command)) → (IsLed at course mid.0 → mid.0.me ≡ own → Own name own mid.1 → Own name own (executed_ready es mid).0.1) → Own name own (pumped (executed_ready es mid).0).1
   own_step es rest = elim ((entries_lead at course command place led is_next).state) [
-    | inl on ↦ own_pumped name own (executed_ready es mid).0.0 (executed_ready es mid).0.1 (rest (subst (IsLed at course) (sym on.is) (stays_led at course command place.0 led ready is_next on.acts on.backlog on.stands on.stays)) (ap (λ (q : ReplicaState). q.me) on.is ∙ ((entered_keeps command place.0).3 ∙ mine)) own_mid)
-    | inr off ↦ (let still : mid.0.running ≡ false = ap (λ (q : ReplicaState). q.running) off.is in
+    | inl on ↦ own_pumped name own (executed_ready es mid).0.0 (executed_ready es mid).0.1 (rest (subst (IsLed at course) (sym on.fact) (stays_led at course command place.0 led ready is_next on.acts on.backlog on.stands on.stays)) (ap (λ (q : ReplicaState). q.me) on.fact ∙ ((entered_keeps command place.0).3 ∙ mine)) own_mid)
+    | inr off ↦ (let still : mid.0.running ≡ false = ap (λ (q : ReplicaState). q.running) off.fact in
         own_pumped name own (executed_ready es mid).0.0 (executed_ready es mid).0.1 (subst (λ (s : Executed). Own name own s.0.1) (sym (idle_ready es mid still)) own_mid))
   ]
 
@@ -237,8 +237,8 @@ own_promise name own from ballot reports r = by (leads ballot r)
 module _ (at : Sets) (now : Progress) (own : ℕ) (r : ReplicaState) (was : IsLeadOf at now r) (mine : r.me ≡ own) where
   -- what leaves no mark has no state
   own_quiet : (top : Ballot) (acts backlog : List Command) (more : List Mail) → ((who : ℕ) → marks_for (name_of r) who more ≡ []) → Own (name_of r) own more
-  own_quiet top acts backlog more none = each_among (IsStateFrom (name_of r) own) more (λ mail a slot state sets is.
-      absurd (subst (Among (Installs slot)) (none mail.to) (among_marks (name_of r) more mail (Installs slot) a (ap (mark_of (name_of r) mail.from) is ∙ same_mark (name_of r) (Installs slot)))))
+  own_quiet top acts backlog more none = each_among (IsStateFrom (name_of r) own) more (λ mail a slot state sets fact.
+      absurd (subst (Among (Installs slot)) (none mail.to) (among_marks (name_of r) more mail (Installs slot) a (ap (mark_of (name_of r) mail.from) fact ∙ same_mark (name_of r) (Installs slot)))))
 
   own_offers : (acts backlog : List Command) → Own (name_of r) own (pumped (record r { acts = acts; backlog = backlog }, [])).1
   own_offers acts backlog = own_pumped (name_of r) own (record r { acts = acts; backlog = backlog }) [] tt

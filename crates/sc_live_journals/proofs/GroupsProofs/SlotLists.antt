@@ -105,6 +105,6 @@ in_other slot other command (e ∷ es) ne = by (eqb e.0 slot) (nat_lt slot e.0) 
     by : (b c : Bool) → eqb e.0 slot ≡ b → at_slot (with_slot es slot command) other ≡ at_slot es other → at_slot (cond b ((slot, command) ∷ es) (cond c ((slot, command) ∷ e ∷ es) (e ∷ with_slot es slot command))) other ≡ at_slot (e ∷ es) other
     by true c t more =
         ap (λ b. cond b (Some command) (at_slot es other)) (ne_eqb slot other ne)
-        ∙ sym (ap (λ b. cond b (Some e.1) (at_slot es other)) (ne_eqb e.0 other (λ is. ne (sym (eqb-true e.0 slot t) ∙ is))))
+        ∙ sym (ap (λ b. cond b (Some e.1) (at_slot es other)) (ne_eqb e.0 other (λ fact. ne (sym (eqb-true e.0 slot t) ∙ fact))))
     by false true t more = ap (λ b. cond b (Some command) (at_slot (e ∷ es) other)) (ne_eqb slot other ne)
     by false false t more = ap (λ o. cond (eqb e.0 other) (Some e.1) o) more

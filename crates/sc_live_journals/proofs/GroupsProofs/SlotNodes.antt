@@ -1,13 +1,13 @@
 -- What each replica has in flight and ready stays from its next slot on by the rows of its node, and so after any rows.
-use Rattle.std.proofs.Common.{ℕ, eqb, cond, List, [], ◌∷◌, ◌++◌, map, Option, Some, None}
+use Rattle.std.proofs.Common.{ℕ, List, [], ◌∷◌, map}
 use Rattle.sc_base.specs.Definitions.{Each, is_member}
-use Rattle.sc_node_table.specs.Values.{Input, Row, Base, OrderLine, Mail, Node, Client}
-use Rattle.sc_actor.specs.Definitions.{acted, input_of, replay}
+use Rattle.sc_node_table.specs.Values.{Input, Base, OrderLine, Mail, Node, Client}
 use Rattle.sc_node_table.specs.Definitions.{born_replicas, born_replica, slots_ahead}
 use Rattle.sc_meaning.specs.sound.Definitions.{Player, player_table}
-use Rattle.sc_law_walks.proofs.Lemmas.{either_way, EachReplica, ReplicaRows, node_step}
+use Rattle.sc_law_walks.proofs.Lemmas.{either_way, EachReplica, ReplicaRows, node_step, replay_keeps}
 use Rattle.sc_live_journals.specs.groups.Definitions.{IsSlotKept, NodesAreBornSlotted}
 use Rattle.sc_live_journals.proofs.GroupsProofs.SlotRows.{born_well, made_well, mailed_well, order_well, tick_well}
+use Rattle.sc_live_journals.proofs.RowsProofs.Players.{RowsKeep}
 
 module _ (me : ℕ) where
   -- each row of a replica's table keeps it, and it holds of what is made
@@ -26,16 +26,12 @@ module _ (me : ℕ) where
   Plays (Node node) = EachReplica me IsSlotKept node
   Plays (Client client) = Unit {0}
 
-  acted_well : (player : Player) (input : Option (Input Mail OrderLine)) → Plays player → Plays (acted player_table player input).0
-  acted_well player None k = k
-  acted_well (Node node) (Some input) k = node_step me IsSlotKept slot_rows node input k
-  acted_well (Client client) (Some input) k = tt
+  acts_well : (player : Player) (input : Input Mail OrderLine) → Plays player → Plays (player_table player input).0
+  acts_well (Node node) input k = node_step me IsSlotKept slot_rows node input k
+  acts_well (Client client) input k = tt
 
-  pub replay_well : (who : ℕ) (rows : List (Row Mail OrderLine)) (player : Player) (sent : List Mail) → Plays player → Plays (replay player_table who player sent rows)
-  replay_well who [] player sent k = k
-  replay_well who (row ∷ rows) player sent k =
-      let after : Player = cond (eqb row.who who) (acted player_table player (input_of sent row.event)).0 player in
-      replay_well who rows after (sent ++ row.sent) (either_way Plays (eqb row.who who) (acted player_table player (input_of sent row.event)).0 player (acted_well player (input_of sent row.event) k) k)
+  pub replay_well : RowsKeep Plays
+  replay_well = replay_keeps player_table Plays acts_well
 
   -- at the birth of groups
   pub born_all : (groups : List Base) → Each IsSlotKept (born_replicas slots_ahead me groups)

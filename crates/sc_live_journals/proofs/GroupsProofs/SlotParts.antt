@@ -183,7 +183,7 @@ module _ (n : ℕ) (d : Bool) where
   unfolding pumped
   pumped_well place k =
       cond_both (settled place.0 && nat_le (next place.0) last_slot) (pumped_from (next place.0) place.0.sets place) place (W n n d)
-      (λ t. (from_well (next place.0) place.0.sets place (let is = k.1 in omega (arith, is)) (k, (and_parts place.0.running (may_offer place.0 (first_set place.0.sets)) (and_parts (settled place.0) (nat_le (next place.0) last_slot) t).0).0)).0) (λ _. k)
+      (λ t. (from_well (next place.0) place.0.sets place (let fact = k.1 in omega (arith, fact)) (k, (and_parts place.0.running (may_offer place.0 (first_set place.0.sets)) (and_parts (settled place.0) (nat_le (next place.0) last_slot) t).0).0)).0) (λ _. k)
 
 -- ---- an entry
 

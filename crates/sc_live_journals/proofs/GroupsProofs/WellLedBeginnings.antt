@@ -9,15 +9,19 @@ use Rattle.sc_scenario.specs.declared.scenario.scenarios.Scenario.{Scenario}
 use Rattle.sc_node_table.specs.Definitions.{ReplicaState, first_ballot, born_replica, slots_ahead}
 use Rattle.sc_meaning.specs.sound.Definitions.{Player, births, as_nodes}
 use Rattle.sc_live_steps.specs.calm.Definitions.{players, Rows}
-use Rattle.sc_live_steps.specs.following.Definitions.{AreLow, Mark, Progress, Sets, members_at, IsFollowing, Tellers, IsLeadOf, IsOrderly, IsRow, IsIdle, begun}
+use Rattle.sc_live_steps.specs.following.Definitions.{AreLow, Mark, Progress, Sets, members_at, IsFollowing, SlotLeaders, IsLeadOf, IsOrderly, IsRow, IsIdle, begun}
 use Rattle.sc_live_steps.proofs.FollowingProofs.Lemmas.{leaders_begin, nothing, hints_are_kept, begins, idle-keeps, own_is_kept}
 use Rattle.sc_live_journals.specs.rows.Definitions.{view_at, next_in, promise_in, progress_at, marks_at, begun_course, IsLedBy, IsCourseOf}
 use Rattle.sc_live_journals.proofs.RowsProofs.Lemmas.{none_some, born_leads, born_facts, own_replica, view_born, next_born, promise_born}
 use Rattle.sc_live_journals.specs.groups.Definitions.{BeginsSo, ScenariosBeginLed, ChildrenBeginLed, Ends, hint_in, hints_at, dated_at, IsWellLed}
 use Rattle.sc_live_journals.proofs.GroupsProofs.Rows.{marks_all}
 
+-- the first open slots have the members with which the group begins
+pub first_slots : (at : Sets) (over : Ends) (base : Base) → BeginsSo at over base → (slot : ℕ) → slot < 1 + slots_ahead → at slot ≡ members_at at 1
+first_slots at over base so slot low = so.sets slot low ∙ sym (so.sets 4 (omega arith))
+
 -- a group whose nodes are all where they begin, and none of whose mail is under way
-module _ (at : Sets) (over : Ends) (by : Tellers) (words : ℕ → ℕ → ℕ × ℕ) (seats : List (Seat Player)) (rows : Rows) (base : Base) (so : BeginsSo at over base) (first : is_member base.core.members base.core.first ≡ true) where
+module _ (at : Sets) (over : Ends) (by : SlotLeaders) (words : ℕ → ℕ → ℕ × ℕ) (seats : List (Seat Player)) (rows : Rows) (base : Base) (so : BeginsSo at over base) (first : is_member base.core.members base.core.first ≡ true) where
   abbrev ballot : Ballot
   ballot = first_ballot base.core
 
@@ -36,9 +40,6 @@ module _ (at : Sets) (over : Ends) (by : Tellers) (words : ℕ → ℕ → ℕ �
   firsts : members_at at 1 ≡ base.core.members
   firsts = so.sets 4 (omega arith)
 
-  same : (slot : ℕ) → slot < 1 + slots_ahead → at slot ≡ members_at at 1
-  same slot low = so.sets slot low ∙ sym firsts
-
   module _ (nexts : (who : ℕ) → now.next who ≡ (begun base.core.members ballot).next who) (promises : (who : ℕ) → now.promise who ≡ ballot) (none : (who : ℕ) → marks who ≡ []) (heads : (who : ℕ) → hints who ≡ Some base.core.first) where
     nexts_too : (who : ℕ) → now.next who ≡ start.next who
     nexts_too who = nexts who ∙ ap (λ (ms : List ℕ). (begun ms ballot).next who) (sym firsts)
@@ -50,11 +51,11 @@ module _ (at : Sets) (over : Ends) (by : Tellers) (words : ℕ → ℕ → ℕ �
     idle = record { takes = refl; next = nexts_too 0; promise = promises 0; course = refl; sends = λ who. refl }
 
     following : IsFollowing at start (λ node. [])
-    following = begins at ballot same (ap (λ (ms : List ℕ). is_member ms base.core.first) firsts ∙ first)
+    following = begins at ballot (first_slots at over base so) (ap (λ (ms : List ℕ). is_member ms base.core.first) firsts ∙ first)
 
     well : IsCourseOf at seats rows base (begun_course base) → ((node : ℕ) (r : ReplicaState) → view_at seats rows base.core.id node ≡ Some r → r.running ≡ true → IsOrderly r) → IsWellLed at over by words seats rows base (begun_course base)
     well given orderly = record {
-      followed = record { follows = idle-keeps at start now 0 None (λ who. []) (λ who. []) marks row idle following; given = given };
+      followed = record { follows = idle-keeps start now 0 None (λ who. []) (λ who. []) marks row idle at following; given = given };
       heeded = hints_are_kept.idle at by start now 0 None (λ who. []) (λ who. []) marks hints hints so.rosters row idle following (λ who ne. refl) refl (hints_are_kept.begin at by ballot hints (λ node ne open_. heads node));
       low = λ who. subst (AreLow (now.next who)) (sym (nothing (dated_at (players words seats) rows base.core.id who) (marks_all base.core.id (rest (players words seats) rows who) ∙ none who))) tt;
       own = own_is_kept.idle at start now 0 None (λ who. []) (λ who. []) marks row idle following tt (own_is_kept.begin at ballot);
@@ -70,7 +71,7 @@ module _ (at : Sets) (over : Ends) (by : Tellers) (words : ℕ → ℕ → ℕ �
 
 -- ---- a group of a scenario
 
-module _ (at : Sets) (over : Ends) (by : Tellers) (words : ℕ → ℕ → ℕ × ℕ) (scenario : Scenario) (base : Base) (bounded : IsBounded scenario) (a : Among base scenario.groups) (so : BeginsSo at over base) where
+module _ (at : Sets) (over : Ends) (by : SlotLeaders) (words : ℕ → ℕ → ℕ × ℕ) (scenario : Scenario) (base : Base) (bounded : IsBounded scenario) (a : Among base scenario.groups) (so : BeginsSo at over base) where
   abbrev born : List (Seat Player)
   born = births as_nodes scenario
 

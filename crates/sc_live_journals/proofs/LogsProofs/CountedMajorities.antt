@@ -24,7 +24,7 @@ one_chosen d c e = cc
 
 -- a leader's flights by the steps of its group, and the members of a slot by a log of these
 module _ (ahead : Ahead) (base : Base) (h : Steps) (lawful : IsLawfulHistory (rule ahead base) (first ahead base) h) (leader : LeaderState Command) (flying : Each (IsFlying ahead base h leader.ballot) leader.flights)
-    (log : List Command) (is_log : IsLog (rule ahead base) h log) (slot : ℕ) (set : List ℕ) (is : set ≡ members_of (rule ahead base) log slot) (known : needed (rule ahead base) slot ≤ length log) where
+    (log : List Command) (is_log : IsLog (rule ahead base) h log) (slot : ℕ) (set : List ℕ) (fact : set ≡ members_of (rule ahead base) log slot) (known : needed (rule ahead base) slot ≤ length log) where
   -- the vote of a node that accepted something in the leader's ballot
   module _ (from : ℕ) (d : Command) (did : Among (Accepted from leader.ballot slot d) h) where
     abbrev b : Ballot
@@ -54,7 +54,7 @@ module _ (ahead : Ahead) (base : Base) (h : Steps) (lawful : IsLawfulHistory (ru
               ballot = b;
               voters = kept_voters (voters_after set from flight.voters);
               each = accepted_by flight a e;
-              majority = ltb-true _ _ (subst (λ ms. is_majority ms (kept_voters (voters_after set from flight.voters)) ≡ true) is most);
+              majority = ltb-true _ _ (subst (λ ms. is_majority ms (kept_voters (voters_after set from flight.voters)) ≡ true) fact most);
             };
           };
         })

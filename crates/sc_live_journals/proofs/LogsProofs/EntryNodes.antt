@@ -1,5 +1,5 @@
 -- Each entry of a group's log brings nodes of the scenario, row by row of a lawful journal of a valid scenario.
-use Rattle.std.proofs.Common.{◌≡◌, ℕ, Bool, List, [], ◌∷◌, ◌++◌, length, drop, inl, inr, refl, sym, ◌∙◌, ap, subst, append_assoc, append-nil}
+use Rattle.std.proofs.Common.{◌≡◌, ℕ, Bool, List, [], ◌∷◌, ◌++◌, length, drop, inl, inr, refl, sym, ◌∙◌, subst, append_assoc, append-nil}
 use Rattle.sc_base.specs.Definitions.{Among, Each, Drawer, next_name}
 use Rattle.sc_node_table.specs.Values.{Command, Base, Route, OrderLine, Mail, MailBody, Event, Tick, Row}
 use Rattle.sc_actor.specs.declared.rows.Event.TheVariants.{Told}
@@ -12,15 +12,14 @@ use Rattle.sc_words.proofs.PaxosProofs.Lemmas.{Each-among, Each-append, Each-fro
 use Rattle.sc_paxos_law.proofs.Lemmas.{Among-right}
 use Rattle.sc_scenario.specs.scenario.Definitions.{IsBounded, IsBoundedLine, IsUpTo}
 use Rattle.sc_scenario.specs.declared.scenario.scenarios.Scenario.{Scenario}
-use Rattle.sc_meaning.specs.sound.Definitions.{groups_at, birth_at, decided_log, decided_state, Ahead, Lawful, schedule, system_of}
+use Rattle.sc_meaning.specs.sound.Definitions.{groups_at, decided_log, decided_state, Ahead, Lawful, schedule, system_of}
 use Rattle.sc_law_entries.specs.ring.Definitions.{Sources}
-use Rattle.sc_law_entries.proofs.RingProofs.Lemmas.{some_none}
-use Rattle.sc_law_entries.specs.logs.Definitions.{Rows, added_by, AreFound, IsNewborn, DecidesInTurn}
+use Rattle.sc_law_entries.specs.logs.Definitions.{Rows, added_by, AreFound, DecidesInTurn}
 use Rattle.sc_law_entries.proofs.LogsProofs.Lemmas.{groups_are_found, groups_are_old_or_new, deciding_rows_stay, in_turn_parts}
 use Rattle.sc_law_entries.proofs.NamesProofs.Lemmas.{Each-drop}
-use Rattle.sc_law_groups.proofs.GroupProofs.Lemmas.{at_start, first_of, h_of, Kept, IsLater, Moved, push, decided_made, entry_offered, each_got, GivesAllowedOrder, told_induction, HasPlayers, MayTell, KnowsOffspring, moved, MayTick}
+use Rattle.sc_law_groups.proofs.GroupProofs.Lemmas.{at_start, first_of, h_of, Kept, IsLater, Moved, push, decided_made, entry_offered, each_got, GivesAllowedOrder, told_induction, HasPlayers, MayGiveOrder, KnowsOffspring, moved, MayTick}
 use Rattle.sc_law_groups.specs.whole.Definitions.{BeginsWell, OrdersAreAllowed}
-use Rattle.sc_law_groups.proofs.WholeProofs.Lemmas.{IsNew, IsOldOrNew, goes_on_from, grown, members_stay_rosters, Holds}
+use Rattle.sc_law_groups.proofs.WholeProofs.Lemmas.{newborn_is_new, StepsKeep, IsOldOrNew, goes_on_from, grown, members_stay_rosters, Holds}
 use Rattle.sc_live_journals.proofs.LogsProofs.JournalPrefixes.{prefix}
 use Rattle.sc_live_journals.proofs.LogsProofs.NodesInGroups.{BringsNodes, HasNodes, SaysNodes, log_nodes}
 use Rattle.sc_live_journals.proofs.LogsProofs.NamedNodes.{says_nodes}
@@ -64,13 +63,13 @@ module _ (sources : Sources) (ahead : Ahead) (words : ℕ → ℕ → ℕ × ℕ
   -- ---- the orders of the schedule
 
   -- a row that gives no order but of nodes
-  abbrev TellsNodes : Row Mail OrderLine → Type 0
-  TellsNodes row = GivesAllowedOrder (OrdersNodes scenario) row.who row.event
+  abbrev OrdersNameNodes : Row Mail OrderLine → Type 0
+  OrdersNameNodes row = GivesAllowedOrder (OrdersNodes scenario) row.who row.event
 
   -- each order of the journal is of nodes
-  told_nodes : Each TellsNodes journal
+  told_nodes : Each OrdersNameNodes journal
   told_nodes =
-      told_induction (OrdersNodes scenario) (system_of ahead words scenario) (Each TellsNodes) (λ before row p told step. Each-append TellsNodes before (row ∷ []) p (told, tt)) (schedule scenario) journal
+      told_induction (OrdersNodes scenario) (system_of ahead words scenario) (Each OrdersNameNodes) (λ before row p told step. Each-append OrdersNameNodes before (row ∷ []) p (told, tt)) (schedule scenario) journal
       (lines_nodes scenario scenario.clients scenario.lines (Each-from_All (IsBoundedLine scenario.nodes scenario.clients) scenario.lines bounded.lines)) tt lawful
 
   -- ---- one row more
@@ -107,18 +106,18 @@ module _ (sources : Sources) (ahead : Ahead) (words : ℕ → ℕ → ℕ × ℕ
 
     -- a child that is created is one of the groups, under a name of its own
     offspring : KnowsOffspring ahead words scenario scenario.groups (bases rows) route made heard players rows
-    offspring n base a child is =
-        let log = is.prefix ++ is.command ∷ [] in
+    offspring n base a child fact =
+        let log = fact.prefix ++ fact.command ∷ [] in
         let decided = decided_log ahead base rows in
-        let on = goes_on_from ahead base rows (h.kept.parts base a).lawful log is.is_log in
-        let birth = sym (births_are_children (state_after (group_of base) is.prefix) is.command) ∙ is.child_is in
-        let there = found.prefixes base a log (drop (length log) decided) on child (child_in (group_of base) is.prefix is.command child birth) in
+        let on = goes_on_from ahead base rows (h.kept.parts base a).lawful log fact.is_log in
+        let birth = sym (births_are_children (state_after (group_of base) fact.prefix) fact.command) ∙ fact.child_is in
+        let there = found.prefixes base a log (drop (length log) decided) on child (child_in (group_of base) fact.prefix fact.command child birth) in
         record { among = there; alone = λ other o same. found.apart other child o there same; open_slots = b.seats.open_slots }
 
     -- what the row's order may queue, and what policies do
-    may_tell : (who : ℕ) (event : Event OrderLine) → GivesAllowedOrder (OrdersNodes scenario) who event → MayTell ahead words scenario scenario.groups (bases rows) route made heard players rows who event
-    may_tell who (Told line) told = λ low high node is base a into r held taken. told (next_name node.draws)
-    may_tell who Tick told = λ low high node is. ticks_nodes scenario (bases rows) node.policy node.draws node.replicas
+    may_tell : (who : ℕ) (event : Event OrderLine) → GivesAllowedOrder (OrdersNodes scenario) who event → MayGiveOrder ahead words scenario scenario.groups (bases rows) route made heard players rows who event
+    may_tell who (Told line) told = λ low high node fact base a into r held taken. told (next_name node.draws)
+    may_tell who Tick told = λ low high node fact. ticks_nodes scenario (bases rows) node.policy node.draws node.replicas
     may_tell who _ told = tt
 
     -- what may be queued and heard stays so
@@ -130,15 +129,11 @@ module _ (sources : Sources) (ahead : Ahead) (words : ℕ → ℕ → ℕ × ℕ
     moves =
         moved ahead words scenario scenario.groups (bases rows) route made heard players rows h.kept (λ body t tx coord hint. tt)
         (λ base a. says_nodes (IsUpTo scenario.nodes) ahead base (h.begins base a) (h_of rows base)) offspring (λ r steps. later r) row
-        (may_tell row.who row.event (Each-among TellsNodes (rows ++ row ∷ more) row (subst (Each TellsNodes) e told_nodes) (Among-right row rows (row ∷ more) (inl refl)))) step
-
-    -- a newborn has a new name
-    is_new : (base : Base) → IsNewborn ahead scenario.groups rows row base → IsNew (bases rows) base.core.id
-    is_new base n other o same = some_none other (sym (found.known other o).birth ∙ ap (birth_at ahead scenario.groups rows) same ∙ n.unborn)
+        (may_tell row.who row.event (Each-among OrdersNameNodes (rows ++ row ∷ more) row (subst (Each OrdersNameNodes) e told_nodes) (Among-right row rows (row ∷ more) (inl refl)))) step
 
     -- the groups after the row
     old_or_new : (base : Base) → Among base (bases next) → IsOldOrNew (bases rows) base
-    old_or_new base a = elim (groups_are_old_or_new sources ahead scenario.groups b.place rows before.turn row decides base a) [ inl was ↦ inl was | inr n ↦ inr (is_new base n, (n.parent, n.stands)) ]
+    old_or_new base a = elim (groups_are_old_or_new sources ahead scenario.groups b.place rows before.turn row decides base a) [ inl was ↦ inl was | inr n ↦ inr (newborn_is_new ahead scenario.groups rows row found base n, (n.parent, n.stands)) ]
 
     -- they begin with nodes
     begin_next : (base : Base) → Among base (bases next) → (HasNodes (IsUpTo scenario.nodes)) base.core
@@ -170,14 +165,14 @@ module _ (sources : Sources) (ahead : Ahead) (words : ℕ → ℕ → ℕ × ℕ
   P rows = (more : Rows) → journal ≡ rows ++ more → NodesHold rows
 
   -- one row more keeps it
-  keeps : (rows : Rows) (row : Row Mail OrderLine) → P rows → IsStep (system_of ahead words scenario) rows row → P (rows ++ row ∷ [])
+  keeps : StepsKeep ahead words scenario P
   keeps rows row p step more e =
       let are : journal ≡ rows ++ row ∷ more = e ∙ append_assoc rows (row ∷ []) more in
       next_holds rows row more are (p (row ∷ more) are) step
 
   -- so it holds of the whole
   all_hold : NodesHold journal
-  all_hold = lawful-induction (system_of ahead words scenario) P keeps (schedule scenario) journal (λ rest is. none_hold) lawful [] (sym (append-nil journal))
+  all_hold = lawful-induction (system_of ahead words scenario) P keeps (schedule scenario) journal (λ rest fact. none_hold) lawful [] (sym (append-nil journal))
 
   module _ (base : Base) (stands : Among base (bases journal)) where
     -- a group begins with nodes

@@ -26,7 +26,7 @@ use Rattle.sc_scenario.specs.declared.scenario.scenarios.SchedLine.{SchedLine}
 use Rattle.sc_scenario.specs.declared.scenario.scenarios.SchedLine.TheVariants as scheduled
 use Rattle.sc_meaning.specs.sound.Definitions.{children_of, line_of}
 use Rattle.sc_law_entries.proofs.NamesProofs.Lemmas.{Each-drop}
-use Rattle.sc_law_groups.proofs.GroupProofs.Lemmas.{TellsSo}
+use Rattle.sc_law_groups.proofs.GroupProofs.Lemmas.{OrdersOnly}
 use Rattle.sc_live_journals.proofs.LogsProofs.NodesInGroups.{BringsNodes, HasNodes, nodes_stay_nodes}
 use Rattle.sc_law_groups.proofs.WholeProofs.FreshChildren.{listed}
 
@@ -62,7 +62,7 @@ module _ (scenario : Scenario) where
   OrdersNodes who line = (name : Draw) → (BringsNodes (IsUpTo scenario.nodes)) (ordered_command name line.number line.order)
 
   -- so does each line of the schedule
-  line_nodes : (clients : List Asks) (line : SchedLine) → IsBoundedLine scenario.nodes clients line → TellsSo OrdersNodes (line_of line)
+  line_nodes : (clients : List Asks) (line : SchedLine) → IsBoundedLine scenario.nodes clients line → OrdersOnly OrdersNodes (line_of line)
   line_nodes clients (scheduled.Told node line) bounded = λ name. ordered_nodes line.order bounded.1 name line.number
   line_nodes clients (scheduled.Go client) bounded = tt
   line_nodes clients (scheduled.Deliver who k) bounded = tt
@@ -75,7 +75,7 @@ module _ (scenario : Scenario) where
   line_nodes clients (scheduled.Storm number most) bounded = tt
 
   -- and so do all lines
-  pub lines_nodes : (clients : List Asks) (lines : List SchedLine) → Each (IsBoundedLine scenario.nodes clients) lines → Each (TellsSo OrdersNodes) (map line_of lines)
+  pub lines_nodes : (clients : List Asks) (lines : List SchedLine) → Each (IsBoundedLine scenario.nodes clients) lines → Each (OrdersOnly OrdersNodes) (map line_of lines)
   lines_nodes clients [] bounded = tt
   lines_nodes clients (line ∷ lines) bounded = (line_nodes clients line bounded.0, lines_nodes clients lines bounded.1)
 
@@ -89,11 +89,11 @@ module _ (scenario : Scenario) where
   pub wishes_nodes : (on : Bool) (r : ReplicaState) (line : OrderLine) (name : Draw) → wished_line on r ≡ Some line → (BringsNodes (IsUpTo scenario.nodes)) (ordered_command name line.number line.order)
   wishes_nodes on r line name e =
       cond_both (on && is_at_rest r) (option_map policy_line (wished_order r.group.core (entries r.group.pairs))) None (λ (o : Option OrderLine). o ≡ Some line → (BringsNodes (IsUpTo scenario.nodes)) (ordered_command name line.number line.order))
-      (λ _ is. by (wished r.group.core (entries r.group.pairs)) is) (λ _ is. cc) e
+      (λ _ fact. by (wished r.group.core (entries r.group.pairs)) fact) (λ _ fact. cc) e
     where
       by : (o : Option Body0) → option_map policy_line (option_map (order_of r.group.core.id) o) ≡ Some line → (BringsNodes (IsUpTo scenario.nodes)) (ordered_command name line.number line.order)
-      by None is = cc
-      by (Some body) is = (let same : policy_line (order_of r.group.core.id body) ≡ line = cc in subst (λ (l : OrderLine). (BringsNodes (IsUpTo scenario.nodes)) (ordered_command name l.number l.order)) same (wished_nodes body r.group.core.id name 0))
+      by None fact = cc
+      by (Some body) fact = (let same : policy_line (order_of r.group.core.id body) ≡ line = cc in subst (λ (l : OrderLine). (BringsNodes (IsUpTo scenario.nodes)) (ordered_command name l.number l.order)) same (wished_nodes body r.group.core.id name 0))
 
   -- ---- children
 
@@ -107,7 +107,7 @@ module _ (scenario : Scenario) where
   by_order None (Some why) group at child has kid e = cc
   by_order None None group at child has kid e =
       cond_both (is_alone group.core) (Some (child_of group at child)) None (λ o. o ≡ Some kid → (HasNodes (IsUpTo scenario.nodes)) kid.core)
-      (λ _ is. (let same : child_of group at child ≡ kid = cc in subst (λ (b : Base). (HasNodes (IsUpTo scenario.nodes)) b.core) same (child_nodes group at child has))) (λ _ is. cc) e
+      (λ _ fact. (let same : child_of group at child ≡ kid = cc in subst (λ (b : Base). (HasNodes (IsUpTo scenario.nodes)) b.core) same (child_nodes group at child has))) (λ _ fact. cc) e
 
   -- the child of a split that its watcher lets go on
   by_release : (body : Body) (group : Group) → (HasNodes (IsUpTo scenario.nodes)) group.core → (kid : Base) → released_child body group ≡ Some kid → (HasNodes (IsUpTo scenario.nodes)) kid.core
@@ -116,7 +116,7 @@ module _ (scenario : Scenario) where
   by_release (By.Migrate node) group has kid e = cc
   by_release (By.Split at child) group has kid e =
       cond_both (can_split group.core at) (Some (child_of group at child)) None (λ o. o ≡ Some kid → (HasNodes (IsUpTo scenario.nodes)) kid.core)
-      (λ _ is. (let same : child_of group at child ≡ kid = cc in subst (λ (b : Base). (HasNodes (IsUpTo scenario.nodes)) b.core) same (child_nodes group at child has))) (λ _ is. cc) e
+      (λ _ fact. (let same : child_of group at child ≡ kid = cc in subst (λ (b : Base). (HasNodes (IsUpTo scenario.nodes)) b.core) same (child_nodes group at child has))) (λ _ fact. cc) e
 
   -- whatever the watcher answers
   by_answer : (vote : Past) (body : Body) (group : Group) → (HasNodes (IsUpTo scenario.nodes)) group.core → (kid : Base) → answered_child vote body group ≡ Some kid → (HasNodes (IsUpTo scenario.nodes)) kid.core
@@ -130,13 +130,13 @@ module _ (scenario : Scenario) where
   by_watch (Promised t offer) group tx vote has kid e = cc
   by_watch (Watching t watch) group tx vote has kid e = cc
   by_watch (Coordinating t body order got) group tx vote has kid e =
-      cond_both (same_draw t tx) (answered_child vote body group) None (λ o. o ≡ Some kid → (HasNodes (IsUpTo scenario.nodes)) kid.core) (λ _ is. by_answer vote body group has kid is) (λ _ is. cc) e
+      cond_both (same_draw t tx) (answered_child vote body group) None (λ o. o ≡ Some kid → (HasNodes (IsUpTo scenario.nodes)) kid.core) (λ _ fact. by_answer vote body group has kid fact) (λ _ fact. cc) e
 
   -- the child of a command
   command_nodes : (group : Group) (c : Command) → (HasNodes (IsUpTo scenario.nodes)) group.core → (kid : Base) → child_by group c ≡ Some kid → (HasNodes (IsUpTo scenario.nodes)) kid.core
   command_nodes group (Split at child order) has kid e =
-      cond_both (has_named group.core child) None (ordered_child group.core.gone (refusal_of group.core (Split at child order)) group at child) (λ o. o ≡ Some kid → (HasNodes (IsUpTo scenario.nodes)) kid.core) (λ _ is. cc)
-      (λ _ is. by_order group.core.gone (refusal_of group.core (Split at child order)) group at child has kid is) e
+      cond_both (has_named group.core child) None (ordered_child group.core.gone (refusal_of group.core (Split at child order)) group at child) (λ o. o ≡ Some kid → (HasNodes (IsUpTo scenario.nodes)) kid.core) (λ _ fact. cc)
+      (λ _ fact. by_order group.core.gone (refusal_of group.core (Split at child order)) group at child has kid fact) e
   command_nodes group (RecordWatch tx vote by) has kid e = by_watch group.core.lock group tx vote has kid e
   command_nodes group _ has kid e = cc
 

@@ -1,9 +1,10 @@
 -- What of a journal's groups the laws of journals prove, after each of its first rows.
-use Rattle.std.proofs.Common.{◌≡◌, ℕ, ◌≤◌, eqb, List, [], ◌∷◌, ◌++◌, length, map, take, inl, inr, refl, sym, ◌∙◌, ap, subst, arith, append_assoc, append-nil}
+use Rattle.sc_client_table.specs.table.Definitions.{Client as ClientState}
+use Rattle.std.proofs.Common.{◌≡◌, Some, ℕ, ◌≤◌, eqb, List, [], ◌∷◌, ◌++◌, length, map, take, inl, inr, refl, sym, ◌∙◌, ap, subst, arith, append_assoc, append-nil}
 use Rattle.sc_base.specs.Definitions.{Among, Each, same_draw, IsRoster}
-use Rattle.sc_node_table.specs.Values.{Ballot, Draw, Command, Base, Route, OrderLine, Mail, Node, Client, Seat, Row, Flight}
+use Rattle.sc_node_table.specs.Values.{MailBody, Ballot, Draw, Command, Base, Route, OrderLine, Mail, Node, Client, Seat, Row, Flight}
 use Rattle.sc_base.proofs.Lemmas.{draw_is}
-use Rattle.sc_actor.specs.Definitions.{mails, value}
+use Rattle.sc_actor.specs.Definitions.{numbered, mails, value}
 use Rattle.sc_actor.proofs.Lemmas.{mails-append, lawful-prefix}
 use Rattle.sc_words.specs.paxos.Definitions.{kept_voters}
 use Rattle.sc_words.proofs.PaxosProofs.Lemmas.{Each-among, Each-weaker, find_found}
@@ -16,7 +17,7 @@ use Rattle.sc_law_entries.specs.ring.Definitions.{Sources}
 use Rattle.sc_law_entries.specs.logs.Definitions.{Rows, AreFound, StayRecorded, DecideInTurn}
 use Rattle.sc_law_entries.proofs.LogsProofs.Lemmas.{groups_are_found, deciding_rows_stay}
 use Rattle.sc_law_groups.specs.group.Definitions.{proposer_steps, asked_in, promises_at, steps}
-use Rattle.sc_law_groups.proofs.GroupProofs.Lemmas.{h_of, Part, grown_learnt, IsLearnt, Holds as Held, held, Steps, rule, IsFlying, IsReplica, AreSets, next_after, IsOneOf, steps-push, prefix_is, among_numbers}
+use Rattle.sc_law_groups.proofs.GroupProofs.Lemmas.{number_among, IsTrue, h_of, Part, grown_learnt, IsLearnt, Holds as Held, held, Steps, rule, IsFlying, IsReplica, AreSets, next_after, IsOneOf, steps-push, prefix_is, among_numbers}
 use Rattle.sc_law_groups.specs.whole.Definitions.{BeginsWell, OrdersAreAllowed, MayQueue, IsHeardAt}
 use Rattle.sc_law_groups.proofs.WholeProofs.Lemmas.{holds, Holds, fewer_orders}
 use Rattle.sc_live_steps.specs.following.Definitions.{AreAt}
@@ -56,6 +57,17 @@ pub grown_flying : (ahead : Ahead) (base : Base) (newer h : Steps) (ballot : Bal
 grown_flying ahead base newer h ballot flights all =
     Each-weaker (IsFlying ahead base h ballot) (IsFlying ahead base (newer ++ h) ballot) (λ f p. (Among-right _ newer h p.0, Each-weaker _ _ (λ n a. Among-right _ newer h a) (kept_voters f.voters) p.1)) flights all
 
+-- a player is one thing
+pub no_client : (client : ClientState) (node : NodeState) → ◌≡◌ {A = Player} (Client client) (Node node) → ⊥
+no_client client node e = cc
+
+pub one_node : (one other : NodeState) → ◌≡◌ {A = Player} (Node one) (Node other) → one ≡ other
+one_node one other e = cc
+
+-- each log of a group's steps is a prefix of its decided log
+abbrev pub ArePrefixes : Ahead → Base → Rows → Type 0
+ArePrefixes ahead base journal = (log : List Command) → IsLog (rule ahead base) (h_of journal base) log → (length log ≤ length (decided_log ahead base journal)) × (take (length log) (decided_log ahead base journal) ≡ log)
+
 module _ (sources : Sources) (ahead : Ahead) (words : ℕ → ℕ → ℕ × ℕ) (scenario : Scenario) (route : Route) (b : BeginsWell sources ahead scenario route) (journal : Rows) (orders : OrdersAreAllowed sources ahead scenario journal) (lawful : Lawful ahead words scenario journal) where
   abbrev bases : Rows → List Base
   bases rows = groups_at ahead scenario.groups rows
@@ -88,12 +100,18 @@ module _ (sources : Sources) (ahead : Ahead) (words : ℕ → ℕ → ℕ × ℕ
     roster = (whole.fresh base stands).roster
 
     -- each log of its steps is a prefix of its log
-    pub prefixes : (log : List Command) → IsLog (rule ahead base) (h_of journal base) log → (length log ≤ length (decided_log ahead base journal)) × (take (length log) (decided_log ahead base journal) ≡ log)
+    pub prefixes : ArePrefixes ahead base journal
     prefixes = prefix_is ahead base journal part.lawful
 
     -- mail of first rows is mail of the journal
     pub sent_in : (rows more : Rows) → journal ≡ rows ++ more → (mail : Mail) → Among mail (mails rows) → Among mail (mails journal)
     sent_in rows more e mail a = subst (λ xs. Among mail (mails xs)) (sym e) (subst (Among mail) (sym (mails-append rows more)) (Among-left mail (mails rows) (mails more) a))
+
+    -- what a mail of first rows says is true of the journal's steps
+    pub said_in : (rows more : Rows) → journal ≡ rows ++ more → (number : ℕ) (mail : Mail) (body : MailBody) → numbered (mails rows) number ≡ Some mail → mail.body ≡ body
+        → IsTrue ahead base (MayQueue sources ahead scenario journal base) (IsHeardAt sources ahead scenario journal) (h_of journal base) mail body
+    said_in rows more e number mail body sent fact =
+        subst (IsTrue ahead base (MayQueue sources ahead scenario journal base) (IsHeardAt sources ahead scenario journal) (h_of journal base) mail) fact (part.true_mail mail (sent_in rows more e mail (number_among (mails rows) number mail sent)))
 
     -- ---- a replica
 
@@ -110,26 +128,20 @@ module _ (sources : Sources) (ahead : Ahead) (words : ℕ → ℕ → ℕ × ℕ
                 let at = from_map (node_seat ahead scenario.groups scenario.policy) (numbers_from 1 scenario.nodes) seat a in
                 let bounds = among_numbers 1 scenario.nodes at.0 at.1 in
                 let most = bounds.1 in
-                (at.0, bounds.0, omega (arith, most), subst (λ (s : Seat Player). value player_table s rows ≡ Node node) (sym at.2) has.is))
+                (at.0, bounds.0, omega (arith, most), subst (λ (s : Seat Player). value player_table s rows ≡ Node node) (sym at.2) has.fact))
             | inr a ↦ (
                 let at = from_map (client_seat route) scenario.clients seat a in
                 let client = then_.kept.clients at.0 at.1 in
-                absurd (no_client client.client (sym client.value_is ∙ ap (λ (s : Seat Player). value player_table s rows) at.2 ∙ has.is)))
+                absurd (no_client client.client node (sym client.value_is ∙ ap (λ (s : Seat Player). value player_table s rows) at.2 ∙ has.fact)))
           ]
-        where
-          no_client : (client : _) → ◌≡◌ {A = Player} (Client client) (Node node) → ⊥
-          no_client client e = cc
-
-      one_node : (other : NodeState) → ◌≡◌ {A = Player} (Node other) (Node node) → other ≡ node
-      one_node other e = cc
 
       -- the group was there
       there : Among base (bases rows)
       there =
           let in_list = find_found (λ (s : ReplicaState). same_draw (name_of s) base.core.id) node.replicas r has.here in
           let at = then_.kept.nodes number.0 number.1 number.2 in
-          let same : at.node ≡ node = one_node at.node (sym at.value_is ∙ number.3) in
-          let known = Each-among (λ s. IsOneOf (bases rows) (name_of s)) node.replicas r (subst (λ (x : NodeState). Each (λ s. IsOneOf (bases rows) (name_of s)) x.replicas) same at.is.known) in_list.0 in
+          let same : at.node ≡ node = one_node at.node node (sym at.value_is ∙ number.3) in
+          let known = Each-among (λ s. IsOneOf (bases rows) (name_of s)) node.replicas r (subst (λ (x : NodeState). Each (λ s. IsOneOf (bases rows) (name_of s)) x.replicas) same at.fact.known) in_list.0 in
           let later = subst (λ xs. Among known.0 (bases xs)) (sym has.prefix) ((stay rows has.more has.prefix).groups known.0 known.1) in
           subst (λ x. Among x (bases rows)) (found.apart known.0 base later stands (sym known.2 ∙ draw_is (name_of r) base.core.id in_list.1)) known.1
 
@@ -138,9 +150,9 @@ module _ (sources : Sources) (ahead : Ahead) (words : ℕ → ℕ → ℕ × ℕ
       replica =
           let in_list = find_found (λ (s : ReplicaState). same_draw (name_of s) base.core.id) node.replicas r has.here in
           let at = then_.kept.nodes number.0 number.1 number.2 in
-          let same : at.node ≡ node = one_node at.node (sym at.value_is ∙ number.3) in
+          let same : at.node ≡ node = one_node at.node node (sym at.value_is ∙ number.3) in
           held ahead base (MayQueue sources ahead scenario rows base) number.0 (h_of rows base) node.replicas
-          (subst (λ (x : NodeState). Held ahead base (MayQueue sources ahead scenario rows base) number.0 (h_of rows base) x.replicas) same (at.is.holds base there)) r in_list.0 (draw_is (name_of r) base.core.id in_list.1)
+          (subst (λ (x : NodeState). Held ahead base (MayQueue sources ahead scenario rows base) number.0 (h_of rows base) x.replicas) same (at.fact.holds base there)) r in_list.0 (draw_is (name_of r) base.core.id in_list.1)
 
       -- the steps of the later rows
       later_steps : (newer : Steps) × (h_of journal base ≡ newer ++ h_of rows base)

@@ -1,11 +1,11 @@
 -- The laws of this part of the crate, of lawful journals of valid scenarios.
-use Rattle.std.proofs.Common.{◌≡◌, ℕ, ◌+◌, ◌<◌, ◌≤◌, true, List, [], ◌++◌, length, take, Some, refl, sym, ◌∙◌, ap, subst, arith}
-use Rattle.sc_node_table.specs.Values.{Ballot, Command, Base, Route, Mail, MailBody, Accepted as AcceptedMail, Learn, Install, Seat}
+use Rattle.std.proofs.Common.{◌≡◌, ℕ, ◌+◌, ◌<◌, ◌≤◌, true, List, [], ◌++◌, length, Some, refl, sym, ◌∙◌, ap, subst, arith}
+use Rattle.sc_node_table.specs.Values.{Ballot, Command, Base, Route, Mail, Accepted as AcceptedMail, Learn, Install, Seat}
 use Rattle.sc_base.specs.Definitions.{Each, IsRoster}
 use Rattle.sc_base.proofs.Lemmas.{same_name}
 use Rattle.sc_group_table.specs.machine.Definitions.{Group}
 use Rattle.sc_actor.specs.Definitions.{mails, numbered}
-use Rattle.sc_paxos_law.specs.Definitions.{needed, IsLog, IsLawfulHistory}
+use Rattle.sc_paxos_law.specs.Definitions.{needed, IsLawfulHistory}
 use Rattle.sc_paxos_law.proofs.Lemmas.{earlier}
 use Rattle.sc_scenario.specs.scenario.Definitions.{ValidScenariosAreBounded, IsUpTo}
 use Rattle.sc_scenario.specs.declared.scenario.scenarios.Scenario.{Scenario}
@@ -15,15 +15,15 @@ use Rattle.sc_law_entries.proofs.HistoryProofs.Lemmas.{state_same}
 use Rattle.sc_law_entries.specs.logs.Definitions.{Rows}
 use Rattle.sc_law_entries.specs.ring.Definitions.{Sources}
 use Rattle.sc_law_entries.specs.names.Definitions.{OtherNamesAreFree, TakenOrdersAreAllowed, TakenWishesAreAllowed, WishesAreAtPositions, owner_in}
-use Rattle.sc_law_groups.proofs.GroupProofs.Lemmas.{h_of, IsLearnt, Steps, rule, first, birth, IsState, IsTrue, number_among}
-use Rattle.sc_law_groups.specs.whole.Definitions.{BeginsWell, section_op, OrdersAreAllowed, MayQueue, IsHeardAt, ValidScenariosBeginWell}
+use Rattle.sc_law_groups.proofs.GroupProofs.Lemmas.{h_of, IsLearnt, Steps, rule, first, birth, IsState}
+use Rattle.sc_law_groups.specs.whole.Definitions.{BeginsWell, section_op, OrdersAreAllowed, MayQueue, ValidScenariosBeginWell}
 use Rattle.sc_law_groups.proofs.WholeProofs.Lemmas.{orders_allowed}
 use Rattle.sc_live_steps.specs.following.Definitions.{IsNext, AreNext, DecidesNext, AreAt}
 use Rattle.sc_live_journals.specs.logs.Definitions.{logged_sets, IsGroupOf, HasReplica, IsLogged, IsLoggedState, SlotsHaveRosters, ReplicasAreLogged, CommandsComeNext, StatesAreLogged, MembersAreNodes}
 use Rattle.sc_live_journals.proofs.LogsProofs.ReplicasAlongLogs.{IsAlong, first_sets, rosters, by_log, are_at, after_log, members_are, name_is, entered_along, entered_opens, entered_many, is_next, are_next, are_entries}
 use Rattle.sc_live_journals.proofs.LogsProofs.EntryNodes.{begins_nodes, brings_nodes}
 use Rattle.sc_live_journals.proofs.LogsProofs.CountedMajorities.{counted_learnt, each_with_slot}
-use Rattle.sc_live_journals.proofs.LogsProofs.JournalPrefixes.{part, roster, prefixes, sent_in, along, opens, many, flying}
+use Rattle.sc_live_journals.proofs.LogsProofs.JournalPrefixes.{ArePrefixes, said_in, part, roster, prefixes, along, opens, many, flying}
 use Rattle.sc_live_journals.proofs.LogsProofs.NodesInGroups.{slots_have_nodes}
 use Rattle.sc_live_journals.proofs.LogsProofs.NodesInGroups as so
 use Rattle.sc_live_journals.proofs.LogsProofs.NodeNumbers.{up_to_node}
@@ -55,7 +55,7 @@ module _ (bounded : ValidScenariosAreBounded) (begin : ValidScenariosBeginWell) 
     abbrev first_members : IsRoster base.core.members
     first_members = roster sources ahead words scenario route well journal orders group.lawful base group.stands
 
-    abbrev all_prefixes : (log : List Command) → IsLog (rule ahead base) h log → (length log ≤ length all) × (take (length log) all ≡ log)
+    abbrev all_prefixes : ArePrefixes ahead base journal
     all_prefixes = prefixes sources ahead words scenario route well journal orders group.lawful base group.stands
 
     abbrev Along : ReplicaState → Type 0
@@ -79,18 +79,11 @@ module _ (bounded : ValidScenariosAreBounded) (begin : ValidScenariosBeginWell) 
 
     -- ---- mail
 
-    said : (rows more : Rows) → journal ≡ rows ++ more → (number : ℕ) (mail : Mail) (body : MailBody) → numbered (mails rows) number ≡ Some mail → mail.body ≡ body
-        → IsTrue ahead base (MayQueue sources ahead scenario journal base) (IsHeardAt sources ahead scenario journal) h mail body
-    said rows more e number mail body sent is =
-        subst (IsTrue ahead base (MayQueue sources ahead scenario journal base) (IsHeardAt sources ahead scenario journal) h mail) is
-        ((part sources ahead words scenario route well journal orders group.lawful base group.stands).true_mail mail
-        (sent_in sources ahead words scenario route well journal orders group.lawful base group.stands rows more e mail (number_among (mails rows) number mail sent)))
-
     -- a state that was sent
     state_logged : (rows more : Rows) → journal ≡ rows ++ more → (number : ℕ) (mail : Mail) (slot : ℕ) (state : Base) (sets : List (List ℕ)) → numbered (mails rows) number ≡ Some mail → mail.body ≡ Install base.core.id slot state sets
         → IsLoggedState (logged_sets ahead base journal) base slot state sets
-    state_logged rows more e number mail slot state sets sent is =
-        let t : IsState ahead base (MayQueue sources ahead scenario journal base) h slot state sets = said rows more e number mail (Install base.core.id slot state sets) sent is (same_name base.core.id base.core.id refl) in
+    state_logged rows more e number mail slot state sets sent fact =
+        let t : IsState ahead base (MayQueue sources ahead scenario journal base) h slot state sets = said_in sources ahead words scenario route well journal orders group.lawful base group.stands rows more e number mail (Install base.core.id slot state sets) sent fact (same_name base.core.id base.core.id refl) in
         let same = state_same (birth ahead base) t.log in
         let count = t.count in
         let members_is = after_log ahead group.open_slots base first_members h lawful_steps all all_prefixes t.log t.is_log (slot + 4) (omega (arith, count)) ∙ ap (λ (g : Group). g.core.members) (sym t.group_is) in
@@ -129,24 +122,24 @@ module _ (bounded : ValidScenariosAreBounded) (begin : ValidScenariosBeginWell) 
 
       learnt_entered : (number : ℕ) (mail : Mail) (slot : ℕ) (command : Command) → numbered (mails rows) number ≡ Some mail → mail.body ≡ Learn base.core.id slot command → slot ≡ next r
           → IsLogged (logged_sets ahead base journal) base (entered command r)
-      learnt_entered number mail slot command sent is at =
-          let t = subst (λ n. IsLearnt (rule ahead base) h n command) at (said rows has.more has.prefix number mail (Learn base.core.id slot command) sent is (same_name base.core.id base.core.id refl)) in
+      learnt_entered number mail slot command sent fact at =
+          let t = subst (λ n. IsLearnt (rule ahead base) h n command) at (said_in sources ahead words scenario route well journal orders group.lawful base group.stands rows has.more has.prefix number mail (Learn base.core.id slot command) sent fact (same_name base.core.id base.core.id refl)) in
           of_along (entered command r) (entered_along ahead group.open_slots base first_members h lawful_steps all all_prefixes command r k t)
           (entered_many ahead group.open_slots base first_members h lawful_steps all all_prefixes command r four)
           (entered_opens ahead group.open_slots base first_members h lawful_steps all all_prefixes command r k t open_sets four)
 
       learnt_next : (number : ℕ) (mail : Mail) (slot : ℕ) (command : Command) → numbered (mails rows) number ≡ Some mail → mail.body ≡ Learn base.core.id slot command → slot ≡ next r → IsNext (logged_sets ahead base journal) command r
-      learnt_next number mail slot command sent is at =
+      learnt_next number mail slot command sent fact at =
           is_next ahead group.open_slots base first_members h lawful_steps all all_prefixes command r k
-          (subst (λ n. IsLearnt (rule ahead base) h n command) at (said rows has.more has.prefix number mail (Learn base.core.id slot command) sent is (same_name base.core.id base.core.id refl)))
+          (subst (λ n. IsLearnt (rule ahead base) h n command) at (said_in sources ahead words scenario route well journal orders group.lawful base group.stands rows has.more has.prefix number mail (Learn base.core.id slot command) sent fact (same_name base.core.id base.core.id refl)))
 
       ready_next : (sent : List Mail) → AreNext (logged_sets ahead base journal) r.ready (r, sent)
       ready_next sent = are_next ahead group.open_slots base first_members h lawful_steps all all_prefixes r.ready (r, sent) k
 
       decides_next : r.running ≡ true → (number : ℕ) (mail : Mail) (ballot : Ballot) (slot : ℕ) → numbered (mails rows) number ≡ Some mail → mail.body ≡ AcceptedMail base.core.id ballot slot
           → DecidesNext (logged_sets ahead base journal) mail.from ballot slot r
-      decides_next runs number mail ballot slot sent is command leader at count =
-          let did = said rows has.more has.prefix number mail (AcceptedMail base.core.id ballot slot) sent is (same_name base.core.id base.core.id refl) in
+      decides_next runs number mail ballot slot sent fact command leader at count =
+          let did = said_in sources ahead words scenario route well journal orders group.lawful base group.stands rows has.more has.prefix number mail (AcceptedMail base.core.id ballot slot) sent fact (same_name base.core.id base.core.id refl) in
           let low : needed (rule ahead base) slot ≤ length k.whole = subst (λ n. needed (rule ahead base) n ≤ length k.whole) (sym (at ∙ k.next_is)) (earlier (rule ahead base) (length k.whole)) in
           let t = counted_learnt ahead base h lawful_steps r.leader (flying sources ahead words scenario route well journal orders group.lawful base group.stands rows seat node r has) k.whole k.is_log slot
           (logged_sets ahead base journal slot) (by_log ahead group.open_slots base first_members h lawful_steps all all_prefixes k.whole k.is_log slot low) low mail.from ballot did.0 did.1 command leader count in

@@ -125,8 +125,8 @@ module _ (Home : ℕ → Type 0) where
   noted_moves core tx outcome has e = by (find (λ (noted : Draw × Outcome). same_draw noted.0 tx) core.decided) refl e
     where
       by : (o : Option (Draw × Outcome)) → find (λ (noted : Draw × Outcome). same_draw noted.0 tx) core.decided ≡ o → option_map (λ (noted : Draw × Outcome). noted.1) o ≡ Some outcome → (MovesNode Home) outcome
-      by None found is = absurd (cc)
-      by (Some noted) found is = (
+      by None found fact = absurd (cc)
+      by (Some noted) found fact = (
           let same : noted.1 ≡ outcome = cc in
           subst (MovesNode Home) same (Each-among (λ (d : Draw × Outcome). (MovesNode Home) d.1) core.decided noted has.2 (find_found (λ (n : Draw × Outcome). same_draw n.0 tx) core.decided noted found).0))
 
@@ -148,8 +148,8 @@ module _ (Home : ℕ → Type 0) where
     says_nodes = record {
       noop = tt;
       elsewhere = λ body s tx coord hint. tt;
-      goes_on = λ log c is all b me. went_said me (state_after (birth ahead base) log) (before_of (state_after (birth ahead base) log).core) c b (stands log all);
-      reminds = λ log is all me. reminds_said (state_after (birth ahead base) log).core.lock me (state_after (birth ahead base) log) (stands log all).0;
-      gives_up = λ log is all tx body order got e. tt;
-      meets = λ log is all body s named. met log all body s;
+      goes_on = λ log c fact all b me. went_said me (state_after (birth ahead base) log) (before_of (state_after (birth ahead base) log).core) c b (stands log all);
+      reminds = λ log fact all me. reminds_said (state_after (birth ahead base) log).core.lock me (state_after (birth ahead base) log) (stands log all).0;
+      gives_up = λ log fact all tx body order got e. tt;
+      meets = λ log fact all body s named. met log all body s;
     }

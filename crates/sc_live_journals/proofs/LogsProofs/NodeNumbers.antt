@@ -11,9 +11,9 @@ use Rattle.sc_live_journals.proofs.LogsProofs.NodesInGroups as so
 
 -- a node of a scenario is one
 pub up_to_node : (nodes node : ℕ) → nodes ≤ most_nodes → IsUpTo nodes node → is_node node ≡ true
-up_to_node nodes node few is =
-    let low = is.0 in
-    let high = is.1 in
+up_to_node nodes node few fact =
+    let low = fact.0 in
+    let high = fact.1 in
     and_from (nat_le 1 node) (nat_le node most_nodes) (le-leb 1 node low) (le-leb node most_nodes (omega (arith, few, high)))
 
 module _ (nodes : ℕ) (few : nodes ≤ most_nodes) where
@@ -21,7 +21,7 @@ module _ (nodes : ℕ) (few : nodes ≤ most_nodes) where
   Up node = IsUpTo nodes node
 
   all : (members : List ℕ) → so.AreNodes Up members → AreNodes members
-  all members k = Each-weaker Up (λ node. is_node node ≡ true) (λ node is. up_to_node nodes node few is) members k
+  all members k = Each-weaker Up (λ node. is_node node ≡ true) (λ node fact. up_to_node nodes node few fact) members k
 
   moves : (outcome : Outcome) → so.MovesNode Up outcome → MovesNode outcome
   moves (Migrated node) k = up_to_node nodes node few k

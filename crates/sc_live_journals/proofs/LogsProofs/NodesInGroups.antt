@@ -72,7 +72,7 @@ module _ (Home : ℕ → Type 0) where
   -- ---- sets of nodes
 
   with_nodes : (members : List ℕ) (node : ℕ) → Home node → AreNodes members → AreNodes (with_member members node)
-  with_nodes members node is all = Each-append _ (filter (λ m. nat_lt m node) members) (node ∷ filter (λ m. nat_lt node m) members) (Each-filter _ (λ m. nat_lt m node) members all) (is, Each-filter _ (λ m. nat_lt node m) members all)
+  with_nodes members node fact all = Each-append _ (filter (λ m. nat_lt m node) members) (node ∷ filter (λ m. nat_lt node m) members) (Each-filter _ (λ m. nat_lt m node) members all) (fact, Each-filter _ (λ m. nat_lt node m) members all)
 
   pub united_nodes : (members others : List ℕ) → AreNodes members → AreNodes others → AreNodes (united members others)
   united_nodes members [] all more = all
@@ -119,8 +119,8 @@ module _ (Home : ℕ → Type 0) where
 
     moved_one : (node : ℕ) (frozen : Frozen) → can_migrate group.core node frozen ≡ true → Home node
     moved_one node frozen can =
-        let is = (and_parts (is_member group.core.members node) _ (and_parts (is_member group.core.members node && nat_le 2 (length group.core.members)) _ can).0).0 in
-        Each-among _ group.core.members node has.0 (member-among group.core.members node is)
+        let fact = (and_parts (is_member group.core.members node) _ (and_parts (is_member group.core.members node && nat_le 2 (length group.core.members)) _ can).0).0 in
+        Each-among _ group.core.members node has.0 (member-among group.core.members node fact)
 
     nodes_walk : MachineWalk group P
     nodes_walk = record {

@@ -47,15 +47,15 @@ module _ (ahead : Ahead) (open_slots : ahead.slots ≡ slots_ahead) (base : Base
 
   -- the members after a log are those of the slot so far behind it
   pub after_log : (log : List Command) → IsLog (rule ahead base) h log → (slot : ℕ) → slot ≡ length log + slots_ahead → at slot ≡ (state_after (birth ahead base) log).core.members
-  after_log log is slot e =
+  after_log log fact slot e =
       let open_ = open_slots in
       let same : needed (rule ahead base) slot ≡ length log = omega (arith, e, open_) in
-      ap (λ n. (rule ahead base).members (take n all)) same ∙ ap (rule ahead base).members (prefixes log is).1
+      ap (λ n. (rule ahead base).members (take n all)) same ∙ ap (rule ahead base).members (prefixes log fact).1
 
   -- those of a slot that a log knows are those by the whole one
   pub by_log : (log : List Command) → IsLog (rule ahead base) h log → (slot : ℕ) → needed (rule ahead base) slot ≤ length log → at slot ≡ members_of (rule ahead base) log slot
-  by_log log is slot known =
-      ap (rule ahead base).members (sym (take-take (needed (rule ahead base) slot) (length log) all known) ∙ ap (take (needed (rule ahead base) slot)) (prefixes log is).1)
+  by_log log fact slot known =
+      ap (rule ahead base).members (sym (take-take (needed (rule ahead base) slot) (length log) all known) ∙ ap (take (needed (rule ahead base) slot)) (prefixes log fact).1)
 
   -- those of the slots up to the first that an entry may change are the first ones
   pub first_sets : (slot : ℕ) → slot ≤ slots_ahead → at slot ≡ base.core.members
@@ -70,12 +70,12 @@ module _ (ahead : Ahead) (open_slots : ahead.slots ≡ slots_ahead) (base : Base
 
   -- the members of open slots
   pub are_at : (log : List Command) → IsLog (rule ahead base) h log → (slot : ℕ) (sets : List (List ℕ)) → AreSets ahead base log slot sets → AreAt at slot sets
-  are_at log is slot [] are = tt
-  are_at log is slot (set ∷ sets) are = (
+  are_at log fact slot [] are = tt
+  are_at log fact slot (set ∷ sets) are = (
     (
         let here = subst (λ n. (set ≡ members_of (rule ahead base) log n) × (needed (rule ahead base) n ≤ length log)) (omega arith) (are 0 set refl) in
-        by_log log is slot here.1 ∙ sym here.0),
-    are_at log is (slot + 1) sets (λ k other e. subst (λ n. (other ≡ members_of (rule ahead base) log n) × (needed (rule ahead base) n ≤ length log)) (omega arith) (are (suc k) other e)),
+        by_log log fact slot here.1 ∙ sym here.0),
+    are_at log fact (slot + 1) sets (λ k other e. subst (λ n. (other ≡ members_of (rule ahead base) log n) × (needed (rule ahead base) n ≤ length log)) (omega arith) (are (suc k) other e)),
   )
 
   -- a replica's members are those of its newest slot
@@ -118,7 +118,7 @@ module _ (ahead : Ahead) (open_slots : ahead.slots ≡ slots_ahead) (base : Base
   is_next c r k t =
       let after = entered_along c r k t in
       record {
-        is = ap (members_at at) (sym (entered_next c r)) ∙ members_are (entered c r) after;
+        fact = ap (members_at at) (sym (entered_next c r)) ∙ members_are (entered c r) after;
         roster = subst IsRoster (ap (λ (g : Group). g.core.members) (sym after.group_is)) (members_stay_rosters (group_of base) after.whole roster);
         named = name_is (entered c r) after ∙ sym (name_is r k);
       }
@@ -127,7 +127,7 @@ module _ (ahead : Ahead) (open_slots : ahead.slots ≡ slots_ahead) (base : Base
   pub entered_opens : (c : Command) (r : ReplicaState) → IsAlong r → IsLearnt (rule ahead base) h (next r) c → AreAt at (next r) r.sets → length r.sets ≡ slots_ahead → AreAt at (next (entered c r)) (entered c r).sets
   entered_opens c r k t are many =
       subst (λ n. AreAt at n (entered c r).sets) (sym (entered_next c r))
-      (subst (AreAt at (next r + 1)) (sym (entered_sets c r)) (are_later at (next r) r.sets (members (entered c r)) are many (ap at (omega arith) ∙ (is_next c r k t).is)))
+      (subst (AreAt at (next r + 1)) (sym (entered_sets c r)) (are_later at (next r) r.sets (members (entered c r)) are many (ap at (omega arith) ∙ (is_next c r k t).fact)))
 
   pub entered_many : (c : Command) (r : ReplicaState) → length r.sets ≡ slots_ahead → length (entered c r).sets ≡ slots_ahead
   entered_many c r many = ap length (entered_sets c r) ∙ rest_length r.sets (members (entered c r)) (omega (arith, many)) ∙ many
@@ -178,9 +178,9 @@ module _ (ahead : Ahead) (open_slots : ahead.slots ≡ slots_ahead) (base : Base
     where
       by : ((p : Place) → IsAlong p.0 → AreNext at es p) → (o : Option Command) → next_ready place.0 ≡ o
           → IfThere (λ command. IsNext at command place.0 × AreNext at es (executed_one true command place)) (Unit {0}) o
-      by rest None is = tt
-      by rest (Some c) is =
-          let there = next_ready_is place.0 c is in
+      by rest None fact = tt
+      by rest (Some c) fact =
+          let there = next_ready_is place.0 c fact in
           let t = Each-among (λ e. IsLearnt (rule ahead base) h e.0 e.1) place.0.ready (next place.0, c) k.ready there.0 in
           (is_next c place.0 k t, rest (executed_one true c place) (one_along c place.0 k there.1 t place.1))
 

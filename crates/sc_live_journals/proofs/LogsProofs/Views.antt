@@ -31,7 +31,7 @@ views_are_replicas ahead words scenario journal base group rows more prefix who 
             more = more;
             prefix = prefix;
             seated = ap (λ n. find (λ (other : Seat Player). eqb other.who n) (births ahead scenario)) mine ∙ found;
-            is = at.1;
+            fact = at.1;
             here = at.2;
           },
           mine,

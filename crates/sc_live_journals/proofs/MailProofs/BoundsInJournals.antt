@@ -83,8 +83,8 @@ part_ends n p k =
 
 -- who speaks says few
 said_few : (n : ℕ) (seat : Seat Player) (mail : Mail) → Speaks (few_walk n seat.who) seat mail → SaysFew (most_after (n + 1)) mail.body
-said_few n seat mail (inl (born, is, said)) = said.1
-said_few n seat mail (inr (born, is, who, (group, target, request, e))) = subst (λ (m : Mail). SaysFew (most_after (n + 1)) m.body) (sym e) tt
+said_few n seat mail (inl (born, fact, said)) = said.1
+said_few n seat mail (inr (born, fact, who, (group, target, request, e))) = subst (λ (m : Mail). SaysFew (most_after (n + 1)) m.body) (sym e) tt
 
 abbrev few_law : (births : List (Seat Player)) → Law births
 few_law births = record {

@@ -15,7 +15,7 @@ use Rattle.sc_node_table.specs.Definitions.{NodeState, replica_of, with_replica,
 use Rattle.sc_meaning.specs.sound.Definitions.{Player, player_table, births, as_nodes}
 use Rattle.sc_law_walks.proofs.Lemmas.{either_way}
 use Rattle.sc_live_steps.specs.calm.Definitions.{players, Rows}
-use Rattle.sc_live_steps.proofs.CalmProofs.Lemmas.{put_found, put_others, children_found}
+use Rattle.sc_live_steps.proofs.CalmStepsProofs.Lemmas.{put_found, put_others, children_found}
 use Rattle.sc_live_journals.specs.rows.Definitions.{replicas_of, view_at, IsSeat, with_event}
 use Rattle.sc_live_journals.proofs.RowsProofs.Lemmas.{names_stay, found_name, view_others, view_was, view_is, new_others}
 use Rattle.sc_live_journals.specs.mail.Definitions.{IsPlainlyKept, HasGrown, IsLater, ReplicasLast}
@@ -56,7 +56,7 @@ module _ (name : Draw) (r : ReplicaState) (R : ReplicaState → Type 0) (H : Mai
       let own : name_of after.0.0 ≡ group = names_stay.mailed from body x ∙ found_name group node.replicas x f in
       elim (cases_Bool (same_draw name group)) [
         | inl t ↦ (let n : name ≡ group = draw_is name group t in
-            let is : Some r ≡ Some x = sym e ∙ (ap (λ (d : Draw). replica_of d node.replicas) n ∙ f) in
+            let fact : Some r ≡ Some x = sym e ∙ (ap (λ (d : Draw). replica_of d node.replicas) n ∙ f) in
             let same : r ≡ x = cc in
             let found : replica_of name put.replicas ≡ Some after.0.0 = ap (λ (d : Draw). replica_of d put.replicas) n ∙ put_found group after.0.0 x node.replicas own f in
             (after.0.0, children_found name after.0.0 after.1 put found, subst (λ (y : ReplicaState). R (mailed from body (y, [])).0.0) same (by_mail from body (may (ap (λ d. Some d) n ∙ sym g)))))
@@ -76,7 +76,7 @@ module _ (name : Draw) (r : ReplicaState) (R : ReplicaState → Type 0) (H : Mai
       let own : name_of after.0 ≡ group = names_stay.ordered node.draws line x ∙ found_name group node.replicas x f in
       elim (cases_Bool (same_draw name group)) [
         | inl t ↦ (let n : name ≡ group = draw_is name group t in
-            let is : Some r ≡ Some x = sym e ∙ (ap (λ (d : Draw). replica_of d node.replicas) n ∙ f) in
+            let fact : Some r ≡ Some x = sym e ∙ (ap (λ (d : Draw). replica_of d node.replicas) n ∙ f) in
             let same : r ≡ x = cc in (
               after.0,
               ap (λ (d : Draw). replica_of d (with_replica group after.0 node.replicas)) n ∙ put_found group after.0 x node.replicas own f,

@@ -67,14 +67,14 @@ posting who = record {
 module _ (births : List (Seat Player)) where
   -- who speaks posts it
   posts : (seat : Seat Player) (mail : Mail) → Speaks (posting seat.who) seat mail → (mail.from ≡ seat.who) × IsPlayers seat.who seat.actor mail
-  posts seat mail (inl (born, is, said)) = (said.0, subst (λ player. IsPlayers seat.who player mail) (sym is) said.1)
-  posts seat mail (inr (born, is, who, (group, target, request, e))) = (
+  posts seat mail (inl (born, fact, said)) = (said.0, subst (λ player. IsPlayers seat.who player mail) (sym fact) said.1)
+  posts seat mail (inr (born, fact, who, (group, target, request, e))) = (
     ap (λ (m : Mail). m.from) e ∙ sym who,
-    subst (λ player. IsPlayers seat.who player mail) (sym is) (who, subst (λ (m : Mail). IsClientsBody born.me m.body) (sym e) refl),
+    subst (λ player. IsPlayers seat.who player mail) (sym fact) (who, subst (λ (m : Mail). IsClientsBody born.me m.body) (sym e) refl),
   )
 
   posted : (seat : Seat Player) (mail : Mail) → IsSeat births seat → Speaks (posting seat.who) seat mail → IsPosted births mail
-  posted seat mail born s = (let p = posts seat mail s in record { seat = seat; born = born; from_is = p.0; is = p.1 })
+  posted seat mail born s = (let p = posts seat mail s in record { seat = seat; born = born; from_is = p.0; fact = p.1 })
 
   abbrev posting_law : Law births
   posting_law = record {
@@ -98,8 +98,8 @@ mail_posted words scenario rows timely = (journals_hold scenario (posting_law (b
 -- who is a client was born as one
 pub clients_stay : (words : ℕ → ℕ → ℕ × ℕ) (scenario : Scenario) (rows : Rows) → AreInTime (players words (births as_nodes scenario)) rows
     → (seat : Seat Player) (client : ClientState) → IsSeat (births as_nodes scenario) seat → value player_table seat rows ≡ Client client → (own : ClientState) × (seat.actor ≡ Client own)
-clients_stay words scenario rows timely seat client born is =
-    by (value player_table seat rows) is
+clients_stay words scenario rows timely seat client born fact =
+    by (value player_table seat rows) fact
     (Each-among (λ (x : Seat Player). Plays all (posting_law all) (length rows) x (value player_table x rows)) all seat (journals_hold scenario (posting_law all) words rows timely).0 (find_found (λ (x : Seat Player). eqb x.who seat.who) all seat born).0)
   where
     all : List (Seat Player)
@@ -176,4 +176,4 @@ pub mail_comes : MailMayCome
 mail_comes words scenario rows bounded timely =
     let born : List (Seat Player) = births as_nodes scenario in
     Each-weaker (IsPosted born) (λ mail. may_come mail.from mail.body ≡ true) (λ mail p. (let number = Each-among (IsNumbered scenario) born p.seat (all_numbered scenario) (find_found (λ (other : Seat Player). eqb other.who p.seat.who) born p.seat p.born).0 in
-    subst (λ from. may_come from mail.body ≡ true) (sym p.from_is) (from_player p.seat.who scenario.nodes p.seat.actor mail bounded.nodes.1 number p.is))) (mails rows) (mail_posted words scenario rows timely)
+    subst (λ from. may_come from mail.body ≡ true) (sym p.from_is) (from_player p.seat.who scenario.nodes p.seat.actor mail bounded.nodes.1 number p.fact))) (mails rows) (mail_posted words scenario rows timely)

@@ -33,7 +33,7 @@ module _ (at : Sets) (words : ℕ → ℕ → ℕ × ℕ) (births : List (Seat P
   module _ (course : Course) (was : IsCourseOf at births rows base course) where
     -- one that leads is at the node of the ballot
     lead_me : (node : ℕ) (r : ReplicaState) → IsLeadOf at (progress_at births rows base course) r → node ≡ course.ballot.node → node ≡ r.me
-    lead_me node r l is = is ∙ l.led.mine
+    lead_me node r l fact = fact ∙ l.led.mine
 
     pub stays_led : (node : ℕ) (r : ReplicaState) → view_at births rows name node ≡ Some r → view_at births then_ name node ≡ Some r → r.running ≡ true → IsLeadOf at (progress_at births then_ base course) r × (node ≡ course.ballot.node)
     stays_led node r before after runs =
@@ -48,11 +48,11 @@ module _ (at : Sets) (words : ℕ → ℕ → ℕ × ℕ) (births : List (Seat P
     pub course_stays : LeavesLead at births rows seat event base course → IsCourseOf at births then_ base course
     course_stays leaves = record {
       gives = λ node r e runs. elim (cases_eq node seat.who) [
-        | inl is ↦ (let own = leaves.own r (subst (λ n. view_at births then_ name n ≡ Some r) is e) runs in (own.0, is ∙ own.1))
+        | inl fact ↦ (let own = leaves.own r (subst (λ n. view_at births then_ name n ≡ Some r) fact e) runs in (own.0, fact ∙ own.1))
         | inr ne ↦ stays_led node r (sym (others node ne) ∙ e) e runs
       ];
       runs = λ c. elim (cases_eq course.ballot.node seat.who) [
-        | inl is ↦ subst (λ n. IsLedBy base course (view_at births then_ name n)) (sym is) (leaves.runs c (sym is))
+        | inl fact ↦ subst (λ n. IsLedBy base course (view_at births then_ name n)) (sym fact) (leaves.runs c (sym fact))
         | inr ne ↦ subst (IsLedBy base course) (sym (others course.ballot.node ne)) (was.runs c)
       ];
     }
@@ -61,11 +61,11 @@ module _ (at : Sets) (words : ℕ → ℕ → ℕ × ℕ) (births : List (Seat P
     pub course_led : (r : ReplicaState) (after : Place) → IsReplicasRow births rows seat event name (Some r) after → (led : LedBy at births rows seat event base course after) → IsCourseOf at births then_ base (led_course led.bound course after.0)
     course_led r after row led = record {
       gives = λ node other e runs. elim (cases_eq node seat.who) [
-        | inl is ↦ (let same : after.0 ≡ other = same_some (view_at births then_ name seat.who) after.0 other row.is (subst (λ n. view_at births then_ name n ≡ Some other) is e) in
-            (subst (IsLeadOf at (progress_at births then_ base (led_course led.bound course after.0))) same (led.goes_on (ap (λ (x : ReplicaState). x.running) same ∙ runs)), is ∙ led.leads.mine))
+        | inl fact ↦ (let same : after.0 ≡ other = same_some (view_at births then_ name seat.who) after.0 other row.fact (subst (λ n. view_at births then_ name n ≡ Some other) fact e) in
+            (subst (IsLeadOf at (progress_at births then_ base (led_course led.bound course after.0))) same (led.goes_on (ap (λ (x : ReplicaState). x.running) same ∙ runs)), fact ∙ led.leads.mine))
         | inr ne ↦ absurd (ne ((was.gives node other (sym (others node ne) ∙ e) runs).1 ∙ sym led.leads.mine))
       ];
-      runs = λ c. subst (λ n. IsLedBy base (led_course led.bound course after.0) (view_at births then_ name n)) led.leads.mine (subst (IsLedBy base (led_course led.bound course after.0)) (sym row.is) c);
+      runs = λ c. subst (λ n. IsLedBy base (led_course led.bound course after.0) (view_at births then_ name n)) led.leads.mine (subst (IsLedBy base (led_course led.bound course after.0)) (sym row.fact) c);
     }
 
     -- the course after a row in which a node elects itself
@@ -73,11 +73,11 @@ module _ (at : Sets) (words : ℕ → ℕ → ℕ × ℕ) (births : List (Seat P
         → IsLeadOf at (progress_at births then_ base (elected_course course ballot)) after.0 → IsCourseOf at births then_ base (elected_course course ballot)
     course_elected ballot r after row self_election running lead = record {
       gives = λ node other e runs. elim (cases_eq node seat.who) [
-        | inl is ↦ (let same : after.0 ≡ other = same_some (view_at births then_ name seat.who) after.0 other row.is (subst (λ n. view_at births then_ name n ≡ Some other) is e) in
-            (subst (IsLeadOf at (progress_at births then_ base (elected_course course ballot))) same lead, is ∙ sym self_election.mine))
+        | inl fact ↦ (let same : after.0 ≡ other = same_some (view_at births then_ name seat.who) after.0 other row.fact (subst (λ n. view_at births then_ name n ≡ Some other) fact e) in
+            (subst (IsLeadOf at (progress_at births then_ base (elected_course course ballot))) same lead, fact ∙ sym self_election.mine))
         | inr ne ↦ absurd (true≢false (sym (was.gives node other (sym (others node ne) ∙ e) runs).0.runs ∙ self_election.idle))
       ];
-      runs = λ c. subst (λ n. IsLedBy base (elected_course course ballot) (view_at births then_ name n)) (sym self_election.mine) (subst (IsLedBy base (elected_course course ballot)) (sym row.is) running);
+      runs = λ c. subst (λ n. IsLedBy base (elected_course course ballot) (view_at births then_ name n)) (sym self_election.mine) (subst (IsLedBy base (elected_course course ballot)) (sym row.fact) running);
     }
 
   -- ---- the rows
@@ -91,8 +91,8 @@ module _ (at : Sets) (words : ℕ → ℕ → ℕ × ℕ) (births : List (Seat P
 
     pub keeps_idle : LeavesLead at births rows seat event base course → IsKind IsIdle births rows seat event base course course → IsFollowedAt at words births then_ base course
     keeps_idle leaves idle = record {
-      follows = idle-keeps at now (progress_at births then_ base course) seat.who (taken_mark name (mails rows) event) (λ who. marks_for name who (row_of player_table seat rows event).sent) (marks_at (players words births) rows name)
-          (marks_at (players words births) then_ name) (row_in course) idle was.follows;
+      follows = idle-keeps now (progress_at births then_ base course) seat.who (taken_mark name (mails rows) event) (λ who. marks_for name who (row_of player_table seat rows event).sent) (marks_at (players words births) rows name)
+          (marks_at (players words births) then_ name) (row_in course) idle at was.follows;
       given = course_stays course was.given leaves;
     }
 

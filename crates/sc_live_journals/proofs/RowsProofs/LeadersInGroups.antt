@@ -50,10 +50,10 @@ module _ (at : Sets) (births : List (Seat Player)) (rows : Rows) (seat : Seat Pl
   mine = sym me ∙ sym into.me
 
   here : two.next seat.who ≡ one.next seat.who
-  here = ap (next_in base seat.who) row.is ∙ sym (cond-true (eqb seat.who after.0.me) (next after.0) (now.next seat.who) (eq-eqb seat.who after.0.me mine))
+  here = ap (next_in base seat.who) row.fact ∙ sym (cond-true (eqb seat.who after.0.me) (next after.0) (now.next seat.who) (eq-eqb seat.who after.0.me mine))
 
   promised : two.promise seat.who ≡ one.promise seat.who
-  promised = ap (promise_in base) row.is ∙ sym (cond-true (eqb seat.who after.0.me) after.0.acceptor.promised (now.promise seat.who) (eq-eqb seat.who after.0.me mine))
+  promised = ap (promise_in base) row.fact ∙ sym (cond-true (eqb seat.who after.0.me) after.0.acceptor.promised (now.promise seat.who) (eq-eqb seat.who after.0.me mine))
 
   offered_too : (slot : ℕ) (voters : List ℕ) → IsOffered at course own_sent slot voters → IsOffered at course all_sent slot voters
   offered_too slot voters o = record { from = o.from; none = o.none; asks = λ who m. subst (Among (Asks course.ballot slot)) (sym (sent_same who)) (o.asks who m) }
@@ -92,7 +92,7 @@ module _ (at : Sets) (births : List (Seat Player)) (rows : Rows) (seat : Seat Pl
   led = record {
     bound = into.bound;
     leads = leads;
-    goes_on = λ runs. leads_too at one two after.0 refl (at_own (λ n. two.next n ≡ next after.0) (ap (next_in base seat.who) row.is)) (at_own (λ n. two.promise n ≡ after.0.acceptor.promised) (ap (promise_in base) row.is)) (into.goes_on runs);
+    goes_on = λ runs. leads_too at one two after.0 refl (at_own (λ n. two.next n ≡ next after.0) (ap (next_in base seat.who) row.fact)) (at_own (λ n. two.promise n ≡ after.0.acceptor.promised) (ap (promise_in base) row.fact)) (into.goes_on runs);
   }
     where
       at_own : (P : ℕ → Type 0) → P seat.who → P after.0.me

@@ -79,9 +79,9 @@ module _ (at : Sets) (words : ℕ → ℕ → ℕ × ℕ) (births : List (Seat P
         (marks_at (players words births) rows name) (marks_at (players words births) (with_event rows seat (Deliver number)) name)
     row_in = rows_are words births rows (row_of player_table seat rows (Deliver number)) base course course takes.timely
 
-    module _ (mark : Mark) (is : mark_of base.core.id mail.from mail.body ≡ Some mark) where
+    module _ (mark : Mark) (fact : mark_of base.core.id mail.from mail.body ≡ Some mark) where
       pub taken : taken_mark name (mails rows) (Deliver number) ≡ Some mark
-      taken = ap (mark_in name) takes.sent ∙ is
+      taken = ap (mark_in name) takes.sent ∙ fact
 
       pub head : marks_at (players words births) rows name seat.who ≡ mark ∷ row_in.left
       head = row_in.takes ∙ ap (λ o. listed o ++ row_in.left) taken
@@ -113,15 +113,15 @@ module _ (at : Sets) (words : ℕ → ℕ → ℕ × ℕ) (births : List (Seat P
 
       -- the row, by a mail that is the same
       pub row_to : (from : ℕ) (body : MailBody) → mail.from ≡ from → mail.body ≡ body → group_of_mail mail.body ≡ Some name → IsReplicasRow births rows seat (Deliver number) name (Some r) (mailed from body (r, [])).0
-      row_to from body f is group =
+      row_to from body f fact group =
           subst (λ n. IsReplicasRow births rows seat (Deliver number) name (Some r) (mailed n body (r, [])).0) f
-          (subst (λ b. IsReplicasRow births rows seat (Deliver number) name (Some r) (mailed mail.from b (r, [])).0) is
-          (rows_replicas.taken births rows seat number mail name node r scene.seated scene.is takes.sent takes.comes group has.here))
+          (subst (λ b. IsReplicasRow births rows seat (Deliver number) name (Some r) (mailed mail.from b (r, [])).0) fact
+          (rows_replicas.taken births rows seat number mail name node r scene.seated scene.fact takes.sent takes.comes group has.here))
 
-      module _ (mark : Mark) (is : mark_of base.core.id mail.from mail.body ≡ Some mark) (after : Place) (row : IsReplicasRow births rows seat (Deliver number) base.core.id (Some r) after) where
+      module _ (mark : Mark) (fact : mark_of base.core.id mail.from mail.body ≡ Some mark) (after : Place) (row : IsReplicasRow births rows seat (Deliver number) base.core.id (Some r) after) where
         -- it comes in time
         pub fit : IsFit (next r) r.acceptor.promised mark
-        fit = subst (λ n. IsFit n r.acceptor.promised mark) (ap (next_in base seat.who) row.was) (subst (λ b. IsFit (now.next seat.who) b mark) (ap (promise_in base) row.was) (all_fit mark is).0)
+        fit = subst (λ n. IsFit n r.acceptor.promised mark) (ap (next_in base seat.who) row.was) (subst (λ b. IsFit (now.next seat.who) b mark) (ap (promise_in base) row.was) (all_fit mark fact).0)
         -- ---- each mail
         -- ---- a replica that is made of a state
 
@@ -131,7 +131,7 @@ module _ (at : Sets) (words : ℕ → ℕ → ℕ × ℕ) (births : List (Seat P
   ordered line r timely has group runs =
       let after : Place = ordered_row node.draws line (r, []) in
       let here : replica_of (group_of_order line.order) node.replicas ≡ Some r = ap (λ n. replica_of n node.replicas) group ∙ has.here in
-      let row : IsReplicasRow births rows seat (Told line) name (Some r) after = subst (λ n. IsReplicasRow births rows seat (Told line) n (Some r) after) group (rows_replicas.ordered births rows seat line node r scene.seated scene.is here) in
+      let row : IsReplicasRow births rows seat (Told line) name (Some r) after = subst (λ n. IsReplicasRow births rows seat (Told line) n (Some r) after) group (rows_replicas.ordered births rows seat line node r scene.seated scene.fact here) in
       let into : LeadsInto at now None r after = subst (λ p. LeadsInto at now None r p) (told_is node line r) (rows_lead.orders at now false node.draws line r (leads_here r row.was runs).0) in
       let led = steps_lead at births rows seat (Told line) base course r after row (found_name name node.replicas r has.here) has.well.0 into in
       (led_course led.bound course after.0, rows_keep.leads at words births rows seat (Told line) base course r after scene.rosters timely scene.followed row led)

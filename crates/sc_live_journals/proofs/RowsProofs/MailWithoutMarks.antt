@@ -7,7 +7,7 @@ use Rattle.sc_node_table.specs.Values.{Draw, OrderLine, Mail, MailBody, Request,
 use Rattle.sc_client_table.specs.table.Definitions.{Client, table}
 use Rattle.sc_node_table.specs.Definitions.{absent, ordered_row, name_of, mailed}
 use Rattle.sc_live_steps.specs.following.Definitions.{Mark, mark_of, marks_of, marks_for}
-use Rattle.sc_live_steps.proofs.CalmProofs.Lemmas.{apart}
+use Rattle.sc_live_steps.proofs.CalmStepsProofs.Lemmas.{apart}
 use Rattle.sc_words.proofs.PaxosProofs.Lemmas.{Each-weaker}
 use Rattle.sc_live_journals.proofs.MailProofs.Clients.{IsRequestOf, clients_ask}
 use Rattle.sc_live_journals.specs.rows.Definitions.{NamesStay, OthersHearNothing}

@@ -43,8 +43,8 @@ module _ (r : ReplicaState) (other : Draw) where
   beside_keeps : (from : ℕ) (body : MailBody) (place : Place) → beside.IsBeside body → Keeps place → Keeps (mailed from body place).0
   beside_keeps from body place a k = beside.beside_keeps Keeps (beside.still_pumps Keeps (λ p kept. kept.off)) (λ q mails acts backlog kept. with_queues q mails acts backlog q.top kept) with_talk from body place a k
 
-  order_keeps : (drawer : Drawer) (line : OrderLine) (place : Place) → Keeps place → Keeps (ordered_row drawer line place)
-  order_keeps drawer line place k = beside.order_keeps Keeps (beside.still_pumps Keeps (λ p kept. kept.off)) (λ q mails acts backlog kept. with_queues q mails acts backlog q.top kept) with_talk drawer line place k
+  order_leaves : (drawer : Drawer) (line : OrderLine) → Keeps (r, []) → Keeps (ordered_row drawer line (r, []))
+  order_leaves drawer line k = beside.order_keeps Keeps (beside.still_pumps Keeps (λ p kept. kept.off)) (λ q mails acts backlog kept. with_queues q mails acts backlog q.top kept) with_talk drawer line (r, []) k
 
   -- ---- Nack
 
@@ -87,5 +87,5 @@ begins r other off = record { next_is = refl; promise_is = refl; off = off; hint
 pub asides_still : AsidesStayStill
 asides_still = record {
   mailed = λ from body r off aside name. still r (mailed from body (r, [])).0 name (aside_keeps r (away name) from body aside (begins r (away name) off));
-  ordered = λ drawer line r off name. still r (ordered_row drawer line (r, [])) name (order_keeps r (away name) drawer line (r, []) (begins r (away name) off));
+  ordered = λ drawer line r off name. still r (ordered_row drawer line (r, [])) name (order_leaves r (away name) drawer line (begins r (away name) off));
 }

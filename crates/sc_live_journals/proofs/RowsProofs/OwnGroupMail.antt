@@ -7,7 +7,7 @@ use Rattle.sc_words.specs.paxos.Definitions.{AcceptorState, below, may_promise, 
 use Rattle.sc_words.proofs.PaxosProofs.Lemmas.{Each-append}
 use Rattle.sc_law_entries.proofs.HistoryProofs.Lemmas.{applied_same}
 use Rattle.sc_node_table.specs.Definitions.{open_nodes, ended, entered, jumped, forgotten, offered, put_back, sent, answered_all, under_way, before_of, order_number, ordered_row, mailed, made_by, ReplicaState, Place, name_of, next}
-use Rattle.sc_law_walks.proofs.Lemmas.{either_way, Talk, beside_talk, TableFacts, TableStates, TableSays, TableWalk, all_heard, TableEntry, entry_holds}
+use Rattle.sc_law_walks.proofs.Lemmas.{either_way, Talk, Parties, parties, beside_talk, TableFacts, TableStates, TableSays, TableWalk, all_heard, TableEntry, entry_holds}
 use Rattle.sc_law_walks.proofs.Talks.{all_sent, desk_reported, client_reported, one_answered, all_answered, all_dismissed, spoken_said, vote_reported, watch_reported, outcome_said, next_one_asked}
 use Rattle.sc_law_walks.proofs.TableRows as rows
 
@@ -85,7 +85,7 @@ module _ (IsSaid : Mail → Type 0) (name : Draw) (says : (me to : ℕ) (body : 
   entry_keeps counted command start = record {
     Lost = λ other. Unit {0};
     entered = λ mails k. (entered_keeps command start k.0, k.1);
-    answers = λ client seq op answer r mails t e a k. (k.0, client_reported r.me (Each IsSaid) (own_talk r.me) client (name_of r) seq answer mails k.1);
+    answers = λ client seq op answer r mails t e a k. (k.0, client_reported r.me (Each IsSaid) (parties r.me (Each IsSaid) (own_talk r.me)) client (name_of r) seq answer mails k.1);
     returned = λ r mails t k. (back_keeps command r k.0, k.1);
     reports = λ result r mails e k. (k.0, desk_reported r.me (Each IsSaid) (own_talk r.me) (order_number command) result mails k.1);
     speaks = λ r mails k. (k.0, spoken_said r.me (Each IsSaid) (own_talk r.me) counted r.group (before_of start.group.core) (applied start.group command).1 command mails k.1);
@@ -155,17 +155,20 @@ module _ (IsSaid : Mail → Type 0) (name : Draw) (says : (me to : ℕ) (body : 
     talked : (r : ReplicaState) → Talk r.me (λ mails. Keeps (r, mails))
     talked r = beside_talk (name_of r ≡ name) r.me (Each IsSaid) (λ own. own_talk r.me)
 
+    spoken_to : (r : ReplicaState) → Parties r.me (λ mails. Keeps (r, mails))
+    spoken_to r = parties r.me (λ mails. Keeps (r, mails)) (talked r)
+
     name_says : TableSays name_facts
     name_says = record {
-      refuses = λ from group client seq op answer r mails h e k. client_reported r.me (λ ms. Keeps (r, ms)) (talked r) client (name_of r) seq answer mails k;
+      refuses = λ from group client seq op answer r mails h e k. client_reported r.me (λ ms. Keeps (r, ms)) (spoken_to r) client (name_of r) seq answer mails k;
       tells = λ drawer line why r mails given e k. (talked r).tells line.number (Refused why) mails k;
-      votes = λ from tx offer vote r mails h e k. vote_reported r.me (λ ms. Keeps (r, ms)) (talked r) r.group from tx offer vote mails k;
-      sees = λ from tx watch vote r mails h e k. watch_reported r.me (λ ms. Keeps (r, ms)) (talked r) from tx watch vote mails k;
-      vote_ends = λ from tx coord part vote outcome r mails h e k. outcome_said r.me (λ ms. Keeps (r, ms)) (talked r) from tx part outcome mails k;
-      watch_ends = λ from tx coord part vote outcome r mails h e k. outcome_said r.me (λ ms. Keeps (r, ms)) (talked r) from tx part outcome mails k;
+      votes = λ from tx offer vote r mails h e k. vote_reported r.me (λ ms. Keeps (r, ms)) (spoken_to r) r.group from tx offer vote mails k;
+      sees = λ from tx watch vote r mails h e k. watch_reported r.me (λ ms. Keeps (r, ms)) (spoken_to r) from tx watch vote mails k;
+      vote_ends = λ from tx coord part vote outcome r mails h e k. outcome_said r.me (λ ms. Keeps (r, ms)) (spoken_to r) from tx part outcome mails k;
+      watch_ends = λ from tx coord part vote outcome r mails h e k. outcome_said r.me (λ ms. Keeps (r, ms)) (spoken_to r) from tx part outcome mails k;
       offer_sent_on = λ from tx offer r mails h k. (talked r).sends_on from tx offer.coord r.hint mails k;
       watch_sent_on = λ from tx watch r mails h k. (talked r).sends_on from tx watch.coord r.hint mails k;
-      asks_next = λ from tx coord hint r mails h k. next_one_asked r.me (λ ms. Keeps (r, ms)) (talked r) r.group.core.lock r.group.core from tx hint mails k;
+      asks_next = λ from tx coord hint r mails h k. next_one_asked r.me (λ ms. Keeps (r, ms)) (spoken_to r) r.group.core.lock r.group.core from tx hint mails k;
       prepare_behind = λ from group ballot from_slot r mails h found low k. installs_keep from r mails k;
       accept_behind = λ from group report r mails h found low k. installs_keep from r mails k;
       ask_behind = λ from group slot r mails h k. installs_keep from r mails k;

@@ -15,27 +15,27 @@ use Rattle.sc_node_table.specs.Definitions.{result_sent, NodeState, replica_of, 
 use Rattle.sc_law_walks.proofs.Lemmas.{either_way}
 use Rattle.sc_meaning.specs.sound.Definitions.{Player, player_table}
 use Rattle.sc_live_steps.specs.calm.Definitions.{Rows}
-use Rattle.sc_live_steps.proofs.CalmProofs.Lemmas.{apart, put_found, put_others, children_found}
-use Rattle.sc_live_steps.specs.following.Definitions.{Mark, Asks, Votes, Tells, Installs, Prepares, Promises, mark_of, named_mark, marks_for}
+use Rattle.sc_live_steps.proofs.CalmStepsProofs.Lemmas.{apart, put_found, put_others, children_found}
+use Rattle.sc_live_steps.specs.following.Definitions.{Mark, Asks, Votes, Teaches, Installs, Prepares, Promises, mark_of, named_mark, marks_for}
 use Rattle.sc_live_journals.specs.rows.Definitions.{replicas_of, next_in, promise_in, mark_in, taken_mark, IsSeat, IsIdleIn, LeavesAlone, IsBornOr, LeavesOrCreates, made_children, AreAsBegun, OthersRowsAreIdle, IsReplicasRow, IsWholeState, RowsAreReplicas}
 use Rattle.sc_live_journals.proofs.RowsProofs.MailWithoutMarks.{names_stay, others_hear_nothing, none_marked}
 use Rattle.sc_live_journals.proofs.RowsProofs.ReplicaViews.{view_was, view_is, sent_is, new_others, new_is, Same, same_both, all_born, all_or}
 
 -- ---- by the input
 
-module _ (births : List (Seat Player)) (rows : Rows) (seat : Seat Player) (event : Event OrderLine) (born : IsSeat births seat) (player : Player) (is : value player_table seat rows ≡ player) (o : Option (Input Mail OrderLine)) (e : input_of (mails rows) event ≡ o) where
+module _ (births : List (Seat Player)) (rows : Rows) (seat : Seat Player) (event : Event OrderLine) (born : IsSeat births seat) (player : Player) (fact : value player_table seat rows ≡ player) (o : Option (Input Mail OrderLine)) (e : input_of (mails rows) event ≡ o) where
   pub idle_by : (base : Base) → taken_mark base.core.id (mails rows) event ≡ None
       → Same base seat.who (replica_of base.core.id (replicas_of (acted player_table player o).0)) (replica_of base.core.id (replicas_of player))
       → ((who : ℕ) → marks_for base.core.id who (acted player_table player o).1 ≡ []) → IsIdleIn births rows seat event base
   idle_by base takes same silent = λ course.
-      (let now = view_is births rows seat event base.core.id born player is o e in
-      let was = view_was births rows seat event base.core.id born player is in
+      (let now = view_is births rows seat event base.core.id born player fact o e in
+      let was = view_was births rows seat event base.core.id born player fact in
       record {
         takes = takes;
         next = ap (next_in base seat.who) now ∙ (same.0 ∙ sym (ap (next_in base seat.who) was));
         promise = ap (promise_in base) now ∙ (same.1 ∙ sym (ap (promise_in base) was));
         course = refl;
-        sends = λ who. ap (marks_for base.core.id who) (sent_is births rows seat event base.core.id born player is o e) ∙ silent who;
+        sends = λ who. ap (marks_for base.core.id who) (sent_is births rows seat event base.core.id born player fact o e) ∙ silent who;
       })
 
   -- a row that does nothing in a group, where the replica stays
@@ -43,7 +43,7 @@ module _ (births : List (Seat Player)) (rows : Rows) (seat : Seat Player) (event
       → ((who : ℕ) → marks_for base.core.id who (acted player_table player o).1 ≡ []) → LeavesAlone births rows seat event base
   alone_by base takes same silent = record {
     idle = idle_by base takes (same_both base seat.who (replica_of base.core.id (replicas_of (acted player_table player o).0)) (replica_of base.core.id (replicas_of player)) same) silent;
-    view = view_is births rows seat event base.core.id born player is o e ∙ (same ∙ sym (view_was births rows seat event base.core.id born player is));
+    view = view_is births rows seat event base.core.id born player fact o e ∙ (same ∙ sym (view_was births rows seat event base.core.id born player fact));
   }
 
   -- a row that does nothing in a group, where the replica is created
@@ -53,17 +53,17 @@ module _ (births : List (Seat Player)) (rows : Rows) (seat : Seat Player) (event
   born_by base takes same silent creation = record {
     idle = idle_by base takes same silent;
     view = elim creation [
-      | inl stays ↦ inl (view_is births rows seat event base.core.id born player is o e ∙ (stays ∙ sym (view_was births rows seat event base.core.id born player is)))
-      | inr makes ↦ inr (view_was births rows seat event base.core.id born player is ∙ makes.0, view_is births rows seat event base.core.id born player is o e ∙ makes.1)
+      | inl stays ↦ inl (view_is births rows seat event base.core.id born player fact o e ∙ (stays ∙ sym (view_was births rows seat event base.core.id born player fact)))
+      | inr makes ↦ inr (view_was births rows seat event base.core.id born player fact ∙ makes.0, view_is births rows seat event base.core.id born player fact o e ∙ makes.1)
     ];
   }
 
   pub replica_by : (name : Draw) (before : Option ReplicaState) (after : Place) → replica_of name (replicas_of player) ≡ before → replica_of name (replicas_of (acted player_table player o).0) ≡ Some after.0
       → (acted player_table player o).1 ≡ after.1 → IsReplicasRow births rows seat event name before after
   replica_by name before after was now sends =
-      let all = sent_is births rows seat event name born player is o e ∙ sends in record {
-        was = view_was births rows seat event name born player is ∙ was;
-        is = view_is births rows seat event name born player is o e ∙ now;
+      let all = sent_is births rows seat event name born player fact o e ∙ sends in record {
+        was = view_was births rows seat event name born player fact ∙ was;
+        fact = view_is births rows seat event name born player fact o e ∙ now;
         sends_all = all;
         sends = λ who. ap (marks_for name who) all;
       }
@@ -84,7 +84,7 @@ module _ (base : Base) (group : Draw) (ne : group ≡ base.core.id → ⊥) wher
   pub mark_other : (from : ℕ) (body : MailBody) → group_of_mail body ≡ Some group → mark_of name from body ≡ None
   mark_other from (Accept other ballot slot command) e = other_mark other (Asks ballot slot) e
   mark_other from (Accepted other ballot slot) e = other_mark other (Votes from ballot slot) e
-  mark_other from (Learn other slot command) e = other_mark other (Tells slot) e
+  mark_other from (Learn other slot command) e = other_mark other (Teaches slot) e
   mark_other from (Install other slot base sets) e = other_mark other (Installs slot) e
   mark_other from (Prepare other ballot from_slot) e = other_mark other (Prepares ballot) e
   mark_other from (Promise other ballot reports) e = other_mark other (Promises from ballot) e
@@ -96,7 +96,7 @@ module _ (base : Base) (group : Draw) (ne : group ≡ base.core.id → ⊥) wher
     Other step = Same base who (replica_of name step.0.replicas) (replica_of name node.replicas) × ((to : ℕ) → marks_for name to step.1 ≡ []) × IsBornOr base who (replica_of name step.0.replicas) (replica_of name node.replicas)
 
     made_other : (place : Place) → name_of place.0 ≡ group → ((to : ℕ) → marks_for name to place.1 ≡ []) → Other (with_made place node)
-    made_other (r, mails) is silent = (same_both base who (replica_of name (with_new r node.replicas)) (replica_of name node.replicas) (new_others name r node.replicas (λ e. ne (sym is ∙ e))), silent, inl (new_others name r node.replicas (λ e. ne (sym is ∙ e))))
+    made_other (r, mails) fact silent = (same_both base who (replica_of name (with_new r node.replicas)) (replica_of name node.replicas) (new_others name r node.replicas (λ e. ne (sym fact ∙ e))), silent, inl (new_others name r node.replicas (λ e. ne (sym fact ∙ e))))
 
     missed_other : (from : ℕ) (body : MailBody) → group_of_mail body ≡ Some group → Other (unknown from body node)
     missed_other from (Install other slot base sets) e =
@@ -155,14 +155,14 @@ missed_stays name from (Install group slot base sets) node none e =
 missed_stays name from (Request group client seq op) node none e = refl
 missed_stays name from _ node none e = refl
 
--- a step that leaves the node and sends no mark of a group
-abbrev Leaves : Draw → NodeState → NodeState × List Mail → Type 0
-Leaves name node step = (step.0 ≡ node) × ((who : ℕ) → marks_for name who step.1 ≡ [])
+-- mail without a mark of a group
+abbrev IsSilent : Draw → List Mail → Type 0
+IsSilent name sent = (who : ℕ) → marks_for name who sent ≡ []
 
-missed_leaves : (name : Draw) (from : ℕ) (body : MailBody) (node : NodeState) → mark_of name from body ≡ None → group_of_mail body ≡ Some name → replica_of name node.replicas ≡ None → Leaves name node (on_mail from body node)
+missed_leaves : (name : Draw) (from : ℕ) (body : MailBody) (node : NodeState) → mark_of name from body ≡ None → group_of_mail body ≡ Some name → replica_of name node.replicas ≡ None → ((on_mail from body node).0 ≡ node) × IsSilent name (on_mail from body node).1
 missed_leaves name from body node none named here =
     let step : routed (group_of_mail body) from body node ≡ (node, absent node.me from body) = ap (λ g. routed g from body node) named ∙ (ap (λ o. taken_by o name from body node) here ∙ missed_stays name from body node none named) in
-    either_way (Leaves name node) (may_come from body) (routed (group_of_mail body) from body node) (node, []) (subst (Leaves name node) (sym step) (refl, λ who. others_hear_nothing.missed name who node.me from body)) (refl, λ who. refl)
+    either_way (λ (step : NodeState × List Mail). (step.0 ≡ node) × IsSilent name step.1) (may_come from body) (routed (group_of_mail body) from body node) (node, []) (subst (λ (step : NodeState × List Mail). (step.0 ≡ node) × IsSilent name step.1) (sym step) (refl, λ who. others_hear_nothing.missed name who node.me from body)) (refl, λ who. refl)
 
 -- ---- orders
 
@@ -171,7 +171,7 @@ refused_marks name who me number = none_marked name who (result_sent me number (
 
 -- an order for another group leaves the replica of this one, and its mail no mark
 abbrev OrdersLeave : Draw → NodeState → NodeState × List Mail → Type 0
-OrdersLeave name node step = (replica_of name step.0.replicas ≡ replica_of name node.replicas) × ((to : ℕ) → marks_for name to step.1 ≡ [])
+OrdersLeave name node step = (replica_of name step.0.replicas ≡ replica_of name node.replicas) × IsSilent name step.1
 
 order_other : (name : Draw) (line : OrderLine) (node : NodeState) (ne : group_of_order line.order ≡ name → ⊥) (o : Option ReplicaState) → replica_of (group_of_order line.order) node.replicas ≡ o → OrdersLeave name node (ordered_of o line node)
 order_other name line node ne None e = (refl, λ to. refused_marks name to node.me line.number)
@@ -188,40 +188,40 @@ delivered rows number mail at = ap (λ o. option_map Got o) at
 
 client_idle : (births : List (Seat Player)) (rows : Rows) (seat : Seat Player) (event : Event OrderLine) (base : Base) (client : ClientState) → IsSeat births seat → value player_table seat rows ≡ Client client
     → taken_mark base.core.id (mails rows) event ≡ None → (o : Option (Input Mail OrderLine)) → input_of (mails rows) event ≡ o → LeavesAlone births rows seat event base
-client_idle births rows seat event base client born is takes None e = alone_by births rows seat event born (Client client) is None e base takes refl (λ who. refl)
-client_idle births rows seat event base client born is takes (Some input) e =
-    alone_by births rows seat event born (Client client) is (Some input) e base takes refl (λ who. others_hear_nothing.client base.core.id who client input)
+client_idle births rows seat event base client born fact takes None e = alone_by births rows seat event born (Client client) fact None e base takes refl (λ who. refl)
+client_idle births rows seat event base client born fact takes (Some input) e =
+    alone_by births rows seat event born (Client client) fact (Some input) e base takes refl (λ who. others_hear_nothing.client base.core.id who client input)
 
 -- A row does nothing in any group but that of its mail or order, and in those whose child is created in it; a client's row does nothing in any.
 pub others_idle : OthersRowsAreIdle
 others_idle = record {
-  client = λ births rows seat event base client born is takes. client_idle births rows seat event base client born is takes (input_of (mails rows) event) refl;
-  other = λ births rows seat number mail base group node born is me at named ne fits.
+  client = λ births rows seat event base client born fact takes. client_idle births rows seat event base client born fact takes (input_of (mails rows) event) refl;
+  other = λ births rows seat number mail base group node born fact me at named ne fits.
       (let step = mail_other base group ne seat.who node mail.from mail.body named me fits in
-      born_by births rows seat (Deliver number) born (Node node) is (Some (Got mail)) (delivered rows number mail at) base (ap (mark_in base.core.id) at ∙ mark_other base group ne mail.from mail.body named) step.0 step.1 step.2);
-  stray = λ births rows seat number mail base node born is at none.
+      born_by births rows seat (Deliver number) born (Node node) fact (Some (Got mail)) (delivered rows number mail at) base (ap (mark_in base.core.id) at ∙ mark_other base group ne mail.from mail.body named) step.0 step.1 step.2);
+  stray = λ births rows seat number mail base node born fact at none.
       (let stays = stray_stays mail.from mail.body node none in
-      alone_by births rows seat (Deliver number) born (Node node) is (Some (Got mail)) (delivered rows number mail at) base (ap (mark_in base.core.id) at ∙ stray_mark base.core.id mail.from mail.body none)
+      alone_by births rows seat (Deliver number) born (Node node) fact (Some (Got mail)) (delivered rows number mail at) base (ap (mark_in base.core.id) at ∙ stray_mark base.core.id mail.from mail.body none)
       (ap (λ (step : NodeState × List Mail). replica_of base.core.id step.0.replicas) stays)
       (λ who. ap (λ (step : NodeState × List Mail). marks_for base.core.id who step.1) stays));
-  missed = λ births rows seat number mail base node born is at none named here.
+  missed = λ births rows seat number mail base node born fact at none named here.
       (let leaves = missed_leaves base.core.id mail.from mail.body node none named here in
-      alone_by births rows seat (Deliver number) born (Node node) is (Some (Got mail)) (delivered rows number mail at) base (ap (mark_in base.core.id) at ∙ none)
+      alone_by births rows seat (Deliver number) born (Node node) fact (Some (Got mail)) (delivered rows number mail at) base (ap (mark_in base.core.id) at ∙ none)
       (ap (λ (n : NodeState). replica_of base.core.id n.replicas) leaves.0) leaves.1);
-  barred = λ births rows seat number mail base node born is at none barred.
+  barred = λ births rows seat number mail base node born fact at none barred.
       (let stays : on_mail mail.from mail.body node ≡ (node, []) = cond-false (may_come mail.from mail.body) (routed (group_of_mail mail.body) mail.from mail.body node) (node, []) barred in
-      alone_by births rows seat (Deliver number) born (Node node) is (Some (Got mail)) (delivered rows number mail at) base (ap (mark_in base.core.id) at ∙ none)
+      alone_by births rows seat (Deliver number) born (Node node) fact (Some (Got mail)) (delivered rows number mail at) base (ap (mark_in base.core.id) at ∙ none)
       (ap (λ (step : NodeState × List Mail). replica_of base.core.id step.0.replicas) stays)
       (λ who. ap (λ (step : NodeState × List Mail). marks_for base.core.id who step.1) stays));
-  ordered = λ births rows seat line base node born is ne.
+  ordered = λ births rows seat line base node born fact ne.
       (let step = order_other base.core.id line node ne (replica_of (group_of_order line.order) node.replicas) refl in
-      alone_by births rows seat (Told line) born (Node node) is (Some (ToldInput line)) refl base refl step.0 step.1);
-  refused = λ births rows seat line base node born is none.
+      alone_by births rows seat (Told line) born (Node node) fact (Some (ToldInput line)) refl base refl step.0 step.1);
+  refused = λ births rows seat line base node born fact none.
       (let stays : on_order line node ≡ (node, result_sent node.me line.number (Refused (NotLeader None)) []) = ap (λ o. ordered_of o line node) none in
-      alone_by births rows seat (Told line) born (Node node) is (Some (ToldInput line)) refl base refl
+      alone_by births rows seat (Told line) born (Node node) fact (Some (ToldInput line)) refl base refl
       (ap (λ (step : NodeState × List Mail). replica_of base.core.id step.0.replicas) stays)
       (λ who. ap (λ (step : NodeState × List Mail). marks_for base.core.id who step.1) stays ∙ refused_marks base.core.id who node.me line.number));
-  go = λ births rows seat base node born is. alone_by births rows seat Go born (Node node) is (Some GoInput) refl base refl refl (λ who. refl);
+  go = λ births rows seat base node born fact. alone_by births rows seat Go born (Node node) fact (Some GoInput) refl base refl refl (λ who. refl);
 }
 
 -- ---- what the replica does
@@ -251,27 +251,27 @@ made_is group from slot base sets node comes may none =
 made_row : (births : List (Seat Player)) (rows : Rows) (seat : Seat Player) (number : ℕ) (mail : Mail) (group : Draw) (slot : ℕ) (base : Base) (sets : List (List ℕ)) (node : NodeState) → IsSeat births seat → value player_table seat rows ≡ Node node
     → numbered (mails rows) number ≡ Some mail → may_come mail.from mail.body ≡ true → mail.body ≡ Install group slot base sets → IsWholeState slot sets → replica_of group node.replicas ≡ None
     → IsReplicasRow births rows seat (Deliver number) group None (made_by node.me mail.from group slot base sets)
-made_row births rows seat number mail group slot base sets node born is at comes body may none =
+made_row births rows seat number mail group slot base sets node born fact at comes body may none =
     let place : Place = made_by node.me mail.from group slot base sets in
     let step : on_mail mail.from mail.body node ≡ with_made place node =
     ap (λ b. on_mail mail.from b node) body ∙ made_is group mail.from slot base sets node (ap (may_come mail.from) (sym body) ∙ comes) may none in
     let made = made_step group place node (names_stay.made node.me mail.from group slot base sets) none in
-    replica_by births rows seat (Deliver number) born (Node node) is (Some (Got mail)) (delivered rows number mail at) group None place none
+    replica_by births rows seat (Deliver number) born (Node node) fact (Some (Got mail)) (delivered rows number mail at) group None place none
     (ap (λ (x : NodeState × List Mail). replica_of group x.0.replicas) step ∙ made.0)
     (ap (λ (x : NodeState × List Mail). x.1) step ∙ made.1)
 
 -- In the group of a mail or of an order the replica of the node does what its own table says, and what is sent of the group is what that sends; where there is none, it may be made of a state.
 pub rows_replicas : RowsAreReplicas
 rows_replicas = record {
-  taken = λ births rows seat number mail group node r born is at comes named here.
+  taken = λ births rows seat number mail group node r born fact at comes named here.
       (let step = taken_is group mail.from mail.body node r comes named here in
-      replica_by births rows seat (Deliver number) born (Node node) is (Some (Got mail)) (delivered rows number mail at) group (Some r) (mailed mail.from mail.body (r, [])).0 here
+      replica_by births rows seat (Deliver number) born (Node node) fact (Some (Got mail)) (delivered rows number mail at) group (Some r) (mailed mail.from mail.body (r, [])).0 here
       (ap (λ (x : NodeState × List Mail). replica_of group x.0.replicas) step ∙ taken_found group mail.from mail.body node r here) (ap (λ (x : NodeState × List Mail). x.1) step));
   made = made_row;
-  ordered = λ births rows seat line node r born is here.
+  ordered = λ births rows seat line node r born fact here.
       (let group = group_of_order line.order in
       let step : on_order line node ≡ ordered_of (Some r) line node = ap (λ o. ordered_of o line node) here in
-      replica_by births rows seat (Told line) born (Node node) is (Some (ToldInput line)) refl group (Some r) (ordered_row node.draws line (r, [])) here
+      replica_by births rows seat (Told line) born (Node node) fact (Some (ToldInput line)) refl group (Some r) (ordered_row node.draws line (r, [])) here
       (ap (λ (x : NodeState × List Mail). replica_of group x.0.replicas) step ∙ put_found group (ordered_row node.draws line (r, [])).0 r node.replicas (names_stay.ordered node.draws line r ∙ found_name group node.replicas r here) here)
       (ap (λ (x : NodeState × List Mail). x.1) step));
 }

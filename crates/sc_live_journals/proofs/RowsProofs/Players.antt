@@ -1,14 +1,18 @@
 -- What a walk of states says of each replica of a node holds after any rows, as it held at the birth of groups.
-use Rattle.std.proofs.Common.{◌≡◌, ℕ, eqb, cond, List, [], ◌∷◌, ◌++◌, map, Option, Some, None, sym, subst}
+use Rattle.std.proofs.Common.{◌≡◌, ℕ, List, [], ◌∷◌, map, Option, Some, None, sym, subst}
 use Rattle.sc_base.specs.Definitions.{Each, same_draw, is_member}
 use Rattle.sc_node_table.specs.Values.{Draw, Base, Mail, OrderLine, Input, Got, Row, Seat, Node, Client}
 use Rattle.sc_actor.specs.declared.rows.Input.TheVariants.{Tick, Go, Told}
-use Rattle.sc_actor.specs.Definitions.{acted, input_of, replay, value}
+use Rattle.sc_actor.specs.Definitions.{replay, value}
 use Rattle.sc_words.proofs.PaxosProofs.Lemmas.{Each-weaker}
 use Rattle.sc_node_table.specs.Definitions.{NodeState, node_table, replica_of, born_replicas, born_replica, ReplicaState, name_of, slots_ahead}
 use Rattle.sc_meaning.specs.sound.Definitions.{Player, player_table}
 use Rattle.sc_law_walks.specs.Definitions.{IsKept}
-use Rattle.sc_law_walks.proofs.Lemmas.{StateBirths, either_way, StateParts, state_walk, state_births, state_ticks, state_hears, GivenAny, any_step, creation}
+use Rattle.sc_law_walks.proofs.Lemmas.{StateBirths, either_way, StateParts, state_walk, state_births, state_ticks, state_hears, GivenAny, any_step, creation, replay_keeps}
+
+-- any rows keep what holds of a player
+abbrev pub RowsKeep : (Player → Type 0) → Type 0
+RowsKeep Plays = (who : ℕ) (rows : List (Row Mail OrderLine)) (player : Player) (sent : List Mail) → Plays player → Plays (replay player_table who player sent rows)
 
 -- W is what holds of a replica in any journal, with what the walk says of it
 module _ (me : ℕ) (P : ReplicaState → Type 0) (parts : StateParts me P) (begins : StateBirths me P) (W : ReplicaState → Type 0) (to : (r : ReplicaState) → W r → IsKept me r × P r) (from : (r : ReplicaState) → IsKept me r × P r → W r) where
@@ -43,25 +47,18 @@ module _ (me : ℕ) (P : ReplicaState → Type 0) (parts : StateParts me P) (beg
       let after = any_step (state_walk me P parts) (state_births me P parts begins) (state_ticks me P parts) node input (given input) (k.0, early) in
       (after.0.0, Each-weaker (λ (r : ReplicaState). IsKept me r × P r) W from (node_table node input).0.replicas after.0.1)
 
-  acts : (player : Player) (input : Option (Input Mail OrderLine)) → Plays player → Plays (acted player_table player input).0
-  acts player None k = k
-  acts (Node node) (Some input) k = steps node input k
-  acts (Client client) (Some input) k = tt
+  acts : (player : Player) (input : Input Mail OrderLine) → Plays player → Plays (player_table player input).0
+  acts (Node node) input k = steps node input k
+  acts (Client client) input k = tt
 
-  pub replays : (who : ℕ) (rows : List (Row Mail OrderLine)) (player : Player) (sent : List Mail) → Plays player → Plays (replay player_table who player sent rows)
-  replays who [] player sent k = k
-  replays who (row ∷ rows) player sent k =
-      let after : Player = cond (eqb row.who who) (acted player_table player (input_of sent row.event)).0 player in
-      replays who rows after (sent ++ row.sent) (either_way Plays (eqb row.who who) (acted player_table player (input_of sent row.event)).0 player (acts player (input_of sent row.event) k) k)
+  pub replays : RowsKeep Plays
+  replays = replay_keeps player_table Plays acts
 
   -- at the birth of groups
-  born_one : (base : Base) → W (born_replica slots_ahead me base)
-  born_one base = from (born_replica slots_ahead me base) (creation (state_walk me P parts) (state_births me P parts begins) base)
-
   pub born : (groups : List Base) → All (born_replicas slots_ahead me groups)
   born [] = tt
-  born (base ∷ groups) = either_way (λ (bases : List Base). All (map (λ b. born_replica slots_ahead me b) bases)) (is_member base.core.members me) _ _ (born_one base, born groups) (born groups)
+  born (base ∷ groups) = either_way (λ (bases : List Base). All (map (λ b. born_replica slots_ahead me b) bases)) (is_member base.core.members me) _ _ (from (born_replica slots_ahead me base) (creation (state_walk me P parts) (state_births me P parts begins) base), born groups) (born groups)
 
   -- any rows of the node
   pub stays : (seat : Seat Player) (rows : List (Row Mail OrderLine)) (first node : NodeState) → seat.actor ≡ Node first → Holds first → value player_table seat rows ≡ Node node → Holds node
-  stays seat rows first node is k e = subst Plays e (replays seat.who rows seat.actor [] (subst Plays (sym is) k))
+  stays seat rows first node fact k e = subst Plays e (replays seat.who rows seat.actor [] (subst Plays (sym fact) k))

@@ -1,11 +1,10 @@
 -- In any journal a replica's acceptor has forgotten nothing from its next slot on, and where it does not run nothing is in flight or ready.
 use Rattle.std.proofs.Common.{◌≡◌, ℕ, ◌+◌, ◌<◌, ◌≤◌, cond, false, true≢false, List, [], Option, Some, refl, sym, ◌∙◌, ap, arith}
 use Rattle.sc_base.specs.Definitions.{Each}
-use Rattle.sc_node_table.specs.Values.{Ballot, Draw, Command, Base, Mail, OrderLine, Row}
+use Rattle.sc_node_table.specs.Values.{Ballot, Draw, Command, Base}
 use Rattle.sc_words.specs.paxos.Definitions.{below, installed}
 use Rattle.sc_node_table.specs.Definitions.{entered, jumped, forgotten, ReplicaState, replica_of, next, floor_of, without_slot, installed_replica}
-use Rattle.sc_meaning.specs.sound.Definitions.{Player, player_table}
-use Rattle.sc_actor.specs.Definitions.{replay}
+use Rattle.sc_meaning.specs.sound.Definitions.{Player}
 use Rattle.sc_law_walks.specs.Definitions.{IsKept}
 use Rattle.sc_law_walks.proofs.Lemmas.{entered_next, cut_next, either_way, StateParts, ended_replica, StateBirths}
 use Rattle.sc_live_steps.proofs.FollowingProofs.Lemmas.{entered_floor, floor_low}
@@ -99,7 +98,7 @@ module _ (me : ℕ) where
   pub found_well : (group : Draw) (replicas : List ReplicaState) → Each (IsWellKept me) replicas → Found (replica_of group replicas)
   found_well group replicas k = players.found me (λ r. Stands r) (parts me) (begins me) (λ r. IsWellKept me r) (to me) (from me) group replicas k
 
-  pub replay_well : (who : ℕ) (rows : List (Row Mail OrderLine)) (player : Player) (sent : List Mail) → Plays player → Plays (replay player_table who player sent rows)
+  pub replay_well : players.RowsKeep Plays
   replay_well who rows player sent k = players.replays me (λ r. Stands r) (parts me) (begins me) (λ r. IsWellKept me r) (to me) (from me) who rows player sent k
 
 -- So is each replica of a node that is created.

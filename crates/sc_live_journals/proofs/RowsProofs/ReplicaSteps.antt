@@ -6,7 +6,7 @@ use Rattle.sc_base.specs.Definitions.{most_nodes, is_member}
 use Rattle.sc_node_table.specs.Values.{Ballot, Command, Promise, Accepted, Report}
 use Rattle.sc_words.specs.paxos.Definitions.{promise_counted}
 use Rattle.sc_node_table.specs.Definitions.{is_in_some, nodes_to, open_nodes, pumped, ReplicaState, Place, Executed, childless, name_of, next, set_at, mailed, numbers_from, leads, promise_row, voted, accepted_row}
-use Rattle.sc_live_steps.specs.following.Definitions.{Mark, Votes, Tells, Installs, Prepares, Promises, next_by, promise_by, Course, Sets, IsOpen, answered, AreAt, marks_for, StepsBy, next_ballot}
+use Rattle.sc_live_steps.specs.following.Definitions.{Mark, Votes, Teaches, Installs, Prepares, Promises, next_by, promise_by, Course, Sets, IsOpen, answered, AreAt, marks_for, StepsBy, next_ballot}
 use Rattle.sc_live_steps.proofs.FollowingProofs.Lemmas.{states, among_numbers as in_numbers}
 use Rattle.sc_live_journals.specs.rows.Definitions.{next_in, promise_in, StepsTake, StatesTake, UncountedPass, IsToLead, StepsElect, StillIdle}
 
@@ -16,9 +16,9 @@ use Rattle.sc_live_journals.specs.rows.Definitions.{next_in, promise_in, StepsTa
 pub steps_take : StepsTake
 steps_take at births rows seat event base course mark r after row named me takes steps counts waits =
     let now_next = ap (next_in base seat.who) row.was in
-    let after_next = ap (next_in base seat.who) row.is in
+    let after_next = ap (next_in base seat.who) row.fact in
     let now_promise = ap (promise_in base) row.was in
-    let after_promise = ap (promise_in base) row.is in
+    let after_promise = ap (promise_in base) row.fact in
     record {
       mark = mark;
       takes = takes;
@@ -35,8 +35,8 @@ pub states_take : StatesTake
 states_take at births rows seat event base course me from slot state sets row takes firsts mine waits =
     let now_next = ap (next_in base seat.who) row.was in
     let now_promise = ap (promise_in base) row.was in
-    let after_next = ap (next_in base seat.who) row.is ∙ states.reaches me from base.core.id slot state sets mine in
-    let after_promise = ap (promise_in base) row.is ∙ (states.promises me from base.core.id slot state sets mine ∙ firsts) in
+    let after_next = ap (next_in base seat.who) row.fact ∙ states.reaches me from base.core.id slot state sets mine in
+    let after_promise = ap (promise_in base) row.fact ∙ (states.promises me from base.core.id slot state sets mine ∙ firsts) in
     record {
       mark = Installs slot;
       takes = takes;
@@ -79,8 +79,8 @@ passes p who t [] e = e
 passes p who t (x ∷ xs) e = by (eqb x who) refl e (passes p who t xs)
   where
     by : (b : Bool) → eqb x who ≡ b → (b || is_member xs who) ≡ true → (is_member xs who ≡ true → is_member (filter p xs) who ≡ true) → is_member (filter p (x ∷ xs)) who ≡ true
-    by true is e2 rest = cond_both (p x) (x ∷ filter p xs) (filter p xs) (λ l. is_member l who ≡ true) (λ _. or_left (eqb x who) (is_member (filter p xs) who) is) (λ f. absurd (both_ways (p x) f (ap p (eqb-true x who is) ∙ t)))
-    by false is e2 rest = cond_both (p x) (x ∷ filter p xs) (filter p xs) (λ l. is_member l who ≡ true) (λ _. or_right (eqb x who) (is_member (filter p xs) who) (rest e2)) (λ _. rest e2)
+    by true fact e2 rest = cond_both (p x) (x ∷ filter p xs) (filter p xs) (λ l. is_member l who ≡ true) (λ _. or_left (eqb x who) (is_member (filter p xs) who) fact) (λ f. absurd (both_ways (p x) f (ap p (eqb-true x who fact) ∙ t)))
+    by false fact e2 rest = cond_both (p x) (x ∷ filter p xs) (filter p xs) (λ l. is_member l who ≡ true) (λ _. or_right (eqb x who) (is_member (filter p xs) who) (rest e2)) (λ _. rest e2)
 
 passed : (p : ℕ → Bool) (who : ℕ) (xs : List ℕ) → is_member (filter p xs) who ≡ true → p who ≡ true
 passed p who [] e = absurd (true≢false (sym e))
@@ -91,8 +91,8 @@ passed p who (x ∷ xs) e = by (p x) refl e (passed p who xs)
     by true t e2 rest = by_head (eqb x who) refl e2
       where
         by_head : (b : Bool) → eqb x who ≡ b → (b || is_member (filter p xs) who) ≡ true → p who ≡ true
-        by_head true is e3 = ap p (sym (eqb-true x who is)) ∙ t
-        by_head false is e3 = rest e3
+        by_head true fact e3 = ap p (sym (eqb-true x who fact)) ∙ t
+        by_head false fact e3 = rest e3
 
 module _ (at : Sets) (who : ℕ) where
   -- one of the sets has the node where it decides one of their slots
@@ -111,8 +111,8 @@ module _ (at : Sets) (who : ℕ) where
       by : (b : Bool) → is_member set who ≡ b → (b || is_in_some sets who) ≡ true
           → (is_in_some sets who ≡ true → (slot : ℕ) × (from + 1 ≤ slot) × (slot < from + 1 + length sets) × (is_member (at slot) who ≡ true))
           → (slot : ℕ) × (from ≤ slot) × (slot < from + length (set ∷ sets)) × (is_member (at slot) who ≡ true)
-      by true is e2 rest = (from, omega arith, omega arith, ap (λ s. is_member s who) are.0 ∙ is)
-      by false is e2 rest = (let r = rest e2 in let low = r.1 in let high = r.2 in (r.0, omega (arith, low), omega (arith, high), r.3))
+      by true fact e2 rest = (from, omega arith, omega arith, ap (λ s. is_member s who) are.0 ∙ fact)
+      by false fact e2 rest = (let r = rest e2 in let low = r.1 in let high = r.2 in (r.0, omega (arith, low), omega (arith, high), r.3))
 
 module _ (at : Sets) (course : Course) (slot : ℕ) (open_sets : List (List ℕ)) (r : ReplicaState) (l : IsToLead at course slot open_sets r) (who : ℕ) where
   asked : IsOpen at course.newest who → is_member (open_nodes open_sets) who ≡ true
@@ -136,12 +136,12 @@ module _ (at : Sets) (course : Course) (slot : ℕ) (open_sets : List (List ℕ)
 -- One that is to lead a group, and elects itself by the last entry, does so in the group: it asks each node that decides an open slot to promise its ballot.
 pub steps_elect : StepsElect
 steps_elect at births rows seat event base course slot open_sets r after row named me takes steps lead =
-    let after_next = ap (next_in base seat.who) row.is ∙ steps.reaches in
+    let after_next = ap (next_in base seat.who) row.fact ∙ steps.reaches in
     let now_promise = ap (promise_in base) row.was in
-    let after_promise = ap (promise_in base) row.is ∙ steps.promises in
+    let after_promise = ap (promise_in base) row.fact ∙ steps.promises in
     let sends : (who : ℕ) → marks_for base.core.id who _ ≡ cond (is_member (open_nodes open_sets) who) (Prepares (next_ballot r) ∷ []) [] = λ who. row.sends who ∙ (ap (λ n. marks_for n who after.1) (sym named) ∙ steps.asks who) in
     record {
-      mark = Tells slot;
+      mark = Teaches slot;
       takes = takes;
       last = (slot, lead.last, inl refl);
       idle = lead.idle;
@@ -170,8 +170,8 @@ steps_elect at births rows seat event base course slot open_sets r after row nam
 pub still_idle : StillIdle
 still_idle births rows seat event base course r after row takes same_next same_promise silent = record {
   takes = takes;
-  next = ap (next_in base seat.who) row.is ∙ (same_next ∙ sym (ap (next_in base seat.who) row.was));
-  promise = ap (promise_in base) row.is ∙ (same_promise ∙ sym (ap (promise_in base) row.was));
+  next = ap (next_in base seat.who) row.fact ∙ (same_next ∙ sym (ap (next_in base seat.who) row.was));
+  promise = ap (promise_in base) row.fact ∙ (same_promise ∙ sym (ap (promise_in base) row.was));
   course = refl;
   sends = λ who. row.sends who ∙ silent who;
 }

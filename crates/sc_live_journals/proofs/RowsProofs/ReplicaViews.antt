@@ -10,10 +10,10 @@ use Rattle.sc_actor.proofs.Lemmas.{find-who, value-snoc}
 use Rattle.sc_node_table.specs.Definitions.{NodeState, replica_of, is_before, with_new, with_born, with_children, ReplicaState, name_of, born_replica, slots_ahead}
 use Rattle.sc_meaning.specs.sound.Definitions.{Player, player_table}
 use Rattle.sc_live_steps.specs.calm.Definitions.{Rows}
-use Rattle.sc_live_steps.proofs.CalmProofs.Lemmas.{apart}
+use Rattle.sc_live_steps.proofs.CalmStepsProofs.Lemmas.{apart}
 use Rattle.sc_law_walks.proofs.Lemmas.{either_way}
 use Rattle.sc_live_journals.specs.rows.Definitions.{replicas_of, replica_in, view_at, next_in, promise_in, IsSeat, with_event, IsBornOr, AreAsBegun}
-pub use Rattle.sc_live_steps.proofs.CalmProofs.UntakenPotential.{new_is}
+pub use Rattle.sc_live_steps.proofs.CalmStepsProofs.UntakenPotential.{new_is}
 
 -- ---- journals
 
@@ -33,23 +33,23 @@ module _ (births : List (Seat Player)) (rows : Rows) (row : Row Mail OrderLine) 
 -- who acts has what its table makes of it
 module _ (births : List (Seat Player)) (rows : Rows) (seat : Seat Player) (event : Event OrderLine) (name : Draw) (born : IsSeat births seat) where
   pub view_was : (player : Player) → value player_table seat rows ≡ player → view_at births rows name seat.who ≡ replica_of name (replicas_of player)
-  view_was player is = ap (replica_in name rows) born ∙ ap (λ (p : Player). replica_of name (replicas_of p)) is
+  view_was player fact = ap (replica_in name rows) born ∙ ap (λ (p : Player). replica_of name (replicas_of p)) fact
 
   pub turned : (player : Player) → value player_table seat rows ≡ player → value player_table seat (with_event rows seat event) ≡ (acted player_table player (input_of (mails rows) event)).0
-  turned player is =
+  turned player fact =
       value-snoc player_table seat rows (row_of player_table seat rows event)
       ∙ (ap (λ b. cond b (acted player_table (value player_table seat rows) (input_of (mails rows) event)).0 (value player_table seat rows)) (eq-eqb seat.who seat.who refl)
-      ∙ ap (λ (p : Player). (acted player_table p (input_of (mails rows) event)).0) is)
+      ∙ ap (λ (p : Player). (acted player_table p (input_of (mails rows) event)).0) fact)
 
   pub view_is : (player : Player) → value player_table seat rows ≡ player → (o : Option (Input Mail OrderLine)) → input_of (mails rows) event ≡ o
       → view_at births (with_event rows seat event) name seat.who ≡ replica_of name (replicas_of (acted player_table player o).0)
-  view_is player is o e =
+  view_is player fact o e =
       ap (replica_in name (with_event rows seat event)) born
-      ∙ ap (λ (p : Player). replica_of name (replicas_of p)) (turned player is ∙ ap (λ i. (acted player_table player i).0) e)
+      ∙ ap (λ (p : Player). replica_of name (replicas_of p)) (turned player fact ∙ ap (λ i. (acted player_table player i).0) e)
 
   pub sent_is : (player : Player) → value player_table seat rows ≡ player → (o : Option (Input Mail OrderLine)) → input_of (mails rows) event ≡ o
       → (row_of player_table seat rows event).sent ≡ (acted player_table player o).1
-  sent_is player is o e = ap (λ (p : Player). (acted player_table p (input_of (mails rows) event)).1) is ∙ ap (λ i. (acted player_table player i).1) e
+  sent_is player fact o e = ap (λ (p : Player). (acted player_table p (input_of (mails rows) event)).1) fact ∙ ap (λ i. (acted player_table player i).1) e
 
 -- ---- replicas of a node
 
@@ -84,14 +84,14 @@ module _ (base : Base) (who : ℕ) where
 
   -- the group itself is created
   own_born : (node : NodeState) → node.me ≡ who → is_member base.core.members who ≡ true → Same (replica_of base.core.id (with_born base node).replicas) (replica_of base.core.id node.replicas)
-  own_born node me is = by (replica_of base.core.id node.replicas) refl
+  own_born node me fact = by (replica_of base.core.id node.replicas) refl
     where
       by : (o : Option ReplicaState) → replica_of base.core.id node.replicas ≡ o
           → Same (replica_of base.core.id (cond (is_some o) node (record node { replicas = with_new (born_replica slots_ahead node.me base) node.replicas })).replicas) (replica_of base.core.id node.replicas)
       by (Some r) e = (refl, refl)
       by None e =
           let born = new_is base.core.id (born_replica slots_ahead node.me base) node.replicas refl e in (
-            ap (next_in base who) born ∙ (sym (cond-true (is_member base.core.members who) 1 0 is) ∙ sym (ap (next_in base who) e)),
+            ap (next_in base who) born ∙ (sym (cond-true (is_member base.core.members who) 1 0 fact) ∙ sym (ap (next_in base who) e)),
             ap (promise_in base) born ∙ sym (ap (promise_in base) e),
           )
 

@@ -88,7 +88,7 @@ module _ (scenario : Scenario) (bounded : IsBounded scenario) where
   born_is : (base : Base) → Among base scenario.groups → IsBorn scenario.nodes base
   born_is base a = (let p = group_place scenario bounded base a in subst (IsBorn scenario.nodes) p.2 (born_at p.0 p.1))
 
-  named_once : (one other : Base) → Among one scenario.groups → Among other scenario.groups → one.core.id ≡ other.core.id → one ≡ other
+  pub named_once : (one other : Base) → Among one scenario.groups → Among other scenario.groups → one.core.id ≡ other.core.id → one ≡ other
   named_once one other a b same =
       let x = group_place scenario bounded one a in
       let y = group_place scenario bounded other b in

@@ -5,13 +5,13 @@ use Rattle.sc_node_table.specs.Values.{Draw, Mail, MailBody, Request, Answer, Pr
 use Rattle.sc_words.proofs.PaxosProofs.Lemmas.{Each-append}
 use Rattle.sc_node_table.specs.Definitions.{sent}
 use Rattle.sc_law_walks.proofs.Lemmas.{Talk}
-use Rattle.sc_live_steps.specs.following.Definitions.{Mark, Tells, named_mark, mark_of}
+use Rattle.sc_live_steps.specs.following.Definitions.{Mark, Teaches, named_mark, mark_of}
 
 -- the mark of a mail of the group with this name, where a refusal, a request and what asks for entries leave one too: all mail of the group but that of a transaction
 abbrev pub wide_mark : Draw → ℕ → MailBody → Option Mark
-wide_mark name from (Nack group promised) = named_mark name group (Tells 0)
-wide_mark name from (Ask group from_slot) = named_mark name group (Tells 0)
-wide_mark name from (Request group client seq op) = named_mark name group (Tells 0)
+wide_mark name from (Nack group promised) = named_mark name group (Teaches 0)
+wide_mark name from (Ask group from_slot) = named_mark name group (Teaches 0)
+wide_mark name from (Request group client seq op) = named_mark name group (Teaches 0)
 wide_mark name from (Accept group ballot slot command) = mark_of name from (Accept group ballot slot command)
 wide_mark name from (Accepted group ballot slot) = mark_of name from (Accepted group ballot slot)
 wide_mark name from (Learn group slot command) = mark_of name from (Learn group slot command)

@@ -1,11 +1,10 @@
 -- What holds of a replica with its mails, and is kept by its pump as by that of one that does not run, is kept by a request, by the mail of a transaction, by mail for clients and the desk, and by an order, where what waits is nothing to it.
-use Rattle.std.proofs.Common.{◌≡◌, ℕ, ◌&&◌, nat_le, false, List, [], ◌∷◌, ◌++◌, Option, Some, None, sym, subst}
+use Rattle.std.proofs.Common.{◌≡◌, ℕ, nat_le, false, List, [], ◌∷◌, ◌++◌, Option, Some, None, sym, subst}
 use Rattle.sc_base.specs.Definitions.{Drawer, next_name}
-use Rattle.sc_node_table.specs.Values.{Draw, Op, Offer, Watch, Command, Call, Prepared as PreparedAct, RecordVote, Finish, Watched, RecordWatch, OrderLine, OrderRefusal, Refused, Outcome, Past, Vote, AnswerBody, Mail, MailBody, Request, Answer, TxPrepare, TxVote, TxOutcome, TxElsewhere, TxWatch, TxWatched, Told}
-use Rattle.sc_words.specs.declared.commands.votes.Past.TheVariants as Cast
-use Rattle.sc_words.specs.declared.commands.votes.Vote.TheVariants as Vows
-use Rattle.sc_node_table.specs.Definitions.{has_act, with_act, act_queued, ordered_command, untaken, queued_or_refused, ordered_row, pumped, queued_number, without_request, ReplicaState, Place, name_of, settled, refused_at, queued, requested, request_row, mailed, asked_next, noted_outcome, standing_vote, sent_elsewhere, offered_by, offer_row, watched_by, watch_row, awaits_vote, awaits_watch, vote_queued, vote_met, vote_row, watch_queued, watch_met, watched_row, elsewhere_row, is_bound, outcome_row}
-use Rattle.sc_law_walks.proofs.Lemmas.{Talk, idle_pump, either_way}
+use Rattle.sc_node_table.specs.Values.{Op, Command, Call, OrderLine, OrderRefusal, Refused, AnswerBody, Mail, MailBody, Request, Answer, TxPrepare, TxVote, TxOutcome, TxElsewhere, TxWatch, TxWatched, Told}
+use Rattle.sc_node_table.specs.Definitions.{has_act, with_act, act_queued, ordered_command, untaken, queued_or_refused, ordered_row, pumped, queued_number, without_request, ReplicaState, Place, name_of, refused_at, queued, requested, request_row, mailed}
+use Rattle.sc_law_walks.proofs.Lemmas.{Talk, Parties, parties, TransactionParts, idle_pump, either_way}
+use Rattle.sc_law_walks.proofs.TransactionRows.{offer_keeps, watch_keeps, vote_keeps, watched_keeps, elsewhere_keeps, outcome_keeps}
 use Rattle.sc_law_walks.proofs.Talks.{vote_reported, watch_reported, outcome_said, next_one_asked}
 
 -- mail that neither asks an acceptor nor teaches a replica
@@ -52,60 +51,19 @@ module _ (F : Place → Type 0) (pumped_keeps : (place : Place) → F place → 
 
   -- ---- the parties of a transaction
 
-  elsewhere_sent : (node : ℕ) (tx coord : Draw) (place : Place) → F place → F (sent_elsewhere node tx coord place)
-  elsewhere_sent node tx coord (q, mails) k = (talk q).sends_on node tx coord q.hint mails k
+  spoken_to : (q : ReplicaState) → Parties q.me (λ mails. F (q, mails))
+  spoken_to q = parties q.me (λ mails. F (q, mails)) (talk q)
 
-  offered_keeps : (o : Option Past) (from : ℕ) (tx : Draw) (offer : Offer) (place : Place) → F place → F (offered_by o from tx offer place)
-  offered_keeps (Some vote) from tx offer (q, mails) k = vote_reported q.me (λ ms. F (q, ms)) (talk q) q.group from tx offer vote mails k
-  offered_keeps None from tx offer (q, mails) k =
-      either_way F q.running (act_queued (PreparedAct tx offer) (q, mails)) (sent_elsewhere from tx offer.coord (q, mails)) (act_keeps (PreparedAct tx offer) (q, mails) k) (elsewhere_sent from tx offer.coord (q, mails) k)
-
-  offer_keeps : (from : ℕ) (tx : Draw) (offer : Offer) (place : Place) → F place → F (offer_row from tx offer place)
-  unfolding offer_row
-  offer_keeps from tx offer (q, mails) k = offered_keeps (standing_vote q.group.core tx) from tx offer (q, mails) k
-
-  watched_by_keeps : (o : Option Past) (from : ℕ) (tx : Draw) (watch : Watch) (place : Place) → F place → F (watched_by o from tx watch place)
-  watched_by_keeps (Some vote) from tx watch (q, mails) k = watch_reported q.me (λ ms. F (q, ms)) (talk q) from tx watch vote mails k
-  watched_by_keeps None from tx watch (q, mails) k =
-      either_way F q.running (act_queued (Watched tx watch) (q, mails)) (sent_elsewhere from tx watch.coord (q, mails)) (act_keeps (Watched tx watch) (q, mails) k) (elsewhere_sent from tx watch.coord (q, mails) k)
-
-  watch_keeps : (from : ℕ) (tx : Draw) (watch : Watch) (place : Place) → F place → F (watch_row from tx watch place)
-  unfolding watch_row
-  watch_keeps from tx watch (q, mails) k = watched_by_keeps (standing_vote q.group.core tx) from tx watch (q, mails) k
-
-  vote_queued_keeps : (from : ℕ) (tx : Draw) (vote : Vote) (place : Place) → F place → F (vote_queued from tx vote place)
-  vote_queued_keeps from tx vote (q, mails) k = either_way F (q.running && awaits_vote q.group.core.lock tx) _ _ (act_keeps (RecordVote tx vote from) (q, mails) k) k
-
-  vote_met_keeps : (vote : Vote) (o : Option Outcome) (from : ℕ) (tx part : Draw) (place : Place) → F place → F (vote_met vote o from tx part place)
-  vote_met_keeps (Vows.Yes frozen) (Some outcome) from tx part (q, mails) k = outcome_said q.me (λ ms. F (q, ms)) (talk q) from tx part outcome mails k
-  vote_met_keeps (Vows.Yes frozen) None from tx part place k = vote_queued_keeps from tx (Vows.Yes frozen) place k
-  vote_met_keeps (Vows.No why) outcome from tx part place k = vote_queued_keeps from tx (Vows.No why) place k
-
-  vote_keeps : (from : ℕ) (tx part : Draw) (vote : Vote) (place : Place) → F place → F (vote_row from tx part vote place)
-  unfolding vote_row
-  vote_keeps from tx part vote (q, mails) k = vote_met_keeps vote (noted_outcome q.group.core tx) from tx part (q, mails) k
-
-  watch_queued_keeps : (from : ℕ) (tx : Draw) (vote : Past) (place : Place) → F place → F (watch_queued from tx vote place)
-  watch_queued_keeps from tx vote (q, mails) k = either_way F (q.running && awaits_watch q.group.core.lock tx) _ _ (act_keeps (RecordWatch tx vote from) (q, mails) k) k
-
-  watch_met_keeps : (vote : Past) (o : Option Outcome) (from : ℕ) (tx part : Draw) (place : Place) → F place → F (watch_met vote o from tx part place)
-  watch_met_keeps Cast.Yes (Some outcome) from tx part (q, mails) k = outcome_said q.me (λ ms. F (q, ms)) (talk q) from tx part outcome mails k
-  watch_met_keeps Cast.Yes None from tx part place k = watch_queued_keeps from tx Cast.Yes place k
-  watch_met_keeps (Cast.No why) outcome from tx part place k = watch_queued_keeps from tx (Cast.No why) place k
-  watch_met_keeps Cast.Ended outcome from tx part place k = watch_queued_keeps from tx Cast.Ended place k
-
-  watched_keeps : (from : ℕ) (tx part : Draw) (vote : Past) (place : Place) → F place → F (watched_row from tx part vote place)
-  unfolding watched_row
-  watched_keeps from tx part vote (q, mails) k = watch_met_keeps vote (noted_outcome q.group.core tx) from tx part (q, mails) k
-
-  elsewhere_keeps : (from : ℕ) (tx : Draw) (hint : Option ℕ) (place : Place) → F place → F (elsewhere_row from tx hint place)
-  unfolding elsewhere_row
-  elsewhere_keeps from tx hint (q, mails) k =
-      either_way F (settled q) (q, asked_next q.group.core.lock q.me q.group.core from tx hint mails) (q, mails) (next_one_asked q.me (λ ms. F (q, ms)) (talk q) q.group.core.lock q.group.core from tx hint mails k) k
-
-  outcome_keeps : (tx : Draw) (outcome : Outcome) (place : Place) → F place → F (outcome_row tx outcome place)
-  unfolding outcome_row
-  outcome_keeps tx outcome (q, mails) k = either_way F (q.running && is_bound q.group.core.lock tx) _ _ (act_keeps (Finish tx outcome) (q, mails) k) k
+  abbrev transactions : TransactionParts F
+  transactions = record {
+    Files = λ act. Unit {0};
+    queues = λ act place q k. act_keeps act place k;
+    votes = λ to tx offer vote q mails may k. vote_reported q.me (λ ms. F (q, ms)) (spoken_to q) q.group to tx offer vote mails k;
+    sees = λ to tx watch vote q mails k. watch_reported q.me (λ ms. F (q, ms)) (spoken_to q) to tx watch vote mails k;
+    ends = λ to tx part outcome q mails k. outcome_said q.me (λ ms. F (q, ms)) (spoken_to q) to tx part outcome mails k;
+    sends_on = λ to tx coord q mails k. (talk q).sends_on to tx coord q.hint mails k;
+    asks_next = λ from tx hint q mails k. next_one_asked q.me (λ ms. F (q, ms)) (spoken_to q) q.group.core.lock q.group.core from tx hint mails k;
+  }
 
   -- ---- orders
 
@@ -121,11 +79,11 @@ module _ (F : Place → Type 0) (pumped_keeps : (place : Place) → F place → 
   unfolding mailed
   beside_keeps from (Request group client seq op) place a k = request_keeps client seq op place k
   beside_keeps from (Answer group seq answer) place a k = k
-  beside_keeps from (TxPrepare tx offer) place a k = offer_keeps from tx offer place k
-  beside_keeps from (TxVote tx coord part vote) place a k = vote_keeps from tx part vote place k
-  beside_keeps from (TxOutcome tx part outcome) place a k = outcome_keeps tx outcome place k
-  beside_keeps from (TxElsewhere tx coord hint) place a k = elsewhere_keeps from tx hint place k
-  beside_keeps from (TxWatch tx watch) place a k = watch_keeps from tx watch place k
-  beside_keeps from (TxWatched tx coord part vote) place a k = watched_keeps from tx part vote place k
+  beside_keeps from (TxPrepare tx offer) place a k = offer_keeps F transactions from tx offer place tt k
+  beside_keeps from (TxVote tx coord part vote) place a k = vote_keeps F transactions from tx part vote place tt k
+  beside_keeps from (TxOutcome tx part outcome) place a k = outcome_keeps F transactions tx outcome place tt k
+  beside_keeps from (TxElsewhere tx coord hint) place a k = elsewhere_keeps F transactions from tx hint place k
+  beside_keeps from (TxWatch tx watch) place a k = watch_keeps F transactions from tx watch place tt k
+  beside_keeps from (TxWatched tx coord part vote) place a k = watched_keeps F transactions from tx part vote place tt k
   beside_keeps from (Told order result) place a k = k
   beside_keeps from _ place a k = absurd a

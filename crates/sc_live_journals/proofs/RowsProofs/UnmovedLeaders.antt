@@ -23,7 +23,7 @@ record IsLike (r other : ReplicaState) : Type 0 where
   acceptor : AcceptorState Command
   hint : Option ℕ
   top : Ballot
-  is : other ≡ record r { acceptor = acceptor; hint = hint; top = top }
+  fact : other ≡ record r { acceptor = acceptor; hint = hint; top = top }
 
 module _ (r : ReplicaState) where
   abbrev Like : Place → Type 0
@@ -42,16 +42,16 @@ module _ (r : ReplicaState) where
   hinted_like ballot top acceptor = by r.running
     where
       by : (b : Bool) → IsLike r (cond b (record r { acceptor = acceptor; top = top }) (record r { acceptor = acceptor; top = top; hint = Some ballot.node }))
-      by true = record { acceptor = acceptor; hint = r.hint; top = top; is = refl }
-      by false = record { acceptor = acceptor; hint = Some ballot.node; top = top; is = refl }
+      by true = record { acceptor = acceptor; hint = r.hint; top = top; fact = refl }
+      by false = record { acceptor = acceptor; hint = Some ballot.node; top = top; fact = refl }
 
   sent_like : (from : ℕ) (top : Ballot) → Like (install_to from (record r { top = top }, []))
   unfolding install_to
-  sent_like from top = record { acceptor = r.acceptor; hint = r.hint; top = top; is = refl }
+  sent_like from top = record { acceptor = r.acceptor; hint = r.hint; top = top; fact = refl }
 
   accepted_like : (from : ℕ) (ballot : Ballot) (slot : ℕ) (top : Ballot) (p : AcceptAnswer × AcceptorState Command) → Like (accepted_to from ballot slot p (record r { top = top }, []))
   accepted_like from ballot slot top (Asked.Accepted, acceptor) = hinted_like ballot top acceptor
-  accepted_like from ballot slot top (Asked.Ignored was, acceptor) = record { acceptor = acceptor; hint = r.hint; top = top; is = refl }
+  accepted_like from ballot slot top (Asked.Ignored was, acceptor) = record { acceptor = acceptor; hint = r.hint; top = top; fact = refl }
 
   took_like : (from : ℕ) (report : Report Command) (top : Ballot) → Like (took from report (record r { top = top }, []))
   unfolding took
@@ -65,7 +65,7 @@ module _ (r : ReplicaState) where
 
   promise_like : (from : ℕ) (ballot top : Ballot) (p : PrepareAnswer Command × AcceptorState Command) → Like (promise_to from ballot p (record r { top = top }, []))
   promise_like from ballot top (Prepared.Promise reports, acceptor) = hinted_like ballot top acceptor
-  promise_like from ballot top (Prepared.Ignored was, acceptor) = record { acceptor = acceptor; hint = r.hint; top = top; is = refl }
+  promise_like from ballot top (Prepared.Ignored was, acceptor) = record { acceptor = acceptor; hint = r.hint; top = top; fact = refl }
 
   promised_like : (from : ℕ) (ballot : Ballot) (from_slot : ℕ) (top : Ballot) → Like (promised from ballot from_slot (record r { top = top }, []))
   unfolding promised
@@ -124,52 +124,52 @@ module _ (at : Sets) (births : List (Seat Player)) (rows : Rows) (seat : Seat Pl
   same_leaves : (words : ℕ → ℕ → ℕ × ℕ) → IsFollowedAt at words births rows base course → view_at births then_ name seat.who ≡ view_at births rows name seat.who → LeavesLead at births rows seat event base course
   same_leaves words was stays = record {
     own = λ r e runs. stays_led at words births rows seat event base course was.given seat.who r (sym stays ∙ e) e runs;
-    runs = λ c is. subst (IsLedBy base course) (sym stays) (subst (λ n. IsLedBy base course (view_at births rows name n)) (sym is) (was.given.runs c));
+    runs = λ c fact. subst (IsLedBy base course) (sym stays) (subst (λ n. IsLedBy base course (view_at births rows name n)) (sym fact) (was.given.runs c));
   }
 
   quiet_leaves : (r : ReplicaState) → view_at births then_ name seat.who ≡ Some r → r.running ≡ false → (course.runs ≡ true → seat.who ≡ course.ballot.node → ⊥) → LeavesLead at births rows seat event base course
-  quiet_leaves r is off apart = record {
-    own = λ other e runs. absurd (true≢false (sym runs ∙ (ap (λ (x : ReplicaState). x.running) (same_some (view_at births then_ name seat.who) other r e is) ∙ off)));
+  quiet_leaves r fact off apart = record {
+    own = λ other e runs. absurd (true≢false (sym runs ∙ (ap (λ (x : ReplicaState). x.running) (same_some (view_at births then_ name seat.who) other r e fact) ∙ off)));
     runs = λ c mine. absurd (apart c mine);
   }
 
   born_leaves : ((slot : ℕ) → slot < 1 + slots_ahead → at slot ≡ base.core.members) → IsRoster base.core.members → is_member base.core.members base.core.first ≡ true → base.core.gone ≡ None → (seat.who ≡ base.core.first → course ≡ begun_course base)
       → (course.runs ≡ true → seat.who ≡ course.ballot.node → seat.who ≡ base.core.first) → view_at births then_ name seat.who ≡ Some (born_replica slots_ahead seat.who base) → LeavesLead at births rows seat event base course
-  born_leaves same roster first stands begun_ mine is = record {
+  born_leaves same roster first stands begun_ mine fact = record {
     own = λ r e runs.
-        (let own : born_replica slots_ahead seat.who base ≡ r = same_some (view_at births then_ name seat.who) (born_replica slots_ahead seat.who base) r is e in
+        (let own : born_replica slots_ahead seat.who base ≡ r = same_some (view_at births then_ name seat.who) (born_replica slots_ahead seat.who base) r fact e in
         let who : base.core.first ≡ seat.who = eqb-true base.core.first seat.who (ap (λ (x : ReplicaState). x.running) own ∙ runs) in
         let begins : course ≡ begun_course base = begun_ (sym who) in (
           subst (IsLeadOf at after_) (ap (λ n. born_replica slots_ahead n base) who ∙ own)
-              (born_leads at base after_ same roster first stands begins (subst (λ n. after_.next n ≡ 1) (sym who) (ap (next_in base seat.who) is)) (subst (λ n. after_.promise n ≡ first_ballot base.core) (sym who) (ap (promise_in base) is))),
+              (born_leads at base after_ same roster first stands begins (subst (λ n. after_.next n ≡ 1) (sym who) (ap (next_in base seat.who) fact)) (subst (λ n. after_.promise n ≡ first_ballot base.core) (sym who) (ap (promise_in base) fact))),
           sym who ∙ sym (ap (λ (c : Course). c.ballot.node) begins),
         ));
-    runs = λ c lead. subst (IsLedBy base course) (sym is) (eq-eqb base.core.first seat.who (sym (mine c lead)));
+    runs = λ c lead. subst (IsLedBy base course) (sym fact) (eq-eqb base.core.first seat.who (sym (mine c lead)));
   }
 
   like_leaves : (words : ℕ → ℕ → ℕ × ℕ) (r : ReplicaState) (after : Place) → IsFollowedAt at words births rows base course → r.me ≡ seat.who → IsLike r after.0 → IsReplicasRow births rows seat event name (Some r) after → LeavesLead at births rows seat event base course
   like_leaves words r after was me like row = record {
     own = λ other e runs.
-        (let same : after.0 ≡ other = same_some (view_at births then_ name seat.who) after.0 other row.is e in
+        (let same : after.0 ≡ other = same_some (view_at births then_ name seat.who) after.0 other row.fact e in
         let new : ReplicaState = record r { acceptor = like.acceptor; hint = like.hint; top = like.top } in
-        let is : other ≡ new = sym same ∙ like.is in
-        let here : view_at births then_ name seat.who ≡ Some new = row.is ∙ ap Some like.is in
-        let old = was.given.gives seat.who r row.was (sym (ap (λ (x : ReplicaState). x.running) is) ∙ runs) in (
-          subst (IsLeadOf at after_) (sym is)
+        let fact : other ≡ new = sym same ∙ like.fact in
+        let here : view_at births then_ name seat.who ≡ Some new = row.fact ∙ ap Some like.fact in
+        let old = was.given.gives seat.who r row.was (sym (ap (λ (x : ReplicaState). x.running) fact) ∙ runs) in (
+          subst (IsLeadOf at after_) (sym fact)
               (like_leads at now after_ r like.acceptor like.hint like.top refl (subst (λ n. after_.next n ≡ next r) (sym me) (ap (next_in base seat.who) here)) (subst (λ n. after_.promise n ≡ like.acceptor.promised) (sym me) (ap (promise_in base) here)) old.0),
           old.1,
         ));
     runs = λ c lead.
         (let running : r.running ≡ true = subst (IsLedBy base course) row.was (subst (λ n. IsLedBy base course (view_at births rows name n)) (sym lead) (was.given.runs c)) in
-        subst (IsLedBy base course) (sym row.is) (ap (λ (x : ReplicaState). x.running) like.is ∙ running));
+        subst (IsLedBy base course) (sym row.fact) (ap (λ (x : ReplicaState). x.running) like.fact ∙ running));
   }
 
 -- The replica that leads a group is left as it is by a row of another, by one in which it is made, and by its own where it accepts or promises.
 pub leads_stay : LeadsStay
 leads_stay = record {
   same = λ at words births rows seat event base course was stays. same_leaves at births rows seat event base course words was stays;
-  quiet = λ at births rows seat event base course r is off apart. quiet_leaves at births rows seat event base course r is off apart;
-  born = λ at births rows seat event base course same roster first stands begun_ mine is. born_leaves at births rows seat event base course same roster first stands begun_ mine is;
+  quiet = λ at births rows seat event base course r fact off apart. quiet_leaves at births rows seat event base course r fact off apart;
+  born = λ at births rows seat event base course same roster first stands begun_ mine fact. born_leaves at births rows seat event base course same roster first stands begun_ mine fact;
   accepts = λ at words births rows seat event base course from slot ballot command r was me goes row. like_leaves at births rows seat event base course words r _ was me (accept_like r from ballot slot command goes) row;
   promises = λ at words births rows seat event base course from from_slot ballot r was me goes row. like_leaves at births rows seat event base course words r _ was me (prepare_like r from ballot from_slot goes) row;
 }

@@ -8,7 +8,7 @@ use Rattle.sc_group_table.specs.machine.Definitions.{base_of}
 use Rattle.sc_node_table.specs.Definitions.{executed, install_to, sent, pumped, ReplicaState, Place, Executed, childless, name_of, next, set_at, last_slot, mailed, ask_row, ask_answered, taught, most_taught, learn_row, install_row, took_over, accepted_row, promise_row, leads, voted, vote_tallied}
 use Rattle.sc_words.specs.paxos.Definitions.{LeaderState, flight_at, promise_counted, entry_at, counted, vote_at}
 use Rattle.sc_live_steps.specs.orders.Definitions.{works, errands_for, Works}
-use Rattle.sc_live_steps.proofs.OrdersProofs.Lemmas.{errands-none, tables-rest}
+use Rattle.sc_live_steps.proofs.OrderStepsProofs.Lemmas.{errands-none, tables-rest}
 use Rattle.sc_live_journals.specs.scenes.Definitions.{AskedKeep}
 use Rattle.sc_live_journals.proofs.ScenesProofs.OrderRows.{lead_rests, aside_rests}
 
@@ -95,7 +95,7 @@ module _ (r : ReplicaState) where
       by : (b c : Bool) → eqb slot (next r) ≡ c → (d : Bool) → d ≡ false
           → Leaves (cond b (childless (r, [])) (cond c (executed false command (r, [])) (cond d (childless (r, sent r.me from (Ask (name_of r) (next r)) [])) (childless (r, [])))))
       by true c e d f = itself
-      by false true e d f = (let is = eqb-true slot (next r) e in absurd (omega (arith, is, low)))
+      by false true e d f = (let fact = eqb-true slot (next r) e in absurd (omega (arith, fact, low)))
       by false false e true f = absurd cc
       by false false e false f = itself
 

@@ -20,11 +20,11 @@ use Rattle.sc_live_journals.proofs.ScenesProofs.SceneViews.{tell}
 
 -- ---- the group
 
-module _ (births : List (Seat Player)) (rows : Rows) (seat : Seat Player) (event : Event OrderLine) (name : Draw) (made : ReplicaState) (was : view_at births rows name seat.who ≡ None) (is : view_at births (with_event rows seat event) name seat.who ≡ Some made)
+module _ (births : List (Seat Player)) (rows : Rows) (seat : Seat Player) (event : Event OrderLine) (name : Draw) (made : ReplicaState) (was : view_at births rows name seat.who ≡ None) (fact : view_at births (with_event rows seat event) name seat.who ≡ Some made)
     (stopped : made.running ≡ false) where
   made_stopped : (node : ℕ) (x : ReplicaState) → node ≡ seat.who → view_at births (with_event rows seat event) name node ≡ Some x → x.running ≡ false
   made_stopped node x e has =
-      let own : Some made ≡ Some x = sym is ∙ (sym (ap (view_at births (with_event rows seat event) name) e) ∙ has) in
+      let own : Some made ≡ Some x = sym fact ∙ (sym (ap (view_at births (with_event rows seat event) name) e) ∙ has) in
       let same : made ≡ x = cc in
       subst (λ (y : ReplicaState). y.running ≡ false) same stopped
 
@@ -54,7 +54,7 @@ module _ (births : List (Seat Player)) (rows : Rows) (seat : Seat Player) (event
       record { bond = after.1.0 ∙ sym before.1.0; work = after.1.1 ∙ sym before.1.1; leads = λ n e. after.0 ∙ (sym before.0 ∙ e) }
   joins (Unled bond node other none old new has) =
       let before = tell.idle births rows name bond node other none old has in
-      let after = tell.idle births (with_event rows seat event) name bond seat.who made (none_still none) new is in
+      let after = tell.idle births (with_event rows seat event) name bond seat.who made (none_still none) new fact in
       record { bond = after.1.0 ∙ sym before.1.0; work = after.1.1 ∙ sym before.1.1; leads = λ n e. (let bad : None ≡ Some n = sym before.0 ∙ e in cc) }
 
 -- ---- the node
@@ -92,7 +92,7 @@ states_by words births rows seat number mail group slot base sets c body may mem
       others = λ other ne. inl (now_is births rows seat (Deliver number) node t.seated t.is_node step (Some (Got mail)) got does other
           ∙ (new_others other place.0 node.replicas (λ e. ne (sym e ∙ own)) ∙ sym (was_is births rows seat (Deliver number) node t.seated t.is_node step (Some (Got mail)) got does other)));
     })
-    (asides_are.rests births rows seat (Deliver number) group (joins births rows seat (Deliver number) group place.0 row.was row.is rests.0 joins_so) (ap (option_map (λ entry. entry.1)) none)
+    (asides_are.rests births rows seat (Deliver number) group (joins births rows seat (Deliver number) group place.0 row.was row.fact rests.0 joins_so) (ap (option_map (λ entry. entry.1)) none)
     (tt, λ name away_from. ap (errands_for name) (all_sent births rows seat (Deliver number) node t.seated t.is_node step (Some (Got mail)) got does ∙ rests.1)))
 
 -- An order stays under way where a node makes its replica of a whole state that a member sends.

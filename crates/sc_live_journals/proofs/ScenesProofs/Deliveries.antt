@@ -1,12 +1,13 @@
 -- A delivery leaves the groups that an order has not touched as they were; so does the order, and so all deliveries behind it.
+use Rattle.sc_client_table.specs.table.Definitions.{Client as ClientState}
 use Rattle.sc_base.specs.Definitions.{Each}
 use Rattle.sc_live_steps.specs.orders.Definitions.{Elsewhere, Errand, Deal, Asks, Stage, Still, IsAt, errand_by, ByTaking}
 use Rattle.sc_live_journals.proofs.RowsProofs.Lemmas.{mailed_keeps, order_keeps, view_was, names_stay, found_name, none_some}
 use Rattle.sc_live_journals.specs.scenes.Definitions.{IsErrandFor, is_running, lead_of, scene_at, IsTaking, GoesBy, ComesTo, StageAfter, BesideFinds, FindsReplica, AtLeader, AtAnother, IsFresh, IsThere, AreThere, IsNowhere, AreUntouched, IsDelivered, after_all, AreDelivered, IsGivenInQuiet, FreshGroupsStay}
 use Rattle.sc_live_journals.proofs.ScenesProofs.UntouchedGroups.{quiet_errands, absent_errand, got_nothing}
-use Rattle.std.proofs.Common.{◌≡◌, ◌⊎◌, ℕ, Bool, true, false, List, [], ◌∷◌, Option, Some, None, inl, inr, refl, sym, ◌∙◌, ap, subst}
+use Rattle.std.proofs.Common.{◌≡◌, ◌⊎◌, ℕ, true, List, [], ◌∷◌, Option, Some, None, inl, inr, refl, sym, ◌∙◌, ap, subst}
 use Rattle.std.specs.Option.{option_map}
-use Rattle.std.proofs.lemmas.Bool.{cond-false}
+use Rattle.std.proofs.lemmas.Bool.{cases_Bool, cond-false}
 use Rattle.sc_node_table.specs.Values.{Draw, Base, OrderLine, Refused, Mail, Node, Client, Seat, Event, Deliver, Got}
 use Rattle.sc_words.specs.declared.commands.orders.OrderRefusal.TheVariants.{NotLeader}
 use Rattle.sc_actor.specs.declared.rows.Event.TheVariants.{Told}
@@ -18,8 +19,8 @@ use Rattle.sc_node_table.specs.Definitions.{NodeState, replica_of, with_replica,
 use Rattle.sc_law_walks.proofs.Lemmas.{either_way, takes_by}
 use Rattle.sc_meaning.specs.sound.Definitions.{Player, player_table}
 use Rattle.sc_live_steps.specs.calm.Definitions.{players, Rows}
-use Rattle.sc_live_steps.proofs.CalmProofs.Lemmas.{put_others}
-use Rattle.sc_live_steps.proofs.OrdersProofs.Lemmas.{cases-draw}
+use Rattle.sc_live_steps.proofs.CalmStepsProofs.Lemmas.{put_others}
+use Rattle.sc_live_steps.proofs.OrderStepsProofs.Lemmas.{cases-draw}
 use Rattle.sc_live_journals.specs.rows.Definitions.{view_at, with_event}
 use Rattle.sc_live_journals.proofs.ScenesProofs.NewestLeaders.{lead_runs}
 use Rattle.sc_live_journals.proofs.ScenesProofs.RowPremises.{IsQuestion, leader_asked, found_step}
@@ -30,6 +31,16 @@ use Rattle.sc_live_journals.proofs.ScenesProofs.SceneReceivers.{errand_unknown, 
 use Rattle.sc_live_journals.proofs.ScenesProofs.SceneRows.{calm_is}
 use Rattle.sc_live_journals.proofs.ScenesProofs.UntouchedBySteps.{taken_back, step_back, step_there, begun_other, begun_there, fresh_errand, asked_fresh, sent_on_fresh}
 use Rattle.sc_live_journals.proofs.ScenesProofs.UntouchedGroups.{Leaves, left_view, left_mail, client_leaves, node_leaves, is_asked, asks_it, aside_is, unknown_apart}
+
+-- ---- who takes it
+
+pub some_or_none : {X : Type 0} (o : Option X) → (o ≡ None) ⊎ ((x : X) × (o ≡ Some x))
+some_or_none None = inl refl
+some_or_none (Some x) = inr (x, refl)
+
+pub client_or_node : (player : Player) → ((client : ClientState) × (player ≡ Client client)) ⊎ ((node : NodeState) × (player ≡ Node node))
+client_or_node (Client client) = inl (client, refl)
+client_or_node (Node node) = inr (node, refl)
 
 module _ (words : ℕ → ℕ → ℕ × ℕ) (births : List (Seat Player)) (quiet rows : Rows) (seat : Seat Player) (number : ℕ) (stage : Stage) (u : AreUntouched words births quiet rows stage) (d : IsDelivered words births quiet rows seat number) where
   abbrev s : System Player Mail OrderLine
@@ -96,10 +107,10 @@ module _ (words : ℕ → ℕ → ℕ × ℕ) (births : List (Seat Player)) (qui
 
   -- ---- by who takes it
 
-  module _ (node : NodeState) (is : value player_table seat rows ≡ Node node) (mail : Mail) (at : numbered (mails rows) number ≡ Some mail) where
+  module _ (node : NodeState) (fact : value player_table seat rows ≡ Node node) (mail : Mail) (at : numbered (mails rows) number ≡ Some mail) where
     makes : (step : NodeState × List Mail) → on_mail mail.from mail.body node ≡ step → (name : Draw) → replica_of name step.0.replicas ≡ replica_of name node.replicas → Each (IsErrandFor name) step.1 → Left name
     makes step e name same silent =
-        node_leaves words births rows seat event d.seated d.timely node is step (Some (Got mail)) (ap (option_map Got) at) (ap (λ (x : NodeState × List Mail). (Node x.0, x.1)) e) name same silent
+        node_leaves words births rows seat event d.seated d.timely node fact step (Some (Got mail)) (ap (option_map Got) at) (ap (λ (x : NodeState × List Mail). (Node x.0, x.1)) e) name same silent
 
     module _ (group : Draw) (t : IsTaking words births rows seat number mail group node) where
       named_so : (name : Draw) → name ≡ group → group_of_mail mail.body ≡ Some name
@@ -129,11 +140,8 @@ module _ (words : ℕ → ℕ → ℕ × ℕ) (births : List (Seat Player)) (qui
             own : name_of r ≡ group
             own = found_name group node.replicas r here
 
-            stays : replica_of name put.replicas ≡ replica_of name node.replicas
-            stays = put_others group name made.0.0 node.replicas (names_stay.mailed mail.from mail.body r ∙ own) ne
-
             by : OneOf name seat.who made.1 (replica_of name (with_children made.1 put).replicas) (replica_of name put.replicas) → replica_of name (with_children made.1 put).replicas ≡ replica_of name node.replicas
-            by (inl e) = e ∙ stays
+            by (inl e) = e ∙ put_others group name made.0.0 node.replicas (names_stay.mailed mail.from mail.body r ∙ own) ne
             by (inr (child, among, id, none, made_so)) =
                 (let new : IsNowhere births quiet child.core.id = each_is (λ (c : Base). IsNowhere births quiet c.core.id) made.1 child (d.children mail group node r t here) among in
                 absurd (none_some (sym (new there.0) ∙ (ap (λ n. view_at births quiet n there.0) id ∙ there.2))))
@@ -150,7 +158,7 @@ module _ (words : ℕ → ℕ → ℕ × ℕ) (births : List (Seat Player)) (qui
             let row = (row_of_comes words births rows seat number mail group r c).1 in
             let sent_on = aside_is mail r mail.body q f in
             record {
-              view = row.is ∙ (ap (λ (p : Place). Some p.0) sent_on.2 ∙ sym row.was);
+              view = row.fact ∙ (ap (λ (p : Place). Some p.0) sent_on.2 ∙ sym row.was);
               silent = subst (Each (IsErrandFor group)) (sym (row.sends ∙ ap (λ (p : Place). p.1) sent_on.2)) ((λ n. ((sent_on.1, Elsewhere sent_on.0 mail.from), refl)), tt);
             }
 
@@ -165,31 +173,32 @@ module _ (words : ℕ → ℕ → ℕ × ℕ) (births : List (Seat Player)) (qui
         comes_by c same (AtAnother beside f) =
             by_found (λ name fr th. elim (cases-draw name group) [ inl i ↦ subst Left (sym i) (beside_leaves c (asked c same name i fr th) f) | inr ne ↦ other_leaves name ne th ])
 
-      taken_so : (o : Option ReplicaState) → replica_of group node.replicas ≡ o → Done
-      taken_so None here = by_found (none_leaves here)
-      taken_so (Some r) here = (let f = d.finds.here number mail group node r refl t here in comes_by r here (record { node = node; taking = t; here = here; children = f.0 }) refl f.1)
+      node_takes : Done
+      node_takes = elim (some_or_none (replica_of group node.replicas)) [
+        | inl here ↦ by_found (none_leaves here)
+        | inr one ↦ (let f = d.finds.here number mail group node one.0 refl t one.1 in comes_by one.0 one.1 (record { node = node; taking = t; here = one.1; children = f.0 }) refl f.1)
+      ]
 
-    mail_so : (b : Bool) → may_come mail.from mail.body ≡ b → (o : Option Draw) → group_of_mail mail.body ≡ o → Done
-    mail_so false bar o e =
-        by_found (λ name f th. makes (node, []) (cond-false (may_come mail.from mail.body) (routed (group_of_mail mail.body) mail.from mail.body node) (node, []) bar) name refl tt)
-    mail_so true comes None e =
-        by_found (λ name f th. makes (node, [])
-        (either_way (λ (step : NodeState × List Mail). step ≡ (node, [])) (may_come mail.from mail.body) (routed (group_of_mail mail.body) mail.from mail.body node) (node, []) (ap (λ g. routed g mail.from mail.body node) e) refl)
-        name refl tt)
-    mail_so true comes (Some group) e =
-        taken_so group (record { seated = d.seated; timely = d.timely; is_node = is; me_is = d.finds.me_is node is; sent = at; comes = comes; named = e }) (replica_of group node.replicas) refl
-
-  player_so : (player : Player) → value player_table seat rows ≡ player → Done
-  player_so (Client client) is =
-      (let one = takes_one words births rows seat.who number (calm_is words births rows seat event tidy_calm) in
-      by_found (λ name f th. client_leaves words births rows seat event d.seated d.timely client is name (Got one.mail) (ap (option_map Got) one.sent)
-      (got_nothing one.mail.from one.mail.body client (λ group seq answer. d.unanswered one.mail group seq answer one.sent))))
-  player_so (Node node) is =
-      (let one = takes_one words births rows seat.who number (calm_is words births rows seat event tidy_calm) in
-      mail_so node is one.mail one.sent (may_come one.mail.from one.mail.body) refl (group_of_mail one.mail.body) refl)
+    -- a mail that is for no group, or may not come, is nothing to it
+    node_so : Done
+    node_so = elim (cases_Bool (may_come mail.from mail.body)) [
+      | inr bar ↦ by_found (λ name f th. makes (node, []) (cond-false (may_come mail.from mail.body) (routed (group_of_mail mail.body) mail.from mail.body node) (node, []) bar) name refl tt)
+      | inl comes ↦ elim (some_or_none (group_of_mail mail.body)) [
+        | inl e ↦ by_found (λ name f th. makes (node, [])
+            (either_way (λ (step : NodeState × List Mail). step ≡ (node, [])) (may_come mail.from mail.body) (routed (group_of_mail mail.body) mail.from mail.body node) (node, []) (ap (λ g. routed g mail.from mail.body node) e) refl)
+            name refl tt)
+        | inr group ↦ node_takes group.0 (record { seated = d.seated; timely = d.timely; is_node = fact; me_is = d.finds.me_is node fact; sent = at; comes = comes; named = group.1 })
+      ]
+    ]
 
   pub delivered_so : Done
-  delivered_so = player_so (value player_table seat rows) refl
+  delivered_so =
+      let one = takes_one words births rows seat.who number (calm_is words births rows seat event tidy_calm) in
+      elim (client_or_node (value player_table seat rows)) [
+        | inl client ↦ by_found (λ name f th. client_leaves words births rows seat event d.seated d.timely client.0 client.1 name (Got one.mail) (ap (option_map Got) one.sent)
+            (got_nothing one.mail.from one.mail.body client.0 (λ group seq answer. d.unanswered one.mail group seq answer one.sent)))
+        | inr node ↦ node_so node.0 node.1 one.mail one.sent
+      ]
 
 -- ---- the order
 
@@ -205,23 +214,23 @@ module _ (words : ℕ → ℕ → ℕ × ℕ) (births : List (Seat Player)) (qui
 
   -- where there is none, it is refused
   none_leaves_it : (node : NodeState) → value player_table seat quiet ≡ Node node → (name : Draw) → replica_of group node.replicas ≡ None → Kept name
-  none_leaves_it node is name here =
-      node_leaves words births quiet seat told b.seated b.timely node is (node, result_sent node.me line.number (Refused (NotLeader None)) []) (Some (ToldInput line)) refl
+  none_leaves_it node fact name here =
+      node_leaves words births quiet seat told b.seated b.timely node fact (node, result_sent node.me line.number (Refused (NotLeader None)) []) (Some (ToldInput line)) refl
       (ap (λ (x : NodeState × List Mail). (Node x.0, x.1)) (ap (λ o. ordered_of o line node) here)) name refl ((λ n. absurd (none_some n)), tt)
 
   ordered_leaves : (node : NodeState) → value player_table seat quiet ≡ Node node → (name : Draw) → (name ≡ group → ⊥) → (o : Option ReplicaState) → replica_of group node.replicas ≡ o → Kept name
-  ordered_leaves node is name ne None here = none_leaves_it node is name here
-  ordered_leaves node is name ne (Some r) here =
+  ordered_leaves node fact name ne None here = none_leaves_it node fact name here
+  ordered_leaves node fact name ne (Some r) here =
       let own = found_name group node.replicas r here in
       let step : NodeState × List Mail = ordered_of (Some r) line node in
-      node_leaves words births quiet seat told b.seated b.timely node is step (Some (ToldInput line)) refl
+      node_leaves words births quiet seat told b.seated b.timely node fact step (Some (ToldInput line)) refl
       (ap (λ (x : NodeState × List Mail). (Node x.0, x.1)) (ap (λ o. ordered_of o line node) here)) name
       (put_others group name (ordered_row node.draws line (r, [])).0 node.replicas (names_stay.ordered node.draws line r ∙ own) ne)
       (quiet_errands (name_of r) name (ordered_row node.draws line (r, [])).1 (λ i. ne (sym i ∙ own)) (order_keeps (name_of r) node.draws line (r, []) (refl, tt)).1)
 
   player_leaves : (player : Player) → value player_table seat quiet ≡ player → (name : Draw) → (name ≡ group → ⊥) → Kept name
-  player_leaves (Client client) is name ne = client_leaves words births quiet seat told b.seated b.timely client is name (ToldInput line) refl refl
-  player_leaves (Node node) is name ne = ordered_leaves node is name ne (replica_of group node.replicas) refl
+  player_leaves (Client client) fact name ne = client_leaves words births quiet seat told b.seated b.timely client fact name (ToldInput line) refl refl
+  player_leaves (Node node) fact name ne = ordered_leaves node fact name ne (replica_of group node.replicas) refl
 
   found_first : StageAfter births quiet seat told Still
   found_first = found_step words births quiet seat told b.seated b.timely b.finds Still b.still
@@ -237,12 +246,12 @@ module _ (words : ℕ → ℕ → ℕ × ℕ) (births : List (Seat Player)) (qui
 
   -- who gets the order has a replica of the group, or leaves that as it is
   told_there : (player : Player) → value player_table seat quiet ≡ player → IsThere births quiet group ⊎ ((who : ℕ) → view_at births (with_event quiet seat told) group who ≡ view_at births quiet group who)
-  told_there (Client client) is = inr (left_view words births quiet seat told b.seated b.timely group (client_leaves words births quiet seat told b.seated b.timely client is group (ToldInput line) refl refl))
-  told_there (Node node) is = by (replica_of group node.replicas) refl
+  told_there (Client client) fact = inr (left_view words births quiet seat told b.seated b.timely group (client_leaves words births quiet seat told b.seated b.timely client fact group (ToldInput line) refl refl))
+  told_there (Node node) fact = by (replica_of group node.replicas) refl
     where
       by : (o : Option ReplicaState) → replica_of group node.replicas ≡ o → IsThere births quiet group ⊎ ((who : ℕ) → view_at births (with_event quiet seat told) group who ≡ view_at births quiet group who)
-      by (Some r) here = inl (seat.who, r, view_was births quiet seat told group b.seated (Node node) is ∙ here)
-      by None here = inr (left_view words births quiet seat told b.seated b.timely group (none_leaves_it node is group here))
+      by (Some r) here = inl (seat.who, r, view_was births quiet seat told group b.seated (Node node) fact ∙ here)
+      by None here = inr (left_view words births quiet seat told b.seated b.timely group (none_leaves_it node fact group here))
 
   runs_there : (at : ℕ → Option ReplicaState) (chief : ℕ) (o : Option ReplicaState) → at chief ≡ o → is_running o ≡ true → (node : ℕ) × (r : ReplicaState) × (at node ≡ Some r)
   runs_there at chief None e runs = absurd cc

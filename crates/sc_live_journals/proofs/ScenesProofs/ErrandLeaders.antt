@@ -7,9 +7,10 @@ use Rattle.sc_actor.specs.Definitions.{mails, numbers_of, row_of}
 use Rattle.sc_live_orderly.proofs.Lemmas.{last_in_time}
 use Rattle.sc_node_table.specs.Definitions.{NodeState, ReplicaState, Place, listed}
 use Rattle.sc_meaning.specs.sound.Definitions.{Player, player_table}
+use Rattle.sc_live_steps.proofs.OrderStepsProofs.PartyChanges.{no-errand}
 use Rattle.sc_live_steps.specs.calm.Definitions.{players, Rows}
-use Rattle.sc_live_steps.specs.orders.Definitions.{Turn, First, Lone, Next, is_watch, Errand, Question, Elsewhere, Reply, Result, Here, Scene, Leg, Mailed, Filed, closing, heard, Stage, Still, Ordered, Asks, SentOn, Weighs, Replied, Recorded, Closes, ClosesBoth, parties_of, IsAt, IsUnderWay, errand_by}
-use Rattle.sc_live_steps.proofs.OrdersProofs.Lemmas.{tokens, tagged, found, among-right}
+use Rattle.sc_live_steps.specs.orders.Definitions.{Turn, is_watch, Errand, Question, Elsewhere, Reply, Result, Here, Scene, Leg, Mailed, Filed, closing, Stage, Still, Ordered, Asks, SentOn, Weighs, Replied, Recorded, Closes, ClosesBoth, parties_of, IsAt, IsUnderWay, errand_by}
+use Rattle.sc_live_steps.proofs.OrderStepsProofs.Lemmas.{tokens, tagged, found, among-right}
 use Rattle.sc_live_journals.specs.rows.Definitions.{view_at}
 use Rattle.sc_live_journals.proofs.RowsProofs.Lemmas.{view_was, none_some as no_some}
 use Rattle.sc_live_journals.specs.scenes.Definitions.{Expects, leader_sought, AnswersReachLeaders, KeepsStage, IsBeside, Led, Unled, ComesBeside, ComesToNone, scene_at, is_running, errand_in, taken_errand, IsTaking, IsOfGroup}
@@ -28,40 +29,35 @@ mail_of here = here.errands
 module _ (now : Scene) (group : Draw) (errand : Errand) (to : ℕ) (sought : leader_sought errand ≡ Some to) where
   -- one under way for a leader is for who leads
   leader_for : (name : Draw) (node : ℕ) (one : Errand) → now.lead name ≡ Some node → leader_sought one ≡ Some node → ◌≡◌ {A = Draw × Errand} (name, one) (group, errand) → now.lead group ≡ Some to
-  leader_for name node one leads goes is =
-      ap now.lead (sym (ap (λ (x : Draw × Errand). x.0) is)) ∙ (leads ∙ (sym goes ∙ (ap (λ (x : Draw × Errand). leader_sought x.1) is ∙ sought)))
+  leader_for name node one leads goes fact =
+      ap now.lead (sym (ap (λ (x : Draw × Errand). x.0) fact)) ∙ (leads ∙ (sym goes ∙ (ap (λ (x : Draw × Errand). leader_sought x.1) fact ∙ sought)))
 
   -- a question is for none
   no_question : (name : Draw) (one : Errand) → leader_sought one ≡ None → ◌≡◌ {A = Draw × Errand} (name, one) (group, errand) → ⊥
-  no_question name one goes is = (let bad : None ≡ Some to = sym goes ∙ (ap (λ (x : Draw × Errand). leader_sought x.1) is ∙ sought) in cc)
-
-  none_heard : (tx : Draw) (turn : Turn) → Among (group, errand) (tokens mail_of (heard tx turn)) → ⊥
-  none_heard tx First a = absurd a
-  none_heard tx Lone a = absurd a
-  none_heard tx (Next part host) a = absurd a
+  no_question name one goes fact = (let bad : None ≡ Some to = sym goes ∙ (ap (λ (x : Draw × Errand). leader_sought x.1) fact ∙ sought) in cc)
 
   closes_for : (tx name : Draw) (host : ℕ) (leg : Leg) (more : List (Draw × Errand)) → now.lead name ≡ Some host → (Among (group, errand) more → now.lead group ≡ Some to)
       → Among (group, errand) (tagged name (closing tx leg host).errands ++ more) → now.lead group ≡ Some to
-  closes_for tx name host Mailed more leads rest a = elim a [ inl is ↦ leader_for name host (Result tx host) leads refl is | inr b ↦ rest b ]
+  closes_for tx name host Mailed more leads rest a = elim a [ inl fact ↦ leader_for name host (Result tx host) leads refl fact | inr b ↦ rest b ]
   closes_for tx name host Filed more leads rest a = rest a
 
   led_in : (stage : Stage) → IsAt stage now → Among (group, errand) (tokens mail_of (parties_of stage)) → now.lead group ≡ Some to
   led_in Still a among = absurd among
   led_in (Ordered name chief work) a among = absurd among
   led_in (Asks deal node) a among = elim among [
-    | inl is ↦ absurd (no_question deal.asked _ refl is)
-    | inr more ↦ absurd (none_heard deal.tx deal.turn more)
+    | inl fact ↦ absurd (no_question deal.asked _ refl fact)
+    | inr more ↦ absurd (no-errand deal.tx deal.turn (group, errand) more)
   ]
   led_in (SentOn deal) a among = elim among [
-    | inl is ↦ leader_for deal.coord deal.chief (Elsewhere deal.tx deal.chief) a.leads.0 refl is
-    | inr more ↦ absurd (none_heard deal.tx deal.turn more)
+    | inl fact ↦ leader_for deal.coord deal.chief (Elsewhere deal.tx deal.chief) a.leads.0 refl fact
+    | inr more ↦ absurd (no-errand deal.tx deal.turn (group, errand) more)
   ]
-  led_in (Weighs deal host) a among = absurd (none_heard deal.tx deal.turn among)
+  led_in (Weighs deal host) a among = absurd (no-errand deal.tx deal.turn (group, errand) among)
   led_in (Replied deal agreed host) a among = elim among [
-    | inl is ↦ leader_for deal.coord deal.chief _ a.leads.0 refl is
-    | inr more ↦ absurd (none_heard deal.tx deal.turn more)
+    | inl fact ↦ leader_for deal.coord deal.chief _ a.leads.0 refl fact
+    | inr more ↦ absurd (no-errand deal.tx deal.turn (group, errand) more)
   ]
-  led_in (Recorded deal agreed host) a among = absurd (none_heard deal.tx deal.turn among)
+  led_in (Recorded deal agreed host) a among = absurd (no-errand deal.tx deal.turn (group, errand) among)
   led_in (Closes tx party) a among = closes_for tx party.group party.host party.leg [] a.leads.0 (λ more. absurd more) among
   led_in (ClosesBoth tx one two) a among =
       closes_for tx one.group one.host one.leg (tagged two.group (closing tx two.leg two.host).errands ++ []) a.leads.0
@@ -75,38 +71,33 @@ leader_led now group errand to under among sought =
 
 module _ (now : Scene) (group : Draw) (errand : Errand) where
   waits_for : (name : Draw) (one : Errand) (here : Here) → now.at name ≡ here → Expects one here → ◌≡◌ {A = Draw × Errand} (name, one) (group, errand) → Expects errand (now.at group)
-  waits_for name one here at fits is = subst (λ (x : Draw × Errand). Expects x.1 (now.at x.0)) is (subst (Expects one) (sym at) fits)
-
-  not_heard : (tx : Draw) (turn : Turn) → Among (group, errand) (tokens mail_of (heard tx turn)) → ⊥
-  not_heard tx First a = absurd a
-  not_heard tx Lone a = absurd a
-  not_heard tx (Next part host) a = absurd a
+  waits_for name one here at fits fact = subst (λ (x : Draw × Errand). Expects x.1 (now.at x.0)) fact (subst (Expects one) (sym at) fits)
 
   vote_is : (turn : Turn) (vote : Bool) → Some (is_watch turn) ≡ Some vote → is_watch turn ≡ vote
   vote_is turn vote e = cc
 
   end_waits : (tx name : Draw) (host : ℕ) (leg : Leg) (more : List (Draw × Errand)) → now.at name ≡ closing tx leg host → (Among (group, errand) more → Expects errand (now.at group))
       → Among (group, errand) (tagged name (closing tx leg host).errands ++ more) → Expects errand (now.at group)
-  end_waits tx name host Mailed more at rest a = elim a [ inl is ↦ waits_for name (Result tx host) (closing tx Mailed host) at (record { bond_is = refl; work = refl }) is | inr b ↦ rest b ]
+  end_waits tx name host Mailed more at rest a = elim a [ inl fact ↦ waits_for name (Result tx host) (closing tx Mailed host) at (record { bond_is = refl; work = refl }) fact | inr b ↦ rest b ]
   end_waits tx name host Filed more at rest a = rest a
 
   waits_in : (stage : Stage) → IsAt stage now → Among (group, errand) (tokens mail_of (parties_of stage)) → Expects errand (now.at group)
   waits_in Still a among = absurd among
   waits_in (Ordered name chief work) a among = absurd among
   waits_in (Asks deal node) a among = elim among [
-    | inl is ↦ waits_for deal.asked (Question deal.tx deal.coord (is_watch deal.turn) deal.chief node) _ a.parties.0.1.0 (record { bond_is = refl; work = refl }) is
-    | inr more ↦ absurd (not_heard deal.tx deal.turn more)
+    | inl fact ↦ waits_for deal.asked (Question deal.tx deal.coord (is_watch deal.turn) deal.chief node) _ a.parties.0.1.0 (record { bond_is = refl; work = refl }) fact
+    | inr more ↦ absurd (no-errand deal.tx deal.turn (group, errand) more)
   ]
   waits_in (SentOn deal) a among = elim among [
-    | inl is ↦ waits_for deal.coord (Elsewhere deal.tx deal.chief) _ a.parties.0.0 (record { asked = deal.asked; turn = deal.turn; bond = refl; turn_is = λ vote e. absurd (no_some e); work = refl }) is
-    | inr more ↦ absurd (not_heard deal.tx deal.turn more)
+    | inl fact ↦ waits_for deal.coord (Elsewhere deal.tx deal.chief) _ a.parties.0.0 (record { asked = deal.asked; turn = deal.turn; bond = refl; turn_is = λ vote e. absurd (no_some e); work = refl }) fact
+    | inr more ↦ absurd (no-errand deal.tx deal.turn (group, errand) more)
   ]
-  waits_in (Weighs deal host) a among = absurd (not_heard deal.tx deal.turn among)
+  waits_in (Weighs deal host) a among = absurd (no-errand deal.tx deal.turn (group, errand) among)
   waits_in (Replied deal agreed host) a among = elim among [
-    | inl is ↦ waits_for deal.coord (Reply deal.tx (is_watch deal.turn) agreed host deal.chief) _ a.parties.0.0 (record { asked = deal.asked; turn = deal.turn; bond = refl; turn_is = vote_is deal.turn; work = refl }) is
-    | inr more ↦ absurd (not_heard deal.tx deal.turn more)
+    | inl fact ↦ waits_for deal.coord (Reply deal.tx (is_watch deal.turn) agreed host deal.chief) _ a.parties.0.0 (record { asked = deal.asked; turn = deal.turn; bond = refl; turn_is = vote_is deal.turn; work = refl }) fact
+    | inr more ↦ absurd (no-errand deal.tx deal.turn (group, errand) more)
   ]
-  waits_in (Recorded deal agreed host) a among = absurd (not_heard deal.tx deal.turn among)
+  waits_in (Recorded deal agreed host) a among = absurd (no-errand deal.tx deal.turn (group, errand) among)
   waits_in (Closes tx party) a among = end_waits tx party.group party.host party.leg [] a.parties.0.0 (λ more. absurd more) among
   waits_in (ClosesBoth tx one two) a among =
       end_waits tx one.group one.host one.leg (tagged two.group (closing tx two.leg two.host).errands ++ []) a.parties.0.0
@@ -135,8 +126,8 @@ module _ (words : ℕ → ℕ → ℕ × ℕ) (births : List (Seat Player)) (row
       let calm = (last_in_time (players words births) rows (row_of player_table seat rows event) t.timely).0 in
       let one = takes_one words births rows seat.who number (calm_is words births rows seat event calm) in
       let same : Some one.mail ≡ Some mail = sym one.sent ∙ t.sent in
-      let is : one.mail ≡ mail = cc in
-      ap (λ (m : Mail). m.to) (sym is) ∙ one.to_is
+      let fact : one.mail ≡ mail = cc in
+      ap (λ (m : Mail). m.to) (sym fact) ∙ one.to_is
 
   -- so its receiver leads, where an order is under way
   taker_leads : leader_sought entry.1 ≡ Some mail.to → (node : NodeState) → IsTaking words births rows seat number mail group node → IsOfGroup words births rows seat event group → IsUnderWay (scene_at births rows)
@@ -144,7 +135,7 @@ module _ (words : ℕ → ℕ → ℕ × ℕ) (births : List (Seat Player)) (row
   taker_leads sought node t of under = leader_led (scene_at births rows) group entry.1 mail.to under (errand_among node t of) sought ∙ ap Some (own_mail node t)
 
   not_beside : (r : ReplicaState) (place : Place) → IsBeside births rows seat event group place → (scene_at births rows).lead group ≡ Some seat.who → ⊥
-  not_beside r place (Led node lead leads ne stops) e = (let same : Some node ≡ Some seat.who = sym (lead_is births rows group node lead leads) ∙ e in let is : node ≡ seat.who = cc in ne is)
+  not_beside r place (Led node lead leads ne stops) e = (let same : Some node ≡ Some seat.who = sym (lead_is births rows group node lead leads) ∙ e in let fact : node ≡ seat.who = cc in ne fact)
   not_beside r place (Unled u) e = no_some (sym (no_lead births rows group u.none) ∙ e)
 
   keeps_beside : leader_sought entry.1 ≡ Some mail.to → (r : ReplicaState) → ComesBeside words births rows seat number mail group r → KeepsStage births rows seat event

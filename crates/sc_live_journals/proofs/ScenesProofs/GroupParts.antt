@@ -72,7 +72,7 @@ module _ (one other : Nodes) (nodes : List ℕ) (who : ℕ) (born : ReplicaState
 
   newest_after : AreBound other Unbound
   newest_after node r has most = elim (cases_eq node who) [
-    | inl e ↦ (let own : Some born ≡ Some r = sym makes ∙ (sym (ap other e) ∙ has) in let is : born ≡ r = cc in subst (λ (x : ReplicaState). bond_of x.group.core ≡ Unbound) is free)
+    | inl e ↦ (let own : Some born ≡ Some r = sym makes ∙ (sym (ap other e) ∙ has) in let fact : born ≡ r = cc in subst (λ (x : ReplicaState). bond_of x.group.core ≡ Unbound) fact free)
     | inr ne ↦ newest node r (sym (same node ne) ∙ has) (λ n x has'. most n x (same n (not_who n x has') ∙ has'))
   ]
 
@@ -110,11 +110,11 @@ module _ (one other : Nodes) (nodes : List ℕ) (who : ℕ) (born : ReplicaState
   runs_by : born.running ≡ true → lead_of one nodes ≡ None → (o : Option ℕ) → lead_of other nodes ≡ o → (bond_by other nodes o ≡ bond_by one nodes None) × (work_at other o ≡ [])
   runs_by runs unled None e = absurd (true≢false (sym (ap is_running makes ∙ runs) ∙ none_runs other nodes who e among))
   runs_by runs unled (Some node) e =
-      let is : node ≡ who = elim (cases_eq node who) [
+      let fact : node ≡ who = elim (cases_eq node who) [
         | inl e' ↦ e'
         | inr ne ↦ absurd (running_one node (sym (ap is_running (same node ne)) ∙ lead_runs other nodes node e) (one node) refl unled)
       ] in
-      let there : other node ≡ Some born = ap other is ∙ makes in
+      let there : other node ≡ Some born = ap other fact ∙ makes in
       (ap bond_there there ∙ (free ∙ sym (newest_bound one nodes Unbound all newest (λ e'. refl))), ap works_of there ∙ idle)
 
   pub running_part : born.running ≡ true → lead_of one nodes ≡ None → SamePart one other nodes

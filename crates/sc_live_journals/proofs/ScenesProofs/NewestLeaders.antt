@@ -11,12 +11,12 @@ use Rattle.sc_live_journals.specs.scenes.Definitions.{is_running, lead_of, later
 module _ (at : ℕ → Option ReplicaState) where
   -- one that runs alone, and is among the nodes, is found
   pub lead_found : (nodes : List ℕ) (node : ℕ) → Among node nodes → is_running (at node) ≡ true → ((other : ℕ) → is_running (at other) ≡ true → other ≡ node) → lead_of at nodes ≡ Some node
-  lead_found [] node is runs alone = absurd is
-  lead_found (first ∷ nodes) node is runs alone =
+  lead_found [] node fact runs alone = absurd fact
+  lead_found (first ∷ nodes) node fact runs alone =
       elim (cases_Bool (is_running (at first))) [
         | inl t ↦ cond-true (is_running (at first)) (Some first) (lead_of at nodes) t ∙ ap Some (alone first t)
         | inr f ↦ cond-false (is_running (at first)) (Some first) (lead_of at nodes) f
-            ∙ lead_found nodes node (elim is [ inl same ↦ absurd (true≢false (sym (ap (λ n. is_running (at n)) same ∙ runs) ∙ f)) | inr more ↦ more ]) runs alone
+            ∙ lead_found nodes node (elim fact [ inl same ↦ absurd (true≢false (sym (ap (λ n. is_running (at n)) same ∙ runs) ∙ f)) | inr more ↦ more ]) runs alone
       ]
 
   all_stopped : (nodes : List ℕ) → ((node : ℕ) → is_running (at node) ≡ false) → Each (λ node. is_running (at node) ≡ false) nodes
@@ -33,11 +33,11 @@ module _ (at : ℕ → Option ReplicaState) where
 
   -- none of the nodes runs where none is found
   pub none_runs : (nodes : List ℕ) (node : ℕ) → lead_of at nodes ≡ None → Among node nodes → is_running (at node) ≡ false
-  none_runs [] node e is = absurd is
-  none_runs (first ∷ nodes) node e is =
+  none_runs [] node e fact = absurd fact
+  none_runs (first ∷ nodes) node e fact =
       elim (cases_Bool (is_running (at first))) [
         | inl t ↦ (let bad : Some first ≡ None = sym (cond-true (is_running (at first)) (Some first) (lead_of at nodes) t) ∙ e in cc)
-        | inr f ↦ elim is [
+        | inr f ↦ elim fact [
           | inl same ↦ ap (λ n. is_running (at n)) (sym same) ∙ f
           | inr more ↦ none_runs nodes node (sym (cond-false (is_running (at first)) (Some first) (lead_of at nodes) f) ∙ e) more
         ]
@@ -68,16 +68,16 @@ IsNewest at nodes (Some r) = IsNewestAt at nodes r
 
 module _ (at : ℕ → Option ReplicaState) where
   next_by : (node : ℕ) (nodes : List ℕ) (here rest : Option ReplicaState) → at node ≡ here → IsNewest at nodes rest → IsNewest at (node ∷ nodes) (later here rest)
-  next_by node nodes None None e new = λ other is. elim is [ inl same ↦ ap at (sym same) ∙ e | inr more ↦ new other more ]
+  next_by node nodes None None e new = λ other fact. elim fact [ inl same ↦ ap at (sym same) ∙ e | inr more ↦ new other more ]
   next_by node nodes None (Some r) e new = record {
     node = new.node;
     there = new.there;
-    most = λ other x is has. elim is [ inl same ↦ (let bad : None ≡ Some x = sym e ∙ (ap at same ∙ has) in cc) | inr more ↦ new.most other x more has ];
+    most = λ other x fact has. elim fact [ inl same ↦ (let bad : None ≡ Some x = sym e ∙ (ap at same ∙ has) in cc) | inr more ↦ new.most other x more has ];
   }
   next_by node nodes (Some r) None e new = record {
     node = node;
     there = e;
-    most = λ other x is has. elim is [
+    most = λ other x fact has. elim fact [
       | inl same ↦ (let own : Some r ≡ Some x = sym e ∙ (ap at same ∙ has) in let is' : r ≡ x = cc in subst (λ (y : ReplicaState). next y ≤ next r) is' (omega arith))
       | inr more ↦ (let bad : None ≡ Some x = sym (new other more) ∙ has in cc)
     ];
@@ -87,7 +87,7 @@ module _ (at : ℕ → Option ReplicaState) where
       (λ t. record {
         node = node;
         there = e;
-        most = λ other x is has. elim is [
+        most = λ other x fact has. elim fact [
           | inl same ↦ (let own : Some r ≡ Some x = sym e ∙ (ap at same ∙ has) in let is' : r ≡ x = cc in subst (λ (y : ReplicaState). next y ≤ next r) is' (omega arith))
           | inr more ↦ (let a = new.most other x more has in let b = leb-true (next old) (next r) t in omega (arith, a, b))
         ];
@@ -95,12 +95,12 @@ module _ (at : ℕ → Option ReplicaState) where
       (λ f. record {
         node = new.node;
         there = new.there;
-        most = λ other x is has. elim is [
+        most = λ other x fact has. elim fact [
           | inl same ↦ (let own : Some r ≡ Some x = sym e ∙ (ap at same ∙ has) in let is' : r ≡ x = cc in let a = leb-false (next old) (next r) f in subst (λ (y : ReplicaState). next y ≤ next old) is' (omega (arith, a)))
           | inr more ↦ new.most other x more has
         ];
       })
 
   pub newest_is : (nodes : List ℕ) → IsNewest at nodes (newest_of at nodes)
-  newest_is [] = λ other is. absurd is
+  newest_is [] = λ other fact. absurd fact
   newest_is (node ∷ nodes) = next_by node nodes (at node) (newest_of at nodes) refl (newest_is nodes)

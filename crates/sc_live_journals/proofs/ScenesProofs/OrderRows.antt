@@ -7,7 +7,7 @@ use Rattle.sc_node_table.specs.Definitions.{NodeState, absent, ReplicaState, Pla
 use Rattle.sc_meaning.specs.sound.Definitions.{Player}
 use Rattle.sc_live_steps.specs.calm.Definitions.{Rows}
 use Rattle.sc_live_steps.specs.orders.Definitions.{Asking, is_watch, Turn, Errand, Question, Elsewhere, Reply, Result, Work, Answers, Records, Ends, IsOnly, Kind, Rests, PassesOn, AsksOn, Files, work_for, Stage, Still, IsUnderWay, Step, Passes, AsksAgain, IsTaken, OfQuestion, OfVote, OfOutcome, LastTakes, OneTakes, TwoTakes, Comes, IsStepOf, ByPassing, ByAsking, ByTaking, StepsBy, bond_of, is_yes, is_cast_yes, works, errand_by, errands_for, Works}
-use Rattle.sc_live_steps.proofs.OrdersProofs.Lemmas.{tables-file, tables-pass, tables-ask-on, passes-step, asks-step, files-step, tables-rest, promises-keep, rests-step}
+use Rattle.sc_live_steps.proofs.OrderStepsProofs.Lemmas.{tables-file, tables-pass, tables-ask-on, passes-step, asks-step, files-step, tables-rest, promises-keep, rests-step}
 use Rattle.sc_live_journals.specs.rows.Definitions.{with_event}
 use Rattle.sc_live_journals.proofs.RowsProofs.Lemmas.{found_name}
 use Rattle.sc_live_journals.specs.scenes.Definitions.{scene_at, errand_in, taken_errand, errands_sent, IsSceneKind, IsOfGroup, IsTablesRow, IsTaking, Stays, IsLeadsRow, IsEventOf, KeepsStage, ComesTo, ComesToLeader, LeadersKeep, IsBeside, Led, Unled, ComesBeside, ComesToNone, AsidesKeep}
@@ -143,14 +143,14 @@ module _ (words : ℕ → ℕ → ℕ × ℕ) (births : List (Seat Player)) (row
 
   none_passes : ComesToNone words births rows seat number mail group → (body : MailBody) → mail.body ≡ body → (entry : Draw × Errand) → errand_by mail.from mail.to body ≡ Some entry → (tx coord : Draw) (watch : Bool) (by : ℕ)
       → entry.1 ≡ Question tx coord watch by mail.to → by ≡ mail.from → ((me : ℕ) → IsOnly [] ((coord, Elsewhere tx mail.from ∷ []) ∷ []) (λ n. errands_for n (absent me mail.from body))) → KeepsStage births rows seat event
-  none_passes c body e entry errand tx coord watch by is from only =
+  none_passes c body e entry errand tx coord watch by fact from only =
       let has : errand_by mail.from mail.to mail.body ≡ Some entry = ap (errand_by mail.from mail.to) e ∙ errand in
       let row = misses words births rows seat number mail group c.node c.taking entry c.none has in
       let sends : (n : Draw) → errands_sent rows seat event n ≡ errands_for n (absent c.node.me mail.from body) = λ n. ap (errands_for n) (row.2 ∙ ap (absent c.node.me mail.from) e) in
       let sent = only_as ((coord, Elsewhere tx mail.from ∷ []) ∷ []) (λ n. errands_for n (absent c.node.me mail.from body)) (errands_sent rows seat event) sends (only c.node.me) in
       steps_by PassesOn Passes passes-step passes_on words births rows seat event group row.0 (event_of c.node c.taking)
       (asides_are.passes births rows seat event group tx coord watch by mail.to (asides_stay.missed births rows seat event group row.1)
-      (ap (λ o. option_map (λ x. x.1) (errand_in o)) c.taking.sent ∙ (ap (option_map (λ x. x.1)) has ∙ ap Some is))
+      (ap (λ o. option_map (λ x. x.1) (errand_in o)) c.taking.sent ∙ (ap (option_map (λ x. x.1)) has ∙ ap Some fact))
       (subst (λ n. IsOnly [] ((coord, Elsewhere tx n ∷ []) ∷ []) (errands_sent rows seat event)) (sym from) sent))
 
 -- An order stays under way where its leader takes a question on which no vote stands, a vote for which it waits, the outcome of the transaction that binds it, or that it is to ask elsewhere; and where it is asked to accept or to promise, or is promised.

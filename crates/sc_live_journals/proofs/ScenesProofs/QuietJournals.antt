@@ -13,7 +13,7 @@ use Rattle.sc_live_steps.specs.orders.Definitions.{Unbound, Errand, bond_in as b
 use Rattle.sc_live_journals.specs.rows.Definitions.{view_at}
 use Rattle.sc_live_orderly.proofs.Lemmas.{in_time_before, in_time_tidy, last_in_time, quiet-empty}
 use Rattle.sc_live_steps.specs.calm.Definitions.{players, Rows}
-use Rattle.sc_live_steps.proofs.OrdersProofs.Lemmas.{still-only, quiet-still, left_none as left_empty, right_none as right_empty}
+use Rattle.sc_live_steps.proofs.OrderStepsProofs.Lemmas.{still-only, quiet-still, left_none as left_empty, right_none as right_empty}
 use Rattle.sc_live_journals.specs.scenes.Definitions.{is_running, lead_of, works_of, work_at, scene_at, StageAfter, GoesToActor, HasNothing, QuietScenesAreOver, IsWork, WorksFlyLone, OrdersBeginInQuiet}
 use Rattle.sc_live_journals.proofs.ScenesProofs.VotesAndOrders.{orders_keep}
 use Rattle.sc_live_journals.proofs.ScenesProofs.UntakenMail.{errands-append}
@@ -94,17 +94,17 @@ none_long [] le = refl
 none_long (x ∷ xs) le = absurd (omega (arith, le))
 
 one_long : {X : Type 0} (xs : List X) (x : X) → Among x xs → length xs ≤ 1 → xs ≡ x ∷ []
-one_long [] x is le = absurd is
-one_long (y ∷ xs) x is le =
+one_long [] x fact le = absurd fact
+one_long (y ∷ xs) x fact le =
     let none : xs ≡ [] = none_long xs (omega (arith, le)) in
-    elim is [
+    elim fact [
       | inl e ↦ ap (λ z. z ∷ xs) e ∙ ap (λ l. x ∷ l) none
       | inr more ↦ absurd (subst (λ l. Among x l) none more)
     ]
 
 some_long : {X : Type 0} (xs : List X) (x : X) → Among x xs → 1 ≤ length xs
-some_long [] x is = absurd is
-some_long (y ∷ xs) x is = omega arith
+some_long [] x fact = absurd fact
+some_long (y ∷ xs) x fact = omega arith
 
 -- The one work of a leader flies alone, where neither calls nor fillers are under way there, and something is in flight at its next slot.
 pub fly_lone : WorksFlyLone

@@ -50,12 +50,12 @@ module _ (births : List (Seat Player)) (rows : Rows) (seat : Seat Player) (event
 
   module _ (r : ReplicaState) (after : Place) (table : IsTablesRow births rows seat event name r after) where
     own_is : (node : ℕ) (x : ReplicaState) → node ≡ seat.who → other node ≡ Some x → after.0 ≡ x
-    own_is node x e has = (let own : Some after.0 ≡ Some x = sym table.is ∙ (sym (ap other e) ∙ has) in cc)
+    own_is node x e has = (let own : Some after.0 ≡ Some x = sym table.fact ∙ (sym (ap other e) ∙ has) in cc)
 
     -- who leads alone, and runs on, leads alone
     pub leads_on : LeadsAlone births rows name seat.who r → after.0.running ≡ true → LeadsAlone births after_rows name seat.who after.0
     leads_on leads runs = record {
-      is_there = table.is;
+      is_there = table.fact;
       running = runs;
       alone = λ node x has running. elim (cases_eq node seat.who) [ inl e ↦ e | inr ne ↦ leads.alone node x (sym (others_same node ne) ∙ has) running ];
     }
@@ -77,7 +77,7 @@ module _ (births : List (Seat Player)) (rows : Rows) (seat : Seat Player) (event
     -- who is elected leads alone
     elected_alone : NoneRuns births rows name → after.0.running ≡ true → LeadsAlone births after_rows name seat.who after.0
     elected_alone none runs = record {
-      is_there = table.is;
+      is_there = table.fact;
       running = runs;
       alone = λ node x has running. elim (cases_eq node seat.who) [ inl e ↦ e | inr ne ↦ absurd (true≢false (sym running ∙ none node x (sym (others_same node ne) ∙ has))) ];
     }
@@ -96,28 +96,28 @@ module _ (births : List (Seat Player)) (rows : Rows) (seat : Seat Player) (event
     aside_stays : (node : ℕ) (lead : ReplicaState) → LeadsAlone births rows name node lead → (node ≡ seat.who → ⊥) → after.0.running ≡ false → Stays births rows seat event name
     aside_stays node lead leads ne stops =
         let was = tell.led births rows name node lead leads in
-        let is = tell.led births after_rows name node lead (aside_leads node lead leads ne stops) in
+        let fact = tell.led births after_rows name node lead (aside_leads node lead leads ne stops) in
         record {
-          bond = is.1.0 ∙ sym was.1.0;
-          work = is.1.1 ∙ sym was.1.1;
-          leads = λ n e. is.0 ∙ (sym was.0 ∙ e);
+          bond = fact.1.0 ∙ sym was.1.0;
+          work = fact.1.1 ∙ sym was.1.1;
+          leads = λ n e. fact.0 ∙ (sym was.0 ∙ e);
         }
 
     unled_stays : IsUnled births rows seat event name after.0 → Stays births rows seat event name
     unled_stays u =
         let was = tell.idle births rows name u.bond seat.who r u.none u.was table.was in
         elim (cases_Bool after.0.running) [
-          | inl t ↦ (let is = tell.led births after_rows name seat.who after.0 (elected_alone u.none t) in
+          | inl t ↦ (let fact = tell.led births after_rows name seat.who after.0 (elected_alone u.none t) in
               let e = u.elected t in
               record {
-                bond = is.1.0 ∙ (e.1 ∙ sym was.1.0);
-                work = is.1.1 ∙ (e.0 ∙ sym was.1.1);
+                bond = fact.1.0 ∙ (e.1 ∙ sym was.1.0);
+                work = fact.1.1 ∙ (e.0 ∙ sym was.1.1);
                 leads = λ n e'. (let bad : None ≡ Some n = sym was.0 ∙ e' in cc);
               })
-          | inr f ↦ (let is = tell.idle births after_rows name u.bond seat.who after.0 (none_still u.none f) u.has table.is in
+          | inr f ↦ (let fact = tell.idle births after_rows name u.bond seat.who after.0 (none_still u.none f) u.has table.fact in
               record {
-                bond = is.1.0 ∙ sym was.1.0;
-                work = is.1.1 ∙ sym was.1.1;
+                bond = fact.1.0 ∙ sym was.1.0;
+                work = fact.1.1 ∙ sym was.1.1;
                 leads = λ n e'. (let bad : None ≡ Some n = sym was.0 ∙ e' in cc);
               })
         ]
@@ -141,15 +141,15 @@ module _ (births : List (Seat Player)) (rows : Rows) (seat : Seat Player) (event
   led : (done : List Work) (sent : List (Draw × List Errand)) (r : ReplicaState) (after : Place) → IsLeadsRow births rows seat event name done sent r after → Led done sent r
   led done sent r after row =
       let was = tell.led births rows name seat.who r row.leads in
-      let is = tell.led births after_rows name seat.who after.0 (leads_on r after row.table row.leads (row.works_so.running ∙ row.leads.running)) in
+      let fact = tell.led births after_rows name seat.who after.0 (leads_on r after row.table row.leads (row.works_so.running ∙ row.leads.running)) in
       record {
-        bond = is.1.0 ∙ (ap (λ g. bond_of g.core) row.works_so.group ∙ sym was.1.0);
+        bond = fact.1.0 ∙ (ap (λ g. bond_of g.core) row.works_so.group ∙ sym was.1.0);
         was_bond = was.1.0;
-        work = is.1.1 ∙ row.works_so.work;
+        work = fact.1.1 ∙ row.works_so.work;
         was_work = was.1.1;
         lead = was.0;
-        lead_after = is.0;
-        goes = λ n e. is.0 ∙ (sym was.0 ∙ e);
+        lead_after = fact.0;
+        goes = λ n e. fact.0 ∙ (sym was.0 ∙ e);
         sends = sends_as r after row.table sent row.works_so.sends;
       }
 
@@ -168,8 +168,8 @@ module _ (births : List (Seat Player)) (rows : Rows) (seat : Seat Player) (event
   ran work bond sent r after row =
       let was = tell.led births rows name seat.who r row.leads in
       let parts : ((then_.at name).bond ≡ bond) × ((then_.at name).work ≡ []) = elim (cases_Bool after.0.running) [
-        | inl t ↦ (let is = tell.led births after_rows name seat.who after.0 (leads_on r after row.table row.leads t) in (is.1.0 ∙ row.bound, is.1.1 ∙ row.has))
-        | inr f ↦ (let is = tell.idle births after_rows name bond seat.who after.0 (stops_alone r after row.table row.leads f) (row.newest f) row.table.is in (is.1.0, is.1.1))
+        | inl t ↦ (let fact = tell.led births after_rows name seat.who after.0 (leads_on r after row.table row.leads t) in (fact.1.0 ∙ row.bound, fact.1.1 ∙ row.has))
+        | inr f ↦ (let fact = tell.idle births after_rows name bond seat.who after.0 (stops_alone r after row.table row.leads f) (row.newest f) row.table.fact in (fact.1.0, fact.1.1))
       ] in
       record {
         execution = record { takes = row.none; had = was.1.1 ∙ row.had; has = parts.1 };
@@ -211,13 +211,13 @@ pub leaders_are : LeadersAre
 leaders_are = record {
   rests = λ births rows seat event name r after row none.
       (let l = led births rows seat event name (works r) [] r after row in record { takes = none; bond = l.bond; work = l.work ∙ sym l.was_work; leads = l.goes; sends = l.sends });
-  told = λ births rows seat event name order r after row idle is none.
+  told = λ births rows seat event name order r after row idle fact none.
       (let l = led births rows seat event name (order ∷ []) [] r after row in
       record {
         takes = none;
         bond = l.bond;
         order = order;
-        is_order = is;
+        is_order = fact;
         work = l.work ∙ sym (ap (λ w. w ++ order ∷ []) (l.was_work ∙ idle));
         chief = seat.who;
         leads = l.lead_after;
@@ -259,9 +259,9 @@ leaders_are = record {
 -- A row in which the leader alone executes the command that was its one work is of the kind of its entry, by the bond that this leaves and the errands that it sends.
 pub entries_are : EntriesAre
 entries_are = record {
-  changed = λ births rows seat event name order r after row is.
+  changed = λ births rows seat event name order r after row fact.
       (let x = ran births rows seat event name order (bond_of r.group.core) [] r after row in
-      record { order = order; is_order = is; execution = x.execution; bond = x.bond_is ∙ sym x.was_bond; sends = x.sends });
+      record { order = order; is_order = fact; execution = x.execution; bond = x.bond_is ∙ sym x.was_bond; sends = x.sends });
   opened = λ births rows seat event name tx asked watch node r after row runs apart.
       (let x = ran births rows seat event name (Opens tx) (Asking tx asked (cond watch Lone First)) ((asked, Question tx name watch seat.who node ∷ []) ∷ []) r after row in
       record { tx = tx; asked = asked; watch = watch; chief = seat.who; node = node; execution = x.execution; bond = x.bond_is; apart = apart; led = x.lead; leads = x.goes runs; sends = x.sends });

@@ -12,7 +12,7 @@ use Rattle.sc_node_table.specs.Definitions.{NodeState, replica_of, group_of_mail
 use Rattle.sc_meaning.specs.sound.Definitions.{Player, player_table, births}
 use Rattle.sc_live_steps.specs.calm.Definitions.{players, Rows}
 use Rattle.sc_live_steps.specs.orders.Definitions.{Unbound, Bound, Errand, Question, Elsewhere, Reply, Result, Answers, Here, IsOnly, IsTaken, Comes, IsUnderWay, IsUnbound, MayFile, bond_of, errand_by, errands_for, is_yes, is_cast_yes}
-use Rattle.sc_live_steps.proofs.OrdersProofs.Lemmas.{tables-file, errands-none}
+use Rattle.sc_live_steps.proofs.OrderStepsProofs.Lemmas.{tables-file, errands-none}
 use Rattle.sc_live_journals.specs.rows.Definitions.{IsSeat, with_event}
 use Rattle.sc_live_journals.specs.scenes.Definitions.{IsAsking, IsWaiting, Expects, IsOrdered, LeaderFinds, BesideFinds, FindsReplica, AtLeader, AtAnother, NodeFinds, FindsFlight, Late, Leaves, Changed, Opened, Voted, Aborted, Decided, Heard, Ended, FindsQuiet, ByLeader, ByAnother, FindsOrder, FoundOrdersStep, KeepsStage, ComesTo, ComesToLeader, ComesBeside, ComesToNone, scene_at, IsTaking}
 use Rattle.sc_live_journals.proofs.ScenesProofs.AnswersAndLateMail.{asked_keep}
@@ -56,8 +56,8 @@ module _ (words : ℕ → ℕ → ℕ × ℕ) (births : List (Seat Player)) (row
     flight_found : (named : Draw) (ballot : Ballot) (slot : ℕ) → mail.body ≡ Accepted named ballot slot → FindsFlight births rows seat number mail group r slot → KeepsStage births rows seat (Deliver number)
     flight_found named ballot slot e (Late none) = asked_keep.vote_late words births rows seat number mail group r named ballot slot c e none
     flight_found named ballot slot e (Leaves works_so) = lead_rests words births rows seat number mail group r c mail.body refl (ap (λ b. option_map (λ (x : Draw × Errand). x.1) (errand_by mail.from mail.to b)) e) works_so
-    flight_found named ballot slot e (Changed flight order flies me entry is) =
-        votes_keep.changed words births rows seat number mail group flight r order (record { comes = c; named = named; ballot = ballot; slot = slot; body = e; flies = flies; me_is = me }) entry is
+    flight_found named ballot slot e (Changed flight order flies me entry fact) =
+        votes_keep.changed words births rows seat number mail group flight r order (record { comes = c; named = named; ballot = ballot; slot = slot; body = e; flies = flies; me_is = me }) entry fact
     flight_found named ballot slot e (Opened flight tx asked watch node flies me entry stays apart) =
         votes_keep.opened words births rows seat number mail group flight r tx asked watch node (record { comes = c; named = named; ballot = ballot; slot = slot; body = e; flies = flies; me_is = me }) entry stays apart
     flight_found named ballot slot e (Voted flight tx coord watch agreed by flies me entry unbound stays willing) =
@@ -195,46 +195,46 @@ module _ (words : ℕ → ℕ → ℕ × ℕ) (births : List (Seat Player)) (row
 
 module _ (words : ℕ → ℕ → ℕ × ℕ) (births : List (Seat Player)) (rows : Rows) (seat : Seat Player) (born : IsSeat births seat) where
   module _ (number : ℕ) (timely : AreInTime (players words births) (with_event rows seat (Deliver number))) (finds : FindsOrder words births rows seat (Deliver number)) (node : NodeState)
-      (is : value player_table seat rows ≡ Node node) (mail : Mail) (at : numbered (mails rows) number ≡ Some mail) where
+      (fact : value player_table seat rows ≡ Node node) (mail : Mail) (at : numbered (mails rows) number ≡ Some mail) where
     taken_found : (group : Draw) (o : Option ReplicaState) → replica_of group node.replicas ≡ o → IsTaking words births rows seat number mail group node → KeepsStage births rows seat (Deliver number)
     taken_found group None e t = node_found words births rows seat number mail group (record { node = node; taking = t; none = e }) mail.body refl (finds.missed number mail group node refl t e)
     taken_found group (Some r) e t =
         (let f = finds.here number mail group node r refl t e in replica_found words births rows seat number mail group r (record { node = node; taking = t; here = e; children = f.0 }) f.1)
 
     mail_found : (b : Bool) → may_come mail.from mail.body ≡ b → (o : Option Draw) → group_of_mail mail.body ≡ o → KeepsStage births rows seat (Deliver number)
-    mail_found false bar o e = others_keep.barred words births rows seat number mail node born timely is at bar (finds.barred node number mail refl is at bar)
-    mail_found true comes None e = others_keep.stray words births rows seat number mail node born timely is at e
+    mail_found false bar o e = others_keep.barred words births rows seat number mail node born timely fact at bar (finds.barred node number mail refl fact at bar)
+    mail_found true comes None e = others_keep.stray words births rows seat number mail node born timely fact at e
     mail_found true comes (Some group) e =
         taken_found group (replica_of group node.replicas) refl
-        (record { seated = born; timely = timely; is_node = is; me_is = finds.me_is node is; sent = at; comes = comes; named = e })
+        (record { seated = born; timely = timely; is_node = fact; me_is = finds.me_is node fact; sent = at; comes = comes; named = e })
 
   told_found : (line : OrderLine) → AreInTime (players words births) (with_event rows seat (Told line)) → FindsOrder words births rows seat (Told line) → (node : NodeState) → value player_table seat rows ≡ Node node
       → (o : Option ReplicaState) → replica_of (group_of_order line.order) node.replicas ≡ o → KeepsStage births rows seat (Told line)
-  told_found line timely finds node is None e = others_keep.refused words births rows seat line node born timely is e
-  told_found line timely finds node is (Some r) e = by (finds.told line node r refl (record { seated = born; timely = timely; is_node = is; here = e }))
+  told_found line timely finds node fact None e = others_keep.refused words births rows seat line node born timely fact e
+  told_found line timely finds node fact (Some r) e = by (finds.told line node r refl (record { seated = born; timely = timely; is_node = fact; here = e }))
     where
       ordered : IsOrdered words births rows seat line node r
-      ordered = record { seated = born; timely = timely; is_node = is; here = e }
+      ordered = record { seated = born; timely = timely; is_node = fact; here = e }
 
       by : FindsQuiet words births rows seat line node r → KeepsStage births rows seat (Told line)
       by (ByLeader leads unbound goes rests) = begin_in_quiet words births rows seat line node r ordered leads unbound goes rests
       by (ByAnother why beside refused) = orders_keep.beside words births rows seat line node r why ordered beside refused
 
   node_keeps : (event : Event OrderLine) → AreInTime (players words births) (with_event rows seat event) → FindsOrder words births rows seat event → (node : NodeState) → value player_table seat rows ≡ Node node → KeepsStage births rows seat event
-  node_keeps (Deliver number) timely finds node is =
+  node_keeps (Deliver number) timely finds node fact =
       (let calm = (last_in_time (players words births) rows (row_of player_table seat rows (Deliver number)) timely).0 in
       let one = takes_one words births rows seat.who number (calm_is words births rows seat (Deliver number) calm) in
-      mail_found number timely finds node is one.mail one.sent (may_come one.mail.from one.mail.body) refl (group_of_mail one.mail.body) refl)
-  node_keeps Go timely finds node is = others_keep.go words births rows seat node born timely is
-  node_keeps (Told line) timely finds node is = told_found line timely finds node is (replica_of (group_of_order line.order) node.replicas) refl
-  node_keeps Tick timely finds node is = absurd (calm_is words births rows seat Tick (last_in_time (players words births) rows (row_of player_table seat rows Tick) timely).0)
-  node_keeps Crash timely finds node is = absurd (calm_is words births rows seat Crash (last_in_time (players words births) rows (row_of player_table seat rows Crash) timely).0)
-  node_keeps (Drop mail) timely finds node is = absurd (calm_is words births rows seat (Drop mail) (last_in_time (players words births) rows (row_of player_table seat rows (Drop mail)) timely).0)
-  node_keeps (Again mail) timely finds node is = absurd (calm_is words births rows seat (Again mail) (last_in_time (players words births) rows (row_of player_table seat rows (Again mail)) timely).0)
+      mail_found number timely finds node fact one.mail one.sent (may_come one.mail.from one.mail.body) refl (group_of_mail one.mail.body) refl)
+  node_keeps Go timely finds node fact = others_keep.go words births rows seat node born timely fact
+  node_keeps (Told line) timely finds node fact = told_found line timely finds node fact (replica_of (group_of_order line.order) node.replicas) refl
+  node_keeps Tick timely finds node fact = absurd (calm_is words births rows seat Tick (last_in_time (players words births) rows (row_of player_table seat rows Tick) timely).0)
+  node_keeps Crash timely finds node fact = absurd (calm_is words births rows seat Crash (last_in_time (players words births) rows (row_of player_table seat rows Crash) timely).0)
+  node_keeps (Drop mail) timely finds node fact = absurd (calm_is words births rows seat (Drop mail) (last_in_time (players words births) rows (row_of player_table seat rows (Drop mail)) timely).0)
+  node_keeps (Again mail) timely finds node fact = absurd (calm_is words births rows seat (Again mail) (last_in_time (players words births) rows (row_of player_table seat rows (Again mail)) timely).0)
 
   player_keeps : (event : Event OrderLine) → AreInTime (players words births) (with_event rows seat event) → FindsOrder words births rows seat event → (player : Player) → value player_table seat rows ≡ player → KeepsStage births rows seat event
-  player_keeps event timely finds (Node node) is = node_keeps event timely finds node is
-  player_keeps event timely finds (Client client) is = others_keep.client words births rows seat event client born timely is (finds.client client is)
+  player_keeps event timely finds (Node node) fact = node_keeps event timely finds node fact
+  player_keeps event timely finds (Client client) fact = others_keep.client words births rows seat event client born timely fact (finds.client client fact)
 
 found_keeps : (words : ℕ → ℕ → ℕ × ℕ) (births : List (Seat Player)) (rows : Rows) (seat : Seat Player) (event : Event OrderLine) → IsSeat births seat → AreInTime (players words births) (with_event rows seat event)
     → FindsOrder words births rows seat event → KeepsStage births rows seat event

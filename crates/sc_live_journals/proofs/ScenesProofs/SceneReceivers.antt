@@ -13,7 +13,7 @@ use Rattle.sc_live_orderly.specs.Definitions.{AreInTime}
 use Rattle.sc_node_table.specs.Definitions.{NodeState, replica_of, with_replica, with_new, with_born, with_children, group_of_mail, unknown, on_mail, absent, group_of_order, ordered_of, on_order, ordered_row, ReplicaState, Executed, born_replica, mailed, slots_ahead}
 use Rattle.sc_meaning.specs.sound.Definitions.{Player, player_table}
 use Rattle.sc_live_steps.specs.calm.Definitions.{players, Rows}
-use Rattle.sc_live_steps.proofs.CalmProofs.Lemmas.{put_others}
+use Rattle.sc_live_steps.proofs.CalmStepsProofs.Lemmas.{put_others}
 use Rattle.sc_live_steps.specs.orders.Definitions.{Errand, errand_by}
 use Rattle.sc_live_journals.specs.rows.Definitions.{replicas_of, view_at, IsSeat, with_event}
 use Rattle.sc_live_journals.proofs.RowsProofs.Lemmas.{names_stay, found_name, rows_replicas, view_was, view_is, sent_is, new_is}
@@ -42,8 +42,8 @@ errand_unknown from to _ node entry e = refl
 own_group : (rows : Rows) (number : ℕ) (mail : Mail) (group : Draw) → numbered (mails rows) number ≡ Some mail → group_of_mail mail.body ≡ Some group → (entry : Draw × Errand)
     → errand_taken (mails rows) (Deliver number) ≡ Some entry → entry.0 ≡ group
 own_group rows number mail group at named entry e =
-    let is : errand_by mail.from mail.to mail.body ≡ Some entry = sym (ap errand_in at) ∙ e in
-    let same : Some entry.0 ≡ Some group = sym (errand_group mail.from mail.to mail.body entry is) ∙ named in
+    let fact : errand_by mail.from mail.to mail.body ≡ Some entry = sym (ap errand_in at) ∙ e in
+    let same : Some entry.0 ≡ Some group = sym (errand_group mail.from mail.to mail.body entry fact) ∙ named in
     cc
 
 -- ---- children
@@ -68,13 +68,13 @@ module _ (who : ℕ) where
   ]
 
   first_of : (child : Base) (children : List Base) (x : Base) → Among x (child ∷ []) → Among x (child ∷ children)
-  first_of child children x is = elim is [ inl e ↦ inl e | inr bad ↦ absurd bad ]
+  first_of child children x fact = elim fact [ inl e ↦ inl e | inr bad ↦ absurd bad ]
 
   then_of : (name : Draw) (child : Base) (children : List Base) (now between before : Option ReplicaState) → OneOf name who (child ∷ []) between before → OneOf name who children now between → OneOf name who (child ∷ children) now before
   then_of name child children now between before (inl e) (inl f) = inl (f ∙ e)
-  then_of name child children now between before (inl e) (inr (x, is, id, none, makes)) = inr (x, inr is, id, sym e ∙ none, makes)
-  then_of name child children now between before (inr (x, is, id, none, makes)) (inl f) = inr (x, first_of child children x is, id, none, f ∙ makes)
-  then_of name child children now between before (inr (x, is, id, none, makes)) (inr (y, is', id', none', makes')) = (let bad : None ≡ Some (born_replica slots_ahead who x) = sym none' ∙ makes in cc)
+  then_of name child children now between before (inl e) (inr (x, fact, id, none, makes)) = inr (x, inr fact, id, sym e ∙ none, makes)
+  then_of name child children now between before (inr (x, fact, id, none, makes)) (inl f) = inr (x, first_of child children x fact, id, none, f ∙ makes)
+  then_of name child children now between before (inr (x, fact, id, none, makes)) (inr (y, is', id', none', makes')) = (let bad : None ≡ Some (born_replica slots_ahead who x) = sym none' ∙ makes in cc)
 
   pub all_children : (name : Draw) (children : List Base) (node : NodeState) → node.me ≡ who → OneOf name who children (replica_of name (with_children children node).replicas) (replica_of name node.replicas)
   unfolding with_children
@@ -85,16 +85,16 @@ module _ (who : ℕ) where
 
 -- ---- rows
 
-module _ (births : List (Seat Player)) (rows : Rows) (seat : Seat Player) (event : Event OrderLine) (node : NodeState) (born : IsSeat births seat) (is : value player_table seat rows ≡ Node node) (step : NodeState × List Mail)
+module _ (births : List (Seat Player)) (rows : Rows) (seat : Seat Player) (event : Event OrderLine) (node : NodeState) (born : IsSeat births seat) (fact : value player_table seat rows ≡ Node node) (step : NodeState × List Mail)
     (o : Option (Input Mail OrderLine)) (input : input_of (mails rows) event ≡ o) (does : acted player_table (Node node) o ≡ (Node step.0, step.1)) where
   pub now_is : (name : Draw) → view_at births (with_event rows seat event) name seat.who ≡ replica_of name step.0.replicas
-  now_is name = view_is births rows seat event name born (Node node) is o input ∙ ap (λ (x : Player × List Mail). replica_of name (replicas_of x.0)) does
+  now_is name = view_is births rows seat event name born (Node node) fact o input ∙ ap (λ (x : Player × List Mail). replica_of name (replicas_of x.0)) does
 
   pub was_is : (name : Draw) → view_at births rows name seat.who ≡ replica_of name node.replicas
-  was_is name = view_was births rows seat event name born (Node node) is
+  was_is name = view_was births rows seat event name born (Node node) fact
 
   pub all_sent : (row_of player_table seat rows event).sent ≡ step.1
-  all_sent = sent_is births rows seat event (replicas_name) born (Node node) is o input ∙ ap (λ (x : Player × List Mail). x.1) does
+  all_sent = sent_is births rows seat event (replicas_name) born (Node node) fact o input ∙ ap (λ (x : Player × List Mail). x.1) does
     where
       replicas_name : Draw
       replicas_name = record { node = 0; count = 0 }
@@ -135,7 +135,7 @@ module _ (words : ℕ → ℕ → ℕ × ℕ) (births : List (Seat Player)) (row
             let stays : replica_of other put.replicas ≡ replica_of other node.replicas = put_others group other after.0.0 node.replicas (names_stay.mailed mail.from mail.body r ∙ name) ne in
             creates_by births rows seat (Deliver number) node t.seated t.is_node step (Some (Got mail)) got does other after.1 may
             (subst (λ (x : Option ReplicaState). OneOf other seat.who after.1 (replica_of other step.0.replicas) x) stays (all_children seat.who other after.1 put t.me_is))),
-        record { was = row.was; is = row.is; sends = all_sent births rows seat (Deliver number) node t.seated t.is_node step (Some (Got mail)) got does },
+        record { was = row.was; fact = row.fact; sends = all_sent births rows seat (Deliver number) node t.seated t.is_node step (Some (Got mail)) got does },
       )
 
   pub misses : (entry : Draw × Errand) → replica_of group node.replicas ≡ None → errand_by mail.from mail.to mail.body ≡ Some entry
@@ -153,22 +153,22 @@ module _ (words : ℕ → ℕ → ℕ × ℕ) (births : List (Seat Player)) (row
 orders : (words : ℕ → ℕ → ℕ × ℕ) (births : List (Seat Player)) (rows : Rows) (seat : Seat Player) (line : OrderLine) (node : NodeState) (r : ReplicaState)
     → IsSeat births seat → AreInTime (players words births) (with_event rows seat (Told line)) → value player_table seat rows ≡ Node node → replica_of (group_of_order line.order) node.replicas ≡ Some r
     → IsOfGroup words births rows seat (Told line) (group_of_order line.order) × IsTablesRow births rows seat (Told line) (group_of_order line.order) r (ordered_row node.draws line (r, []))
-orders words births rows seat line node r born timely is here =
+orders words births rows seat line node r born timely fact here =
     let group = group_of_order line.order in
     let step : NodeState × List Mail = ordered_of (Some r) line node in
     let e : on_order line node ≡ step = ap (λ o. ordered_of o line node) here in
     let does : acted player_table (Node node) (Some (ToldInput line)) ≡ (Node step.0, step.1) = ap (λ (x : NodeState × List Mail). (Node x.0, x.1)) e in
-    let row = rows_replicas.ordered births rows seat line node r born is here in
+    let row = rows_replicas.ordered births rows seat line node r born fact here in
     let name = found_name group node.replicas r here in (
       record {
         seated = born;
         timely = timely;
         own = λ entry bad. cc;
-        others = λ other ne. inl (now_is births rows seat (Told line) node born is step (Some (ToldInput line)) refl does other
+        others = λ other ne. inl (now_is births rows seat (Told line) node born fact step (Some (ToldInput line)) refl does other
             ∙ (put_others group other (ordered_row node.draws line (r, [])).0 node.replicas (names_stay.ordered node.draws line r ∙ name) ne
-            ∙ sym (was_is births rows seat (Told line) node born is step (Some (ToldInput line)) refl does other)));
+            ∙ sym (was_is births rows seat (Told line) node born fact step (Some (ToldInput line)) refl does other)));
       },
-      record { was = row.was; is = row.is; sends = all_sent births rows seat (Told line) node born is step (Some (ToldInput line)) refl does },
+      record { was = row.was; fact = row.fact; sends = all_sent births rows seat (Told line) node born fact step (Some (ToldInput line)) refl does },
     )
 
 -- The row in which a node takes a mail or an order is one of that group, and what it does and sends is what the table of the replica there says; without one it answers an errand so.

@@ -12,7 +12,7 @@ use Rattle.sc_live_orderly.proofs.Lemmas.{last_in_time}
 use Rattle.sc_node_table.specs.Definitions.{ReplicaState, listed, born_replica, slots_ahead}
 use Rattle.sc_meaning.specs.sound.Definitions.{Player, player_table}
 use Rattle.sc_live_steps.specs.calm.Definitions.{players, Rows}
-use Rattle.sc_live_steps.proofs.CalmProofs.Lemmas.{apart}
+use Rattle.sc_live_steps.proofs.CalmStepsProofs.Lemmas.{apart}
 use Rattle.sc_live_steps.specs.orders.Definitions.{Errand, Unbound, IsRow, bond_in as bond_by_lock, bond_of, errand_by, errand_for, errands_for}
 use Rattle.sc_live_journals.specs.rows.Definitions.{view_at, IsSeat, with_event}
 use Rattle.sc_live_journals.specs.scenes.Definitions.{scene_at, left_after, errand_in, errand_taken, taken_errand, errands_sent, IsSceneKind, Creates, LeavesOrMakes, IsOfGroup, RowsAreOfScenes}
@@ -67,15 +67,15 @@ module _ (words : ℕ → ℕ → ℕ × ℕ) (births : List (Seat Player)) (row
   mail_row number name own one =
       let mail = one.mail in
       let o = errand_by mail.from mail.to mail.body in
-      let is : errand_taken (mails rows) (Deliver number) ≡ o = ap errand_in one.sent in
-      let fits : (entry : Draw × Errand) → o ≡ Some entry → entry.0 ≡ name = λ entry e. own entry (is ∙ e) in
+      let fact : errand_taken (mails rows) (Deliver number) ≡ o = ap errand_in one.sent in
+      let fits : (entry : Draw × Errand) → o ≡ Some entry → entry.0 ≡ name = λ entry e. own entry (fact ∙ e) in
       let before = one.takes.before in
       let behind = one.takes.behind in
       record {
         before = errands_for name before;
         behind = errands_for name behind;
         takes = ap (errands_for name) one.takes.had_is ∙ (errands-append name before (mail ∷ behind)
-            ∙ ap (λ l. errands_for name before ++ (l ++ errands_for name behind)) (own_errand name o fits ∙ ap (λ x. listed (option_map (λ entry. entry.1) x)) (sym is)));
+            ∙ ap (λ l. errands_for name before ++ (l ++ errands_for name behind)) (own_errand name o fits ∙ ap (λ x. listed (option_map (λ entry. entry.1) x)) (sym fact)));
         own = after_is (Deliver number) name
             ∙ ap (λ l. l ++ errands_sent rows seat (Deliver number) name) (ap (errands_for name) one.takes.has_is ∙ errands-append name before behind);
         others = λ other ne. after_is (Deliver number) other
@@ -126,8 +126,8 @@ module _ (words : ℕ → ℕ → ℕ × ℕ) (births : List (Seat Player)) (row
   pub calm_is : (event : Event OrderLine) → IsCalmRow (players words births) rows (row_of player_table seat rows event) → IsCalmEvent (players words births) rows seat.who event
   calm_is event calm =
       let who : calm.seat.who ≡ seat.who = sym (ap (λ (r : Row Mail OrderLine). r.who) calm.row_is) in
-      let is : calm.event ≡ event = sym (ap (λ (r : Row Mail OrderLine). r.event) calm.row_is) in
-      subst (λ (e : Event OrderLine). IsCalmEvent (players words births) rows seat.who e) is (subst (λ n. IsCalmEvent (players words births) rows n calm.event) who calm.calm)
+      let fact : calm.event ≡ event = sym (ap (λ (r : Row Mail OrderLine). r.event) calm.row_is) in
+      subst (λ (e : Event OrderLine). IsCalmEvent (players words births) rows seat.who e) fact (subst (λ n. IsCalmEvent (players words births) rows n calm.event) who calm.calm)
 
   row_by : (event : Event OrderLine) (name : Draw) → IsOfGroup words births rows seat event name → ErrandRow name (taken_errand (mails rows) event) Now (After event) (errands_sent rows seat event)
       → IsSceneKind IsRow births rows seat event name
@@ -137,7 +137,7 @@ module _ (words : ℕ → ℕ → ℕ × ℕ) (births : List (Seat Player)) (row
     takes = e.takes;
     own = e.own;
     others = λ other ne. here_is other (other_part event other g.seated (g.others other ne)) (e.others other ne);
-    leads = λ other node ne is. (other_part event other g.seated (g.others other ne)).leads node is;
+    leads = λ other node ne fact. (other_part event other g.seated (g.others other ne)).leads node fact;
   }
     where
       here_is : (other : Draw) → SamePart (view_at births rows other) (view_at births (with_event rows seat event) other) (numbers_of births) → After event other ≡ Now other ++ errands_sent rows seat event other

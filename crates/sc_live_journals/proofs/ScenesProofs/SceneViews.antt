@@ -14,8 +14,8 @@ use Rattle.sc_live_journals.proofs.ScenesProofs.NewestLeaders.{lead_found, lead_
 use Rattle.sc_live_journals.proofs.ScenesProofs.GroupParts.{AreAll, newest_bound, newest_some}
 
 number_among : (births : List (Seat Player)) (seat : Seat Player) → Among seat births → Among seat.who (numbers_of births)
-number_among [] seat is = absurd is
-number_among (first ∷ births) seat is = elim is [ inl same ↦ inl (ap (λ (s : Seat Player). s.who) same) | inr more ↦ inr (number_among births seat more) ]
+number_among [] seat fact = absurd fact
+number_among (first ∷ births) seat fact = elim fact [ inl same ↦ inl (ap (λ (s : Seat Player). s.who) same) | inr more ↦ inr (number_among births seat more) ]
 
 found_among : (births : List (Seat Player)) (who : ℕ) (seat : Seat Player) → find (λ other. eqb other.who who) births ≡ Some seat → Among who (numbers_of births)
 found_among births who seat e =

@@ -51,11 +51,11 @@ module _ {M : Type 0} where
   one_out (m ∷ sent) (zero ∷ counts) zero mail at some = absurd (omega (arith, some))
   one_out (m ∷ sent) (suc c ∷ counts) zero mail at some =
       let less : suc c - 1 ≡ c = omega arith in
-      let is : m ≡ mail = cc in
+      let fact : m ≡ mail = cc in
       record {
         before = [];
         behind = replicate c m ++ mail_with all sent counts;
-        had_is = ap (λ x. x ∷ (replicate c m ++ mail_with all sent counts)) is;
+        had_is = ap (λ x. x ∷ (replicate c m ++ mail_with all sent counts)) fact;
         has_is = ap (λ n. replicate n m ++ mail_with all sent counts) less;
       }
   one_out (m ∷ sent) (c ∷ counts) (suc place) mail at some =

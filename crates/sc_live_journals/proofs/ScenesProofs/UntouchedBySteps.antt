@@ -3,7 +3,7 @@ use Rattle.std.proofs.Common.{◌≡◌, ℕ, true, List, ◌⊎◌, inl, inr, r
 use Rattle.sc_base.specs.Definitions.{Among, Each}
 use Rattle.sc_node_table.specs.Values.{Draw, Seat}
 use Rattle.sc_live_steps.specs.orders.Definitions.{Turn, First, Lone, Next, Errand, Question, Elsewhere, Reply, Result, Work, Opens, Scene, IsNone, Deal, Stage, Still, Ordered, Asks, SentOn, Weighs, Replied, Recorded, Closes, ClosesBoth, heard, parties_of, IsAt, closed, IsTaken, OfQuestion, OfVote, OfOutcome, LastTakes, OneTakes, TwoTakes, LastFreed, OneFreed, TwoFreed, IsStepOf, ByRest, ByOrder, ByChange, ByDeal, ByPassing, ByAsking, ByTaking, ByVote, ByNo, ByHearing, ByDeciding, ByEnd}
-use Rattle.sc_live_steps.proofs.OrdersProofs.Lemmas.{tokens, found, errands_of, no-errand}
+use Rattle.sc_live_steps.proofs.OrderStepsProofs.Lemmas.{tokens, found, errands_of, no-errand}
 use Rattle.sc_meaning.specs.sound.Definitions.{Player}
 use Rattle.sc_live_steps.specs.calm.Definitions.{Rows}
 use Rattle.sc_live_journals.specs.scenes.Definitions.{IsHeard, IsFresh, IsThere, AreThere}
@@ -67,9 +67,9 @@ begun_other group later name (ByEnd (TwoFreed tx one two e l g a)) f = absurd cc
 
 -- the group that is asked is apart from the others
 unheard : (tx name : Draw) (turn : Turn) → IsNone name (heard tx turn) → IsHeard turn name → ⊥
-unheard tx name First none is = is
-unheard tx name Lone none is = is
-unheard tx name (Next part host) none is = none.0 is
+unheard tx name First none fact = fact
+unheard tx name Lone none fact = fact
+unheard tx name (Next part host) none fact = none.0 fact
 
 pub asked_fresh : (now : Scene) (deal : Deal) (to : ℕ) → IsAt (Asks deal to) now → IsFresh (Asks deal to) deal.asked
 asked_fresh now deal to a = ((λ e. a.apart.0.0 (sym e)), unheard deal.tx deal.asked deal.turn a.apart.1.0)

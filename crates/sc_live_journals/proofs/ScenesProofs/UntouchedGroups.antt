@@ -4,9 +4,9 @@ use Rattle.sc_base.proofs.Lemmas.{same_name}
 use Rattle.sc_node_table.specs.Values.{AnswerBody, Draw, OrderLine, Mail, MailBody, Request, Answer, Prepare, Promise, Accept, Accepted, Nack, Learn, Ask, Install, TxPrepare, TxVote, TxOutcome, TxElsewhere, TxWatch, TxWatched, Told as ToldMail, Node, Client, Seat, Event, Input}
 use Rattle.sc_client_table.specs.table.Definitions.{got, table, Client as ClientState}
 use Rattle.sc_words.proofs.PaxosProofs.Lemmas.{Each-append}
-use Rattle.sc_live_steps.proofs.CalmProofs.Lemmas.{apart}
+use Rattle.sc_live_steps.proofs.CalmStepsProofs.Lemmas.{apart}
 use Rattle.sc_live_steps.specs.orders.Definitions.{is_yes, is_cast_yes, Question, Elsewhere, Reply, Result, Errand, errand_by}
-use Rattle.sc_live_steps.specs.following.Definitions.{Asks, Votes, Tells, Installs, Prepares, Promises, Mark}
+use Rattle.sc_live_steps.specs.following.Definitions.{Asks, Votes, Teaches, Installs, Prepares, Promises, Mark}
 use Rattle.sc_live_journals.proofs.RowsProofs.Lemmas.{AreQuiet, wide_mark, made_keeps, names_stay, view_others, view_was, view_is, sent_is, new_others, none_some}
 use Rattle.sc_live_journals.specs.scenes.Definitions.{IsErrandFor, BesideFinds}
 use Rattle.std.proofs.Common.{◌≡◌, ℕ, eqb, Bool, true, false, cond, List, [], ◌∷◌, ◌&&◌, ◌||◌, not, nat_lt, length, drop, Option, Some, None, ◌⊎◌, inl, inr, refl, sym, ◌∙◌, ap, subst}
@@ -18,7 +18,7 @@ use Rattle.sc_node_table.specs.Definitions.{NodeState, replica_of, with_made, gr
 use Rattle.sc_law_walks.proofs.Lemmas.{either_way}
 use Rattle.sc_meaning.specs.sound.Definitions.{Player, player_table}
 use Rattle.sc_live_steps.specs.calm.Definitions.{players, Rows}
-use Rattle.sc_live_steps.proofs.OrdersProofs.Lemmas.{offer_is, watch_row_is}
+use Rattle.sc_live_steps.proofs.OrderStepsProofs.Lemmas.{offer_is, watch_row_is}
 use Rattle.sc_live_journals.specs.rows.Definitions.{view_at, IsSeat, with_event}
 use Rattle.sc_live_journals.proofs.ScenesProofs.RowPremises.{IsQuestion}
 use Rattle.sc_live_journals.proofs.ScenesProofs.SceneReceivers.{now_is, was_is, all_sent}
@@ -28,19 +28,19 @@ pub use Rattle.sc_words.proofs.PaxosProofs.ListLemmas.{Each-filter as each_filte
 -- ---- mail
 
 marked : (group name : Draw) (mark : Mark) → Some group ≡ Some name → cond (same_draw group name) (Some mark) None ≡ None → ⊥
-marked group name mark named e = (let is : group ≡ name = cc in none_some (sym e ∙ ap (λ b. cond b (Some mark) None) (same_name group name is)))
+marked group name mark named e = (let fact : group ≡ name = cc in none_some (sym e ∙ ap (λ b. cond b (Some mark) None) (same_name group name fact)))
 
 -- mail that leaves no mark of its group is an errand
 unmarked_errand : (name : Draw) (from to : ℕ) (body : MailBody) → wide_mark name from body ≡ None → group_of_mail body ≡ Some name → (entry : Draw × Errand) × (errand_by from to body ≡ Some entry)
 unmarked_errand name from to (Accept group ballot slot command) e g = absurd (marked group name (Asks ballot slot) g e)
 unmarked_errand name from to (Accepted group ballot slot) e g = absurd (marked group name (Votes from ballot slot) g e)
-unmarked_errand name from to (Learn group slot command) e g = absurd (marked group name (Tells slot) g e)
+unmarked_errand name from to (Learn group slot command) e g = absurd (marked group name (Teaches slot) g e)
 unmarked_errand name from to (Install group slot base sets) e g = absurd (marked group name (Installs slot) g e)
 unmarked_errand name from to (Prepare group ballot from_slot) e g = absurd (marked group name (Prepares ballot) g e)
 unmarked_errand name from to (Promise group ballot reports) e g = absurd (marked group name (Promises from ballot) g e)
-unmarked_errand name from to (Nack group promised) e g = absurd (marked group name (Tells 0) g e)
-unmarked_errand name from to (Ask group from_slot) e g = absurd (marked group name (Tells 0) g e)
-unmarked_errand name from to (Request group client seq op) e g = absurd (marked group name (Tells 0) g e)
+unmarked_errand name from to (Nack group promised) e g = absurd (marked group name (Teaches 0) g e)
+unmarked_errand name from to (Ask group from_slot) e g = absurd (marked group name (Teaches 0) g e)
+unmarked_errand name from to (Request group client seq op) e g = absurd (marked group name (Teaches 0) g e)
 unmarked_errand name from to (Answer group seq answer) e g = absurd (none_some g)
 unmarked_errand name from to (ToldMail order result) e g = absurd (none_some g)
 unmarked_errand name from to (TxPrepare tx offer) e g = ((offer.part, Question tx offer.coord false offer.by to), refl)
@@ -102,7 +102,7 @@ module _ (words : ℕ → ℕ → ℕ × ℕ) (births : List (Seat Player)) (row
 
   pub left_view : (name : Draw) → Leaves name → (who : ℕ) → view_at births (with_event rows seat event) name who ≡ view_at births rows name who
   left_view name l who = elim (cases_eq who seat.who) [
-    | inl is ↦ ap (view_at births (with_event rows seat event) name) is ∙ (l.view ∙ ap (view_at births rows name) (sym is))
+    | inl fact ↦ ap (view_at births (with_event rows seat event) name) fact ∙ (l.view ∙ ap (view_at births rows name) (sym fact))
     | inr ne ↦ view_others births rows (row_of player_table seat rows event) name who ne
   ]
 
@@ -117,17 +117,17 @@ module _ (words : ℕ → ℕ → ℕ × ℕ) (births : List (Seat Player)) (row
 
   -- a client that sends nothing leaves all
   pub client_leaves : (client : ClientState) → value player_table seat rows ≡ Client client → (name : Draw) (input : Input Mail OrderLine) → input_of (mails rows) event ≡ Some input → (table client input).1 ≡ [] → Leaves name
-  client_leaves client is name input e none = record {
-    view = view_is births rows seat event name born (Client client) is (Some input) e ∙ sym (view_was births rows seat event name born (Client client) is);
-    silent = subst (Each (IsErrandFor name)) (sym (sent_is births rows seat event name born (Client client) is (Some input) e ∙ none)) tt;
+  client_leaves client fact name input e none = record {
+    view = view_is births rows seat event name born (Client client) fact (Some input) e ∙ sym (view_was births rows seat event name born (Client client) fact);
+    silent = subst (Each (IsErrandFor name)) (sym (sent_is births rows seat event name born (Client client) fact (Some input) e ∙ none)) tt;
   }
 
   -- a node leaves a group by what it makes of its replica and sends
   pub node_leaves : (node : NodeState) → value player_table seat rows ≡ Node node → (step : NodeState × List Mail) (o : Option (Input Mail OrderLine)) → input_of (mails rows) event ≡ o
       → acted player_table (Node node) o ≡ (Node step.0, step.1) → (name : Draw) → replica_of name step.0.replicas ≡ replica_of name node.replicas → Each (IsErrandFor name) step.1 → Leaves name
-  node_leaves node is step o input does name same silent = record {
-    view = now_is births rows seat event node born is step o input does name ∙ (same ∙ sym (was_is births rows seat event node born is step o input does name));
-    silent = subst (Each (IsErrandFor name)) (sym (all_sent births rows seat event node born is step o input does)) silent;
+  node_leaves node fact step o input does name same silent = record {
+    view = now_is births rows seat event node born fact step o input does name ∙ (same ∙ sym (was_is births rows seat event node born fact step o input does name));
+    silent = subst (Each (IsErrandFor name)) (sym (all_sent births rows seat event node born fact step o input does)) silent;
   }
 
 -- ---- a delivery

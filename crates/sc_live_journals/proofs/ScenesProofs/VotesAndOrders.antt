@@ -9,7 +9,7 @@ use Rattle.sc_live_steps.specs.calm.Definitions.{Rows}
 use Rattle.sc_live_steps.specs.orders.Definitions.{First, Lone, Next, is_watch, Bond, Unbound, Asking, Errand, Question, Reply, Work, Opens, Answers, Records, Ends, bound_by, Stage, IsAt, Still, Step, BeginsDeal, Votes, Aborts, Hears, IsFreed, LastFreed, OneFreed, TwoFreed, ByOrder, ByChange, ByDeal, ByVote, ByNo, ByHearing, ByDeciding, ByEnd, StepsBy, Kind, Changed, Opened, Voted, Aborted, Decided, Heard, Ended, results, work_by, works_in, works_flying, works_ready, works, bond_of, errands_for, EntryLeaves, FliesLone, Decides, RunsAlone, Works, MayFile}
 use Rattle.sc_live_steps.specs.orders.StageSteps as Follow
 use Rattle.sc_live_steps.specs.orders.StageSteps.{Changes}
-use Rattle.sc_live_steps.proofs.OrdersProofs.Lemmas.{changed-step, opened-step, voted-step, votes-count-alone, aborted-step, decided-step, heard-step, ended-step, tables-order, entries-run-alone, told-step}
+use Rattle.sc_live_steps.proofs.OrderStepsProofs.Lemmas.{changed-step, opened-step, voted-step, votes-count-alone, aborted-step, decided-step, heard-step, ended-step, tables-order, entries-run-alone, told-step}
 use Rattle.sc_live_journals.specs.rows.Definitions.{with_event}
 use Rattle.sc_live_journals.specs.scenes.Definitions.{scene_at, errands_sent, IsSceneKind, IsOfGroup, IsTablesRow, LeadsAlone, Stays, IsEntrysRow, StageAfter, KeepsStage, IsBeside, Led, Unled, IsCounting, IsEntry, StaysIn, VotesKeep, IsOrdered, OrdersKeep}
 use Rattle.sc_live_journals.proofs.ScenesProofs.RowKinds.{only_as, asides_stay, asides_are, leaders_are, entries_are}
@@ -19,11 +19,11 @@ use Rattle.sc_live_journals.proofs.ScenesProofs.SceneRows.{rows_are}
 
 -- one that flies alone is all the work
 pub flies_work : (flight : Flight Command) (work : Work) (r : ReplicaState) → FliesLone flight r → work_by flight.value ≡ Some work → works r ≡ work ∷ []
-flies_work flight work r flies is =
+flies_work flight work r flies fact =
     ap (λ l. l ++ (works_in r.backlog ++ (works_flying r.leader.flights ++ works_ready r.ready))) flies.acts
     ∙ (ap (λ l. l ++ (works_flying r.leader.flights ++ works_ready r.ready)) flies.backlog
     ∙ (ap (λ l. works_flying l ++ works_ready r.ready) flies.flights
-    ∙ (ap (λ l. works_flying (flight ∷ []) ++ works_ready l) flies.ready ∙ ap (λ o. (listed o ++ []) ++ []) is)))
+    ∙ (ap (λ l. works_flying (flight ∷ []) ++ works_ready l) flies.ready ∙ ap (λ o. (listed o ++ []) ++ []) fact)))
 
 module _ (words : ℕ → ℕ → ℕ × ℕ) (births : List (Seat Player)) (rows : Rows) (seat : Seat Player) (number : ℕ) (mail : Mail) (group : Draw) (flight : Flight Command) (r : ReplicaState) (c : IsCounting words births rows seat number mail group flight r) where
   abbrev event : Event OrderLine
@@ -33,7 +33,7 @@ module _ (words : ℕ → ℕ → ℕ × ℕ) (births : List (Seat Player)) (row
   made = after words births rows seat number mail group r
 
   runs_so : (work : Work) → work_by flight.value ≡ Some work → (d : Decides flight r made) → RunsAlone flight.value d.readied made
-  runs_so work is d = subst (λ p. RunsAlone flight.value d.readied p) (sym d.is) (entries-run-alone flight.value work d.readied d.lone is)
+  runs_so work fact d = subst (λ p. RunsAlone flight.value d.readied p) (sym d.fact) (entries-run-alone flight.value work d.readied d.lone fact)
 
   entry_row : (work : Work) (bond : Bond) (sent : List (Draw × List Errand)) → IsEntry births rows seat number mail group work bond sent flight.value r → Decides flight r made → IsEntrysRow births rows seat event group work bond sent r made
   entry_row work bond sent e d =
@@ -52,9 +52,9 @@ module _ (words : ℕ → ℕ → ℕ × ℕ) (births : List (Seat Player)) (row
       }
 
   runs_on : (work : Work) → work_by flight.value ≡ Some work → Decides flight r made → StaysIn flight.value r.me r.group → made.0.running ≡ true
-  runs_on work is d stays =
+  runs_on work fact d stays =
       let there : StaysIn flight.value d.readied.me d.readied.group = subst (λ g. StaysIn flight.value d.readied.me g) (sym d.group) (subst (λ n. StaysIn flight.value n r.group) (sym d.me) stays) in
-      (runs_so work is d).leads there.stands there.mine
+      (runs_so work fact d).leads there.stands there.mine
 
   -- the vote leaves the command in flight, or decides it
   counted : Works (works r) [] r made ⊎ Decides flight r made
@@ -75,9 +75,9 @@ freed_on group before after (TwoFreed tx one two e l g a) still = cc
 -- So it does where a vote comes to a leader for the one command that it has in flight: that stays, or is decided and executed, and the row is of the kind of its entry.
 pub votes_keep : VotesKeep
 votes_keep = record {
-  changed = λ words births rows seat number mail group flight r order c e is.
+  changed = λ words births rows seat number mail group flight r order c e fact.
       vote_by words births rows seat number mail group flight r c Changed Changes changed-step (record { step = λ g b a. ByChange; on = λ g b a s still. (let e = s.before_is in cc) }) (λ d.
-      entries_are.changed births rows seat (Deliver number) group order r (made words births rows seat number mail group flight r c) (entry_row words births rows seat number mail group flight r c order (bond_of r.group.core) [] e d) is);
+      entries_are.changed births rows seat (Deliver number) group order r (made words births rows seat number mail group flight r c) (entry_row words births rows seat number mail group flight r c order (bond_of r.group.core) [] e d) fact);
   opened = λ words births rows seat number mail group flight r tx asked watch node c e stays apart.
       vote_by words births rows seat number mail group flight r c Opened BeginsDeal opened-step (record { step = λ g b a. ByDeal; on = λ g b a s still. (let e = s.before_is in cc) }) (λ d.
       entries_are.opened births rows seat (Deliver number) group tx asked watch node r (made words births rows seat number mail group flight r c)

@@ -8,7 +8,7 @@ use Rattle.sc_actor.specs.Definitions.{value, System}
 use Rattle.sc_node_table.specs.Definitions.{replica_of, asked_link, watcher_link, ReplicaState, name_of}
 use Rattle.sc_meaning.specs.sound.Definitions.{Player, player_table}
 use Rattle.sc_live_steps.specs.calm.Definitions.{Chart, Reach, Rows, is_led}
-use Rattle.sc_live_journals.specs.charts.QuietPrefixes.{quiet_prefix}
+use Rattle.sc_live_journals.specs.charts.LastQuietPrefixes.{quiet_prefix}
 
 -- The replicas of a player; a client has none.
 abbrev pub replicas_of : Player → List ReplicaState

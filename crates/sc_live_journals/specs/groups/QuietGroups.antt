@@ -8,7 +8,7 @@ use Rattle.sc_words.specs.paxos.Definitions.{below}
 use Rattle.sc_node_table.specs.Definitions.{ReplicaState, next, members, settled}
 use Rattle.sc_meaning.specs.sound.Definitions.{Player}
 use Rattle.sc_live_steps.specs.calm.Definitions.{players, IsUnbound, MayVote, Rows}
-use Rattle.sc_live_steps.specs.following.Definitions.{Course, Sets, IsOpen, Tellers, IsLeadOf, IsOrderly}
+use Rattle.sc_live_steps.specs.following.Definitions.{Course, Sets, IsOpen, SlotLeaders, IsLeadOf, IsOrderly}
 use Rattle.sc_live_journals.specs.rows.Definitions.{view_at, progress_at, marks_at}
 use Rattle.sc_live_journals.specs.groups.WellLedGroups.{Ends, IsWellLed}
 
@@ -30,8 +30,8 @@ pub record IsLedQuietly (at : Sets) (births : List (Seat Player)) (rows : Rows) 
 -- In a quiet journal a group that is well led and stands is led as `IsLedQuietly` says by the replica at the node of its ballot,
 -- if no Paxos mail of it is under way to a number that no player has. Of a group that is gone, no replica leads.
 pub record QuietGroupsAreLed : Type 0 where
-  pub stands : (at : Sets) (over : Ends) (by : Tellers) (words : ℕ → ℕ → ℕ × ℕ) (births : List (Seat Player)) (rows : Rows) (base : Base) (course : Course) (lead : ReplicaState) → ((slot : ℕ) → IsRoster (at slot)) → AreInTime (players words births) rows
+  pub stands : (at : Sets) (over : Ends) (by : SlotLeaders) (words : ℕ → ℕ → ℕ × ℕ) (births : List (Seat Player)) (rows : Rows) (base : Base) (course : Course) (lead : ReplicaState) → ((slot : ℕ) → IsRoster (at slot)) → AreInTime (players words births) rows
       → is_quiet (players words births) rows ≡ true → ((who : ℕ) → is_born (players words births) who ≡ false → marks_at (players words births) rows base.core.id who ≡ []) → IsWellLed at over by words births rows base course
       → course.gone ≡ false → view_at births rows base.core.id course.ballot.node ≡ Some lead → IsLedQuietly at births rows base course lead
-  pub gone : (at : Sets) (over : Ends) (by : Tellers) (words : ℕ → ℕ → ℕ × ℕ) (births : List (Seat Player)) (rows : Rows) (base : Base) (course : Course) → IsWellLed at over by words births rows base course → course.gone ≡ true
+  pub gone : (at : Sets) (over : Ends) (by : SlotLeaders) (words : ℕ → ℕ → ℕ × ℕ) (births : List (Seat Player)) (rows : Rows) (base : Base) (course : Course) → IsWellLed at over by words births rows base course → course.gone ≡ true
       → (node : ℕ) (r : ReplicaState) → view_at births rows base.core.id node ≡ Some r → r.running ≡ false

@@ -7,7 +7,7 @@ use Rattle.sc_live_orderly.specs.Definitions.{is_born, AreInTime}
 use Rattle.sc_node_table.specs.Definitions.{next_ready, ReplicaState, next, last_slot}
 use Rattle.sc_meaning.specs.sound.Definitions.{Player}
 use Rattle.sc_live_steps.specs.calm.Definitions.{players, LeadsAtRest, Rows}
-use Rattle.sc_live_steps.specs.following.Definitions.{Course, Sets, Tellers}
+use Rattle.sc_live_steps.specs.following.Definitions.{Course, Sets, SlotLeaders}
 use Rattle.sc_live_journals.specs.rows.Definitions.{view_at, marks_at}
 use Rattle.sc_live_journals.specs.groups.WellLedGroups.{Ends, IsWellLed}
 use Rattle.sc_live_journals.specs.groups.GreatestBallots.{IsTopKept}
@@ -28,6 +28,6 @@ pub record RestsCleared (lead : ReplicaState) : Type 0 where
 -- Premises: its next slot is not behind the last one, `IsCleared` and `IsTopKept` hold of it, and no Paxos mail of the group is under way to a number that no player has.
 abbrev pub QuietLeadersRest : Type 0
 QuietLeadersRest =
-    (at : Sets) (over : Ends) (by : Tellers) (words : ℕ → ℕ → ℕ × ℕ) (births : List (Seat Player)) (rows : Rows) (base : Base) (course : Course) (lead : ReplicaState) → ((slot : ℕ) → IsRoster (at slot)) → AreInTime (players words births) rows
+    (at : Sets) (over : Ends) (by : SlotLeaders) (words : ℕ → ℕ → ℕ × ℕ) (births : List (Seat Player)) (rows : Rows) (base : Base) (course : Course) (lead : ReplicaState) → ((slot : ℕ) → IsRoster (at slot)) → AreInTime (players words births) rows
     → is_quiet (players words births) rows ≡ true → ((who : ℕ) → is_born (players words births) who ≡ false → marks_at (players words births) rows base.core.id who ≡ []) → IsWellLed at over by words births rows base course
     → course.gone ≡ false → view_at births rows base.core.id course.ballot.node ≡ Some lead → next lead ≤ last_slot → IsCleared lead → IsTopKept course.ballot.node lead → RestsCleared lead

@@ -8,7 +8,7 @@ use Rattle.sc_scenario.specs.declared.scenario.scenarios.Scenario.{Scenario}
 use Rattle.sc_node_table.specs.Definitions.{ReplicaState, next, last_slot}
 use Rattle.sc_meaning.specs.sound.Definitions.{Player, births, as_nodes}
 use Rattle.sc_live_steps.specs.calm.Definitions.{players, Rows}
-use Rattle.sc_live_steps.specs.following.Definitions.{Course, Sets, Tellers}
+use Rattle.sc_live_steps.specs.following.Definitions.{Course, Sets, SlotLeaders}
 use Rattle.sc_live_journals.specs.rows.Definitions.{view_at, marks_at, IsSeat}
 use Rattle.sc_live_journals.specs.groups.QuietLeaders.{RestsCleared}
 use Rattle.sc_live_journals.specs.groups.WellLedGroups.{Ends, IsWellLed}
@@ -35,6 +35,6 @@ ReplicasAreKept = (births : List (Seat Player)) (rows : Rows) (name : Draw) (who
 -- In a quiet journal the leader of a group that is well led and stands rests (`RestsCleared`), if its next slot is not behind the last one and players are kept at their births.
 abbrev pub KeptLeadersRest : Type 0
 KeptLeadersRest =
-    (at : Sets) (over : Ends) (by : Tellers) (words : ℕ → ℕ → ℕ × ℕ) (births : List (Seat Player)) (rows : Rows) (base : Base) (course : Course) (lead : ReplicaState) → AreKeptBorn births → ((slot : ℕ) → IsRoster (at slot)) → AreInTime (players words births) rows
+    (at : Sets) (over : Ends) (by : SlotLeaders) (words : ℕ → ℕ → ℕ × ℕ) (births : List (Seat Player)) (rows : Rows) (base : Base) (course : Course) (lead : ReplicaState) → AreKeptBorn births → ((slot : ℕ) → IsRoster (at slot)) → AreInTime (players words births) rows
     → is_quiet (players words births) rows ≡ true → ((who : ℕ) → is_born (players words births) who ≡ false → marks_at (players words births) rows base.core.id who ≡ []) → IsWellLed at over by words births rows base course
     → course.gone ≡ false → view_at births rows base.core.id course.ballot.node ≡ Some lead → next lead ≤ last_slot → RestsCleared lead

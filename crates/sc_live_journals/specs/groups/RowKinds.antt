@@ -5,16 +5,16 @@ use Rattle.sc_actor.specs.Definitions.{mails}
 use Rattle.sc_node_table.specs.Definitions.{ReplicaState, Place, made_by}
 use Rattle.sc_meaning.specs.sound.Definitions.{Player}
 use Rattle.sc_live_steps.specs.calm.Definitions.{Rows}
-use Rattle.sc_live_steps.specs.following.Definitions.{Mark, Installs, Course, Sets, Tellers, IsIdle, Takes, StepsBy}
+use Rattle.sc_live_steps.specs.following.Definitions.{Mark, Installs, Course, Sets, SlotLeaders, IsIdle, Takes, StepsBy}
 use Rattle.sc_live_journals.specs.rows.Definitions.{IsUnmoved, taken_mark, led_course, elected_course, with_event, IsKind, IsReplicasRow, LeavesOrCreates}
 use Rattle.sc_live_journals.specs.groups.WellLedGroups.{Ends, IsWellLed}
-use Rattle.sc_live_journals.specs.groups.GroupLogs.{IsLogsState, CountsTo}
-use Rattle.sc_live_journals.specs.groups.Rows.{LeadsWell, ElectsWell}
+use Rattle.sc_live_journals.specs.groups.RequiredLogs.{IsLogsState, CountsTo}
+use Rattle.sc_live_journals.specs.groups.WellLedRows.{LeadsWell, ElectsWell}
 
 -- What one row is to a group that is well led, with the group's course after it. `RowPasses`: it does nothing in the group, but may create the node's replica at the group's birth.
 -- `RowRests`: a replica that does not lead stays where it is. `RowTakes`, `RowMakes`: a replica takes a mail, or a node creates one from a state.
 -- `RowLeads`: its leader acts. `RowElects`: a node elects itself.
-pub data IsGroupRow (at : Sets) (over : Ends) (by : Tellers) (births : List (Seat Player)) (rows : Rows) (seat : Seat Player) (event : Event OrderLine) (base : Base) (course later : Course) : Type 0 where
+pub data IsGroupRow (at : Sets) (over : Ends) (by : SlotLeaders) (births : List (Seat Player)) (rows : Rows) (seat : Seat Player) (event : Event OrderLine) (base : Base) (course later : Course) : Type 0 where
   RowPasses : later ≡ course → LeavesOrCreates births rows seat event base → IsGroupRow at over by births rows seat event base course later
   RowRests : later ≡ course → (r : ReplicaState) (after : Place) → IsReplicasRow births rows seat event base.core.id (Some r) after → r.running ≡ false → IsUnmoved base.core.id r after → IsKind IsIdle births rows seat event base course course
       → IsGroupRow at over by births rows seat event base course later
@@ -28,7 +28,7 @@ pub data IsGroupRow (at : Sets) (over : Ends) (by : Tellers) (births : List (Sea
       → IsGroupRow at over by births rows seat event base course later
 
 -- The group is well led after the event, in a course that its row gives.
-pub record IsLedStep (at : Sets) (over : Ends) (by : Tellers) (words : ℕ → ℕ → ℕ × ℕ) (births : List (Seat Player)) (rows : Rows) (seat : Seat Player) (event : Event OrderLine) (base : Base) (course : Course) : Type 0 where
+pub record IsLedStep (at : Sets) (over : Ends) (by : SlotLeaders) (words : ℕ → ℕ → ℕ × ℕ) (births : List (Seat Player)) (rows : Rows) (seat : Seat Player) (event : Event OrderLine) (base : Base) (course : Course) : Type 0 where
   pub later : Course
   pub led : IsWellLed at over by words births (with_event rows seat event) base later
   pub row : IsGroupRow at over by births rows seat event base course later

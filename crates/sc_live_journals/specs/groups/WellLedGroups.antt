@@ -6,7 +6,7 @@ use Rattle.sc_live_orderly.specs.Definitions.{rest}
 use Rattle.sc_node_table.specs.Definitions.{ReplicaState}
 use Rattle.sc_meaning.specs.sound.Definitions.{Player}
 use Rattle.sc_live_steps.specs.calm.Definitions.{players, Rows}
-use Rattle.sc_live_steps.specs.following.Definitions.{Dated, dated_of, IsAskedLow, Course, Sets, Tellers, IsHeeding, IsOrderly, IsOwnFirst}
+use Rattle.sc_live_steps.specs.following.Definitions.{Dated, dated_of, IsAskedLow, Course, Sets, SlotLeaders, IsHeeding, IsOrderly, IsOwnFirst}
 use Rattle.sc_live_journals.specs.rows.Definitions.{view_at, progress_at, marks_at, begun_course, IsFollowedAt}
 
 -- Whom a replica takes for the leader; where there is no replica yet, the group's first leader.
@@ -29,7 +29,7 @@ Ends = ℕ → Bool
 -- The group follows its leader in this course; its nodes take the one that leads for the leader; no node is asked to promise from a slot below its next one;
 -- a leader takes its own Prepare before it executes an entry; what a leader has in flight and ready is in order;
 -- the group is as it began until its first leader's node has a replica; and it is gone where the log says so, and no entry comes after that.
-pub record IsWellLed (at : Sets) (over : Ends) (by : Tellers) (words : ℕ → ℕ → ℕ × ℕ) (births : List (Seat Player)) (rows : Rows) (base : Base) (course : Course) : Type 0 where
+pub record IsWellLed (at : Sets) (over : Ends) (by : SlotLeaders) (words : ℕ → ℕ → ℕ × ℕ) (births : List (Seat Player)) (rows : Rows) (base : Base) (course : Course) : Type 0 where
   pub followed : IsFollowedAt at words births rows base course
   pub heeded : IsHeeding at by (progress_at births rows base course) (hints_at births rows base) (marks_at (players words births) rows base.core.id)
   pub low : IsAskedLow (progress_at births rows base course) (dated_at (players words births) rows base.core.id)
@@ -40,5 +40,5 @@ pub record IsWellLed (at : Sets) (over : Ends) (by : Tellers) (words : ℕ → �
   pub rests : (slot : ℕ) → over slot ≡ true → course.newest ≤ slot
 
 -- The group is well led after these rows, in some course.
-abbrev pub IsLedOn : Sets → Ends → Tellers → (ℕ → ℕ → ℕ × ℕ) → List (Seat Player) → Rows → Base → Type 0
+abbrev pub IsLedOn : Sets → Ends → SlotLeaders → (ℕ → ℕ → ℕ × ℕ) → List (Seat Player) → Rows → Base → Type 0
 IsLedOn at over by words births rows base = (course : Course) × IsWellLed at over by words births rows base course

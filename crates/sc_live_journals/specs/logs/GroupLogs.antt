@@ -33,7 +33,7 @@ pub record HasReplica (ahead : Ahead) (scenario : Scenario) (journal : Rows) (ba
   pub more : Rows
   pub prefix : journal ≡ rows ++ more
   pub seated : IsSeat (births ahead scenario) seat
-  pub is : value player_table seat rows ≡ Node node
+  pub fact : value player_table seat rows ≡ Node node
   pub here : replica_of base.core.id node.replicas ≡ Some r
 
 -- Each replica of the group that a player has, after a prefix of the journal, is one of a node.

@@ -61,7 +61,7 @@ pub record IsPosted (births : List (Seat Player)) (mail : Mail) : Type 0 where
   pub seat : Seat Player
   pub born : IsSeat births seat
   pub from_is : mail.from ≡ seat.who
-  pub is : IsPlayers seat.who seat.actor mail
+  pub fact : IsPlayers seat.who seat.actor mail
 
 -- In a journal of a scenario whose rows come in time, `IsPosted` holds of each mail.
 abbrev pub MailIsPosted : Type 0

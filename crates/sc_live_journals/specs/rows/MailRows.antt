@@ -18,7 +18,7 @@ use Rattle.sc_live_journals.specs.rows.PlayerRows.{IsSeat, with_event, IsWholeSt
 pub record IsScene (at : Sets) (words : ℕ → ℕ → ℕ × ℕ) (births : List (Seat Player)) (rows : Rows) (seat : Seat Player) (node : NodeState) (base : Base) (course : Course) : Type 0 where
   pub rosters : (slot : ℕ) → IsRoster (at slot)
   pub seated : IsSeat births seat
-  pub is : value player_table seat rows ≡ Node node
+  pub fact : value player_table seat rows ≡ Node node
   pub followed : IsFollowedAt at words births rows base course
 
 -- The node takes this mail in time, from one that may send it.

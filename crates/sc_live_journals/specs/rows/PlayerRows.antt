@@ -102,7 +102,7 @@ pub record OthersRowsAreIdle : Type 0 where
 -- In this row the acting player's replica of the group changes as its own table says, and the row sends what that table sends.
 pub record IsReplicasRow (births : List (Seat Player)) (rows : Rows) (seat : Seat Player) (event : Event OrderLine) (name : Draw) (before : Option ReplicaState) (after : Place) : Type 0 where
   pub was : view_at births rows name seat.who ≡ before
-  pub is : view_at births (with_event rows seat event) name seat.who ≡ Some after.0
+  pub fact : view_at births (with_event rows seat event) name seat.who ≡ Some after.0
   pub sends_all : (row_of player_table seat rows event).sent ≡ after.1
   pub sends : (who : ℕ) → marks_for name who (row_of player_table seat rows event).sent ≡ marks_for name who after.1
 

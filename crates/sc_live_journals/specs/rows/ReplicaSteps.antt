@@ -7,7 +7,7 @@ use Rattle.sc_words.specs.paxos.Definitions.{below}
 use Rattle.sc_node_table.specs.Definitions.{is_node, ReplicaState, Place, name_of, next, first_ballot, mailed, made_by, slots_ahead, leads}
 use Rattle.sc_meaning.specs.sound.Definitions.{Player}
 use Rattle.sc_live_steps.specs.calm.Definitions.{Rows}
-use Rattle.sc_live_steps.specs.following.Definitions.{Mark, Votes, Tells, Installs, Promises, Course, Sets, members_at, voters_of, IsLeadOf, LeadsInto, AreAt, IsCount, IsIdle, Takes, Leads, Elects, marks_for, StepsBy, ElectsBy, next_ballot}
+use Rattle.sc_live_steps.specs.following.Definitions.{Mark, Votes, Teaches, Installs, Promises, Course, Sets, members_at, voters_of, IsLeadOf, LeadsInto, AreAt, IsCount, IsIdle, Takes, Leads, Elects, marks_for, StepsBy, ElectsBy, next_ballot}
 use Rattle.sc_live_journals.specs.rows.Groups.{progress_at, taken_mark}
 use Rattle.sc_live_journals.specs.rows.PlayerRows.{with_event, IsKind, IsReplicasRow}
 
@@ -57,7 +57,7 @@ pub record IsToLead (at : Sets) (course : Course) (slot : ℕ) (open_sets : List
 abbrev pub StepsElect : Type 0
 StepsElect =
     (at : Sets) (births : List (Seat Player)) (rows : Rows) (seat : Seat Player) (event : Event OrderLine) (base : Base) (course : Course) (slot : ℕ) (open_sets : List (List ℕ)) (r : ReplicaState) (after : Place)
-    → IsReplicasRow births rows seat event base.core.id (Some r) after → name_of r ≡ base.core.id → r.me ≡ seat.who → taken_mark base.core.id (mails rows) event ≡ Some (Tells slot) → ElectsBy slot open_sets r after → IsToLead at course slot open_sets r
+    → IsReplicasRow births rows seat event base.core.id (Some r) after → name_of r ≡ base.core.id → r.me ≡ seat.who → taken_mark base.core.id (mails rows) event ≡ Some (Teaches slot) → ElectsBy slot open_sets r after → IsToLead at course slot open_sets r
     → IsKind (Elects at) births rows seat event base course (elected_course course (next_ballot r))
 
 -- A replica that stays where it is, and sends no Paxos mail of the group, does nothing in it, if it takes no Paxos mail of it.

@@ -7,7 +7,7 @@ use Rattle.sc_meaning.specs.sound.Definitions.{Player}
 use Rattle.sc_live_steps.specs.calm.Definitions.{Rows}
 use Rattle.sc_live_steps.specs.orders.Definitions.{Bond}
 use Rattle.sc_live_journals.specs.rows.Definitions.{view_at, with_event, IsWholeState}
-use Rattle.sc_live_journals.specs.scenes.PlayerRows.{NewestAreBound, LeadsAlone, NoneRuns}
+use Rattle.sc_live_journals.specs.scenes.SceneRows.{NewestAreBound, LeadsAlone, NoneRuns}
 use Rattle.sc_live_journals.specs.scenes.OrderRows.{KeepsStage, ComesToNone}
 
 -- What is needed of a group of which a row creates a replica: another replica leads it alone;

@@ -11,7 +11,7 @@ use Rattle.sc_meaning.specs.sound.Definitions.{Player}
 use Rattle.sc_live_steps.specs.calm.Definitions.{Rows}
 use Rattle.sc_live_steps.specs.orders.Definitions.{Turn, First, Lone, Next, is_watch, Bond, Unbound, Asking, Bound, Errand, Question, Reply, Work, Changes, Opens, Answers, Records, Ends, bound_by, results, bond_of, IsBegun}
 use Rattle.sc_live_journals.specs.rows.Definitions.{with_event}
-use Rattle.sc_live_journals.specs.scenes.PlayerRows.{NewestAreBound}
+use Rattle.sc_live_journals.specs.scenes.SceneRows.{NewestAreBound}
 use Rattle.sc_live_journals.specs.scenes.VotesAndOrders.{IsEntry}
 
 -- A vote comes to a replica of this group; if it stops by that, the group's newest states have this bond.

@@ -10,10 +10,10 @@ use Rattle.sc_meaning.specs.sound.Definitions.{Player}
 use Rattle.sc_live_steps.specs.calm.Definitions.{Rows}
 use Rattle.sc_live_steps.specs.orders.Definitions.{Turn, is_watch, Asking, Bound, Work, Stage, Still, IsAt, IsUnderWay, IsStepOf, bond_of, works, IsIdle, IsUnbound, MayFile}
 use Rattle.sc_live_journals.specs.rows.Definitions.{with_event}
-use Rattle.sc_live_journals.specs.scenes.Scenes.{scene_at}
-use Rattle.sc_live_journals.specs.scenes.PlayerRows.{LeadsAlone}
-use Rattle.sc_live_journals.specs.scenes.RowKinds.{IsUnled}
-use Rattle.sc_live_journals.specs.scenes.MailReceivers.{MayCreate, IsTaking}
+use Rattle.sc_live_journals.specs.scenes.JournalScenes.{scene_at}
+use Rattle.sc_live_journals.specs.scenes.SceneRows.{LeadsAlone}
+use Rattle.sc_live_journals.specs.scenes.SceneRowKinds.{IsUnled}
+use Rattle.sc_live_journals.specs.scenes.SceneReceivers.{MayCreate, IsTaking}
 
 -- The event delivers a mail of this group, where `sent` is all mail sent before it, or gives the group an order.
 abbrev pub IsEventOf : List Mail → Event OrderLine → Draw → Type 0

@@ -4,7 +4,7 @@ use Rattle.sc_scenario.specs.scenario.Definitions.{IsBounded}
 use Rattle.sc_scenario.specs.declared.scenario.scenarios.Scenario.{Scenario}
 use Rattle.sc_meaning.specs.sound.Definitions.{births, as_nodes}
 use Rattle.sc_live_steps.specs.orders.Definitions.{IsAt, Still}
-use Rattle.sc_live_journals.specs.scenes.Scenes.{scene_at}
+use Rattle.sc_live_journals.specs.scenes.JournalScenes.{scene_at}
 
 -- At the birth of a bounded scenario the stage is `Still`: all groups are free, no leader has work, and no mail is under way.
 abbrev pub ScenariosBeginStill : Type 0

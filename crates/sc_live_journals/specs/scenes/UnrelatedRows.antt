@@ -10,7 +10,7 @@ use Rattle.sc_meaning.specs.sound.Definitions.{Player, player_table}
 use Rattle.sc_live_steps.specs.calm.Definitions.{players, Rows}
 use Rattle.sc_live_steps.specs.orders.Definitions.{errand_by}
 use Rattle.sc_live_journals.specs.rows.Definitions.{IsSeat, with_event}
-use Rattle.sc_live_journals.specs.scenes.Scenes.{errand_taken}
+use Rattle.sc_live_journals.specs.scenes.JournalScenes.{errand_taken}
 use Rattle.sc_live_journals.specs.scenes.OrderRows.{KeepsStage, ComesToNone}
 
 -- Which rows keep an order at its stage: a client's, if it takes no errand; a node's `Go`; a node's mail of no group, mail that may not come from its sender,

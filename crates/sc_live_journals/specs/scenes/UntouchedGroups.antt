@@ -10,10 +10,10 @@ use Rattle.sc_meaning.specs.sound.Definitions.{Player}
 use Rattle.sc_live_steps.specs.calm.Definitions.{players, Rows}
 use Rattle.sc_live_steps.specs.orders.Definitions.{Turn, First, Lone, Next, Errand, Scene, Deal, Stage, Still, Ordered, Asks, SentOn, Weighs, Replied, Recorded, Closes, ClosesBoth, parties_of, IsAt, errand_by}
 use Rattle.sc_live_journals.specs.rows.Definitions.{view_at, IsSeat, with_event}
-use Rattle.sc_live_journals.specs.scenes.RowPremises.{FindsOrder}
+use Rattle.sc_live_journals.specs.scenes.ScenePremises.{FindsOrder}
 use Rattle.sc_live_journals.specs.scenes.OrderRows.{GoesBy}
-use Rattle.sc_live_journals.specs.scenes.Scenes.{scene_at}
-use Rattle.sc_live_journals.specs.scenes.MailReceivers.{IsTaking}
+use Rattle.sc_live_journals.specs.scenes.JournalScenes.{scene_at}
+use Rattle.sc_live_journals.specs.scenes.SceneReceivers.{IsTaking}
 
 -- ---- groups
 

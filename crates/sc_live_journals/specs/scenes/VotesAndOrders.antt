@@ -11,8 +11,8 @@ use Rattle.sc_meaning.specs.sound.Definitions.{Player, player_table}
 use Rattle.sc_live_steps.specs.calm.Definitions.{players, Rows}
 use Rattle.sc_live_steps.specs.orders.Definitions.{Turn, First, Lone, Next, is_watch, Bond, Unbound, Asking, Errand, Question, Reply, Work, Opens, Answers, Records, Ends, bound_by, IsOrder, IsAt, Still, results, work_by, bond_of, EntryLeaves, FliesLone, MayFile}
 use Rattle.sc_live_journals.specs.rows.Definitions.{IsSeat, with_event}
-use Rattle.sc_live_journals.specs.scenes.Scenes.{scene_at}
-use Rattle.sc_live_journals.specs.scenes.PlayerRows.{NewestAreBound, LeadsAlone}
+use Rattle.sc_live_journals.specs.scenes.JournalScenes.{scene_at}
+use Rattle.sc_live_journals.specs.scenes.SceneRows.{NewestAreBound, LeadsAlone}
 use Rattle.sc_live_journals.specs.scenes.OrderRows.{StageAfter, KeepsStage, ComesToLeader, IsBeside}
 
 -- A vote comes to the leader of a group, which has one command in flight, alone.

@@ -8,8 +8,8 @@ returns-clause-taken g c = λ words births lines most turns journal lawful whole
     turns_taken (system g.A.Actor.table g.A.Mail.Parcel.receiver words births) lines most turns journal lawful whole uncut
 
 pub returns-clause-lowest : goal.returns-clause-lowest
-returns-clause-lowest g c = λ words births rows row is.
-    takes_lowest (system g.A.Actor.table g.A.Mail.Parcel.receiver words births) rows row is
+returns-clause-lowest g c = λ words births rows row fact.
+    takes_lowest (system g.A.Actor.table g.A.Mail.Parcel.receiver words births) rows row fact
 
 pub returns-clause-quiet : goal.returns-clause-quiet
 returns-clause-quiet g c = λ words births rows quiet.

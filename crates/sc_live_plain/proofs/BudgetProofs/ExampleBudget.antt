@@ -2,7 +2,7 @@
 use Rattle.std.proofs.Common.{◌≡◌, List, [], ◌∷◌, ◌++◌, map, Some, None, lit≤, inl, inr, refl, subst}
 use Rattle.std.specs.Prelude.{true, false, length}
 use Rattle.std.specs.List.{list_any}
-use Rattle.sc_node_table.specs.Values.{Base, OrderLine, Call, LastMember, Refused, Value, Mail, Request, Answer, Accept, Accepted, Told as Tells, Row, Deliver, Go as Goes}
+use Rattle.sc_node_table.specs.Values.{Base, OrderLine, Call, LastMember, Refused, Value, Mail, Request, Answer, Accept, Accepted, Told as Teaches, Row, Deliver, Go as Goes}
 use Rattle.sc_actor.specs.Definitions.{mails, value}
 use Rattle.sc_words.specs.declared.commands.orders.Order.TheVariants.{Leave}
 use Rattle.sc_actor.specs.declared.rows.Event.TheVariants.{Told as Ordered}
@@ -13,7 +13,7 @@ use Rattle.sc_scenario.specs.declared.scenario.scenarios.SchedLine.{SchedLine}
 use Rattle.sc_scenario.specs.declared.scenario.scenarios.SchedLine.TheVariants.{Go, Told, Settle}
 use Rattle.sc_meaning.specs.sound.Definitions.{kept_replies, alone, put_it, get_it, ballot, mail, row, example_rows, put_get_scenario, player_table, node_seat, client_seat, as_nodes, route_of, schedule}
 use Rattle.sc_live_orderly.specs.Definitions.{AreSpaced, Nothing}
-use Rattle.sc_live_plain.specs.Definitions.{calm_budget_of, gives_order, are_parted, IsCalmAtBudget, requests_of, budget_of, delivers, IsAtBudget, IsServed, AreAnswered, mail_owes, player_owes, begun_of, EndsAtBudget}
+use Rattle.sc_live_plain.specs.Definitions.{calm_budget_of, gives_order, are_parted, IsCalmAtBudget, requests_of, budget_of, delivers, IsAtBudget, StartsBeforeDeliveries, AreAnswered, mail_owes, player_owes, begun_of, EndsAtBudget}
 
 -- two requests and one group
 requests : requests_of put_get_scenario ≡ 2
@@ -52,21 +52,21 @@ ends (first ∷ before) after one e = cc
 
 followed : (order : OrderLine) (before after : List SchedLine) (one : SchedLine) → lines_of order ≡ before ++ one ∷ after → gives_order one ≡ true → list_any delivers after ≡ true
 unfolding lines_of
-followed order [] after one is gives = let rest : Settle 656 ∷ Go 1 ∷ Settle 656 ∷ [] ≡ after = cc in subst (λ (l : List SchedLine). list_any delivers l ≡ true) rest refl
-followed order (a ∷ []) after one is gives = let no : gives_order (Settle 656) ≡ false = refl in cc
-followed order (a ∷ b ∷ []) after one is gives = let no : gives_order (Go 1) ≡ false = refl in cc
-followed order (a ∷ b ∷ c ∷ []) after one is gives = let no : gives_order (Settle 656) ≡ false = refl in cc
-followed order (a ∷ b ∷ c ∷ d ∷ before) after one is gives = let none : [] ≡ before ++ one ∷ after = cc in absurd (ends before after one none)
+followed order [] after one fact gives = let rest : Settle 656 ∷ Go 1 ∷ Settle 656 ∷ [] ≡ after = cc in subst (λ (l : List SchedLine). list_any delivers l ≡ true) rest refl
+followed order (a ∷ []) after one fact gives = let no : gives_order (Settle 656) ≡ false = refl in cc
+followed order (a ∷ b ∷ []) after one fact gives = let no : gives_order (Go 1) ≡ false = refl in cc
+followed order (a ∷ b ∷ c ∷ []) after one fact gives = let no : gives_order (Settle 656) ≡ false = refl in cc
+followed order (a ∷ b ∷ c ∷ d ∷ before) after one fact gives = let none : [] ≡ before ++ one ∷ after = cc in absurd (ends before after one none)
 
 parted : (order : OrderLine) (before between after : List SchedLine) (one other : SchedLine) → lines_of order ≡ before ++ one ∷ between ++ other ∷ after → are_parted one other ≡ true → list_any delivers between ≡ true
 unfolding lines_of
-parted order [] [] after one other is need = let no : are_parted (Told 1 order) (Settle 656) ≡ false = refl in cc
-parted order [] (a ∷ between) after one other is need = let first : Settle 656 ≡ a = cc in subst (λ (l : SchedLine). list_any delivers (l ∷ between) ≡ true) first refl
-parted order (a ∷ []) between after one other is need = let no : are_parted (Settle 656) other ≡ false = refl in cc
-parted order (a ∷ b ∷ []) [] after one other is need = let no : are_parted (Go 1) (Settle 656) ≡ false = refl in cc
-parted order (a ∷ b ∷ []) (c ∷ between) after one other is need = let none : [] ≡ between ++ other ∷ after = cc in absurd (ends between after other none)
-parted order (a ∷ b ∷ c ∷ []) between after one other is need = let none : [] ≡ between ++ other ∷ after = cc in absurd (ends between after other none)
-parted order (a ∷ b ∷ c ∷ d ∷ before) between after one other is need = let none : [] ≡ before ++ one ∷ between ++ other ∷ after = cc in absurd (ends (before ++ one ∷ between) after other none)
+parted order [] [] after one other fact need = let no : are_parted (Told 1 order) (Settle 656) ≡ false = refl in cc
+parted order [] (a ∷ between) after one other fact need = let first : Settle 656 ≡ a = cc in subst (λ (l : SchedLine). list_any delivers (l ∷ between) ≡ true) first refl
+parted order (a ∷ []) between after one other fact need = let no : are_parted (Settle 656) other ≡ false = refl in cc
+parted order (a ∷ b ∷ []) [] after one other fact need = let no : are_parted (Go 1) (Settle 656) ≡ false = refl in cc
+parted order (a ∷ b ∷ []) (c ∷ between) after one other fact need = let none : [] ≡ between ++ other ∷ after = cc in absurd (ends between after other none)
+parted order (a ∷ b ∷ c ∷ []) between after one other fact need = let none : [] ≡ between ++ other ∷ after = cc in absurd (ends between after other none)
+parted order (a ∷ b ∷ c ∷ d ∷ before) between after one other fact need = let none : [] ≡ before ++ one ∷ between ++ other ∷ after = cc in absurd (ends (before ++ one ∷ between) after other none)
 
 pub calm_at_budget : (order : OrderLine) → IsCalmAtBudget (ordered order)
 unfolding ordered lines_of
@@ -102,12 +102,12 @@ unfolding asks
 client_end = refl
 
 -- the client's `go` line is followed by a line of deliveries, and both requests are answered
-served : IsServed put_get_scenario 1
+served : StartsBeforeDeliveries put_get_scenario 1
 served = record { before = []; after = Settle 100 ∷ []; lines_are = refl; delivered = refl }
 
 answered : AreAnswered put_get_scenario example_rows
 unfolding asks
-answered first others groups_are one a is =
+answered first others groups_are one a fact =
     let first_is : alone ≡ first = cc in
     elim a [
       | inl same ↦ subst (λ (x : Asks). length (kept_replies (route_of first) x example_rows) ≡ length x.ops) same
@@ -122,7 +122,7 @@ leave_it = record { number = 1; order = Leave 1 lone_name }
 -- the same journal behind that order, each mail with a number more
 refused_rows : List (Row Mail OrderLine)
 refused_rows =
-    row 1 (Ordered leave_it) (mail 1 0 (Tells 1 (Refused LastMember)))
+    row 1 (Ordered leave_it) (mail 1 0 (Teaches 1 (Refused LastMember)))
     ∷ row 33 Goes (mail 33 1 (Request lone_name 1 1 put_it))
     ∷ row 1 (Deliver 2) (mail 1 1 (Accept lone_name ballot 1 (Call 1 1 put_it)))
     ∷ row 1 (Deliver 3) (mail 1 1 (Accepted lone_name ballot 1))
@@ -136,7 +136,7 @@ refused_rows =
 -- in it both requests are answered too
 answered_behind : AreAnswered (ordered leave_it) refused_rows
 unfolding ordered refused_rows asks
-answered_behind first others groups_are one a is =
+answered_behind first others groups_are one a fact =
     let first_is : alone ≡ first = cc in
     elim a [
       | inl same ↦ subst (λ (x : Asks). length (kept_replies (route_of first) x refused_rows) ≡ length x.ops) same

@@ -12,7 +12,7 @@ use Rattle.sc_scenario.specs.declared.scenario.scenarios.Scenario.{Scenario}
 use Rattle.sc_words.proofs.PaxosProofs.Lemmas.{Each-among, Each-from_All, Each-split}
 use Rattle.sc_paxos_law.proofs.Lemmas.{place_among}
 use Rattle.sc_live_plain.specs.Definitions.{Frame, IsBegun, Requests, written_by, IsWrittenValue, IsPlainCommand, IsPlainBody, IsPlainMail}
-use Rattle.sc_live_plain.proofs.RowsProofs.Lists.{some_is}
+use Rattle.sc_live_plain.proofs.PlainRowsProofs.Lists.{some_is}
 
 -- ---- what a mail weighs
 

@@ -14,12 +14,12 @@ use Rattle.sc_live_orderly.specs.Definitions.{owed_at_birth}
 use Rattle.sc_live_orderly.proofs.Lemmas.{ends_quiet_at_last}
 use Rattle.sc_live_plain.specs.Definitions.{AllowsDeliveries, budget_of, mail_owes}
 use Rattle.sc_live_plain.specs.LastLine.{EndsAtBudget, LastLinesEndQuiet}
-use Rattle.sc_live_plain.proofs.PlainProofs.AnsweredRequests.{many_line}
+use Rattle.sc_live_plain.proofs.PlainProofs.AnsweredPlainRequests.{many_line}
 use Rattle.sc_live_plain.proofs.PlainProofs.InductionBase.{birth_within, journal_at_birth}
 use Rattle.sc_live_plain.proofs.PlainProofs.PlainInduction.{owing_of}
 use Rattle.sc_live_plain.proofs.PlainProofs.PlainBeginnings.{stage}
 use Rattle.sc_live_plain.proofs.PlainProofs.PlainJournals.{plain_journal}
-use Rattle.sc_live_plain.proofs.BudgetProofs.QuietLineEnds.{lines_plain, lines_roomy, far_from_last, some_owed}
+use Rattle.sc_live_plain.proofs.BudgetProofs.PlainLineEnds.{lines_plain, lines_roomy, far_from_last, some_owed}
 use Rattle.sc_live_plain.proofs.PlainProofs.GroupCircle.{round}
 
 -- a line with room for some deliveries has room for none

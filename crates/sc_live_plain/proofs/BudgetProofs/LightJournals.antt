@@ -31,10 +31,10 @@ use Rattle.sc_live_plain.proofs.PlainProofs.PlainBeginnings.{frames_of, IsStage,
 use Rattle.sc_live_plain.proofs.PlainProofs.PlainSteps.{node_born}
 use Rattle.sc_live_plain.proofs.PlainProofs.PlainJournals.{plain_journal}
 use Rattle.sc_live_plain.proofs.BudgetProofs.JournalBytes.{mail_light, begun_short, bytes_low}
-use Rattle.sc_live_plain.proofs.BudgetProofs.QuietLineEnds.{lines_plain, far_from_last, some_owed}
+use Rattle.sc_live_plain.proofs.BudgetProofs.PlainLineEnds.{lines_plain, far_from_last, some_owed}
 use Rattle.sc_live_plain.proofs.PlainProofs.GroupCircle.{round}
-use Rattle.sc_live_plain.proofs.RowsProofs.Lists.{map_among}
-use Rattle.sc_live_steps.proofs.CalmProofs.Lemmas.{count_numbers}
+use Rattle.sc_live_plain.proofs.PlainRowsProofs.Lists.{map_among}
+use Rattle.sc_live_steps.proofs.CalmStepsProofs.Lemmas.{count_numbers}
 
 -- ---- mail is for actors
 

@@ -29,5 +29,5 @@ pub made_at_budget : MadeScenariosAreAtBudget
 made_at_budget n seed few =
     let budget = budget_of (made_scenario n seed) in
     let all : requests_of (made_scenario n seed) ≡ 16 * n = clients_count seed n 16 in
-    let is : budget_of (made_scenario n seed) ≡ 16 * n * 44 = ap (λ requests. requests * 44) all in
-    Each-push (AllowsDeliveries budget) (made_goes 16) (Settle 1000000) (goes_allowed budget 16) (omega (arith, is, few))
+    let fact : budget_of (made_scenario n seed) ≡ 16 * n * 44 = ap (λ requests. requests * 44) all in
+    Each-push (AllowsDeliveries budget) (made_goes 16) (Settle 1000000) (goes_allowed budget 16) (omega (arith, fact, few))

@@ -1,9 +1,9 @@
 -- What a client does while clients ask alone, between two orders: it stays calm, and asks nodes that have a replica.
-use Rattle.std.proofs.Common.{◌≡◌, ℕ, ◌+◌, ◌-◌, ◌<◌, ◌≤◌, leb, eqb, Bool, true, false, cond, List, [], ◌∷◌, ◌++◌, length, map, take, drop, fold, Option, Some, None, ◌⊎◌, inl, inr, refl, sym, ◌∙◌, ap, subst, arith, take-append-drop}
+use Rattle.std.proofs.Common.{◌≡◌, ℕ, ◌+◌, ◌-◌, ◌<◌, ◌≤◌, eqb, Bool, true, false, cond, List, [], ◌∷◌, ◌++◌, length, map, take, drop, Option, Some, None, ◌⊎◌, inl, inr, refl, sym, ◌∙◌, ap, subst, arith, take-append-drop}
 use Rattle.std.specs.Prelude.{nat_le, slice_get, get_or, is_some}
 use Rattle.std.specs.Option.{option_map}
-use Rattle.std.specs.Map.{set_value, remove_entry}
-use Rattle.std.proofs.lemmas.Bool.{cond_both, cond-true, cond-false, cases_Bool, eqb-true, leb-true, leb-false, le-leb, and_parts, and_from, eq-eqb, both_ways}
+use Rattle.std.specs.Map.{remove_entry}
+use Rattle.std.proofs.lemmas.Bool.{cond_both, cond-true, eqb-true, leb-true, leb-false, le-leb, and_parts, and_from, eq-eqb, both_ways}
 use Rattle.std.proofs.lemmas.List.{length_push, length-map, length-take-le}
 use Rattle.std.proofs.lemmas.Option.{slice_get-get_or, slice_get_within}
 use Rattle.sc_base.specs.Definitions.{Among, Each, Arc, end_of, client_actor, key_of, same_draw, pos_of}
@@ -11,84 +11,19 @@ use Rattle.sc_node_table.specs.Values.{Draw, Op, Get, Reply, Got, Link, Route, A
 use Rattle.sc_base.proofs.Lemmas.{draw_is, same_name}
 use Rattle.sc_words.specs.ideal.Definitions.{holds_key}
 use Rattle.sc_actor.specs.declared.rows.Input.TheVariants.{Go}
-use Rattle.sc_client_table.specs.lookup.Definitions.{KnownGroups, way_to, nearer, better, chosen, target_in, changed, preferring, starting, group_learnt, learnt_from_not_mine, learnt_from_gone, far, new_way, target_of}
+use Rattle.sc_client_table.specs.lookup.Definitions.{KnownGroups, way_to, chosen, target_in, changed, preferring, starting, group_learnt, learnt_from_not_mine, learnt_from_gone, new_way, target_of}
 use Rattle.sc_client_table.specs.declared.lookup.ways.Way.{Way}
 use Rattle.sc_paxos_law.proofs.Lemmas.{from_map, Among-left}
 use Rattle.sc_client_table.specs.table.Definitions.{Client as ClientState, request_at, waiting_request, ClientStep, asked_of, sent_to, sent_where, chosen_for, request_sent, started, waits_for, was_asked, redirected, answer_taken, got, table}
 use Rattle.sc_scenario.specs.declared.scenario.scenarios.Asks.{Asks}
-use Rattle.sc_live_plain.specs.Definitions.{IsLinkedSetting, Knows, CanBeAsked, IsCalmClient, BeginsBy, StaysCalm, ClientsStayCalm, start_known, Setting, IsHome, HasGoneTo, IsSetting, IsAsideBody, IsCalmMail, Frame, begun_ones, IsWaiting, IsResting, IsBegun, Requests, IsPlainBody}
-use Rattle.sc_live_plain.proofs.CalmProofs.KnownGroups.{name_in, id_of, gap, one_of_one, preferring_names, preferring_starts, learn_in_turn}
-use Rattle.sc_live_plain.proofs.PlainProofs.PlainClients.{asking}
-use Rattle.sc_live_plain.proofs.PlainProofs.PlainKnownGroups.{chosen_is, one_chosen}
-use Rattle.sc_live_plain.proofs.RowsProofs.Lists.{some_is, map_among}
-use Rattle.sc_live_plain.proofs.RowsProofs.RepeatedMail.{mail_of}
+use Rattle.sc_live_plain.specs.Definitions.{IsLinkedSetting, Knows, CanBeAsked, IsCalmClient, BeginsBy, StaysCalm, ClientsStayCalm, Setting, IsHome, HasGoneTo, IsSetting, IsAsideBody, IsCalmMail, Frame, begun_ones, IsWaiting, IsResting, IsBegun, Requests, IsPlainBody}
+use Rattle.sc_live_plain.proofs.CalmProofs.ChosenGroups.{way_found, lookup_has, set_each, push_each, chosen_same, chosen_among}
+use Rattle.sc_live_plain.proofs.CalmProofs.KnownGroups.{name_in, id_of, one_of_one, preferring_names, preferring_starts, learn_in_turn}
+use Rattle.sc_live_plain.proofs.PlainProofs.PlainClients.{asking, unasked}
+use Rattle.sc_live_plain.proofs.PlainProofs.PlainKnownGroups.{one_chosen}
+use Rattle.sc_live_plain.proofs.PlainRowsProofs.Lists.{some_is}
+use Rattle.sc_live_plain.proofs.PlainRowsProofs.RepeatedMail.{mail_of}
 use Rattle.sc_live_plain.proofs.PlainProofs.BegunRequestCounts.{request_same as sent_begun}
-
--- ---- what is known of a group
-
--- of a group whose name is known, what is known of it
-way_found : (P : Draw × Way → Type 0) (known : KnownGroups) (group : Draw) → Among group (map name_in known) → Each P known → (way : Way) × (way_to group known ≡ Some way) × P (group, way)
-way_found P [] group a e = absurd a
-way_found P (k ∷ ks) group a e =
-    elim (cases_Bool (same_draw group k.0)) [
-      | inl t ↦ (k.1, cond-true (same_draw group k.0) (Some k.1) (way_to group ks) t, subst (λ d. P (d, k.1)) (sym (draw_is group k.0 t)) e.0)
-      | inr f ↦ (
-          let rest = way_found P ks group (elim a [ inl same ↦ absurd (both_ways (same_draw group k.0) f (same_name group k.0 (sym same))) | inr b ↦ b ]) e.1 in
-          (rest.0, cond-false (same_draw group k.0) (Some k.1) (way_to group ks) f ∙ rest.1, rest.2))
-    ]
-
-lookup_has : (P : Draw × Way → Type 0) (known : KnownGroups) (group : Draw) (way : Way) → way_to group known ≡ Some way → Each P known → P (group, way)
-lookup_has P [] group way f e = cc
-lookup_has P (k ∷ ks) group way f e =
-    elim (cases_Bool (same_draw group k.0)) [
-      | inl t ↦ (let same : k.1 ≡ way = some_is (sym (cond-true (same_draw group k.0) (Some k.1) (way_to group ks) t) ∙ f) in
-          subst (λ w. P (group, w)) same (subst (λ d. P (d, k.1)) (sym (draw_is group k.0 t)) e.0))
-      | inr n ↦ lookup_has P ks group way (sym (cond-false (same_draw group k.0) (Some k.1) (way_to group ks) n) ∙ f) e.1
-    ]
-
-set_each : (P : Draw × Way → Type 0) (group : Draw) (known : KnownGroups) (way : Way) → P (group, way) → Each P known → Each P (set_value (same_draw group) known way)
-set_each P group [] way p e = tt
-set_each P group (k ∷ ks) way p e =
-    cond_both (same_draw group k.0) ((k.0, way) ∷ ks) (k ∷ set_value (same_draw group) ks way) (Each P) (λ t. (subst (λ d. P (d, way)) (draw_is group k.0 t) p, e.1)) (λ f. (e.0, set_each P group ks way p e.1))
-
-push_each : (P : Draw × Way → Type 0) (known : KnownGroups) (entry : Draw × Way) → Each P known → P entry → Each P (known ++ entry ∷ [])
-push_each P [] entry e p = (p, tt)
-push_each P (k ∷ ks) entry e p = (e.0, push_each P ks entry e.1 p)
-
--- ---- which group is chosen depends on names and starts
-
-near_same : (p : ℕ) (x y a b : Draw × Way) → start_known x ≡ start_known y → start_known a ≡ start_known b → start_known (nearer p x a) ≡ start_known (nearer p y b)
-near_same p x y a b e f =
-    let same : leb (far p a.1) (far p x.1) ≡ leb (far p b.1) (far p y.1) = ap (λ (s : Draw × ℕ). leb (gap p s.1) (far p x.1)) f ∙ ap (λ (s : Draw × ℕ). leb (far p b.1) (gap p s.1)) e in
-    elim (cases_Bool (leb (far p a.1) (far p x.1))) [
-      | inl t ↦ ap start_known (cond-true (leb (far p a.1) (far p x.1)) a x t) ∙ (f ∙ sym (ap start_known (cond-true (leb (far p b.1) (far p y.1)) b y (sym same ∙ t))))
-      | inr n ↦ ap start_known (cond-false (leb (far p a.1) (far p x.1)) a x n) ∙ (e ∙ sym (ap start_known (cond-false (leb (far p b.1) (far p y.1)) b y (sym same ∙ n))))
-    ]
-
-abbrev chosen_name : Option (Draw × Way) → Option Draw
-chosen_name o = option_map (λ (entry : Draw × Way). entry.0) o
-
-best_same : (p : ℕ) (xs ys : KnownGroups) (x y : Draw × Way) → start_known x ≡ start_known y → map start_known xs ≡ map start_known ys → chosen_name (fold (better p) (Some x) xs) ≡ chosen_name (fold (better p) (Some y) ys)
-best_same p [] [] x y e f = ap (λ (s : Draw × ℕ). Some s.0) e
-best_same p (a ∷ xs) (b ∷ ys) x y e f =
-    let head : start_known a ≡ start_known b = cc in
-    let tail : map start_known xs ≡ map start_known ys = cc in
-    best_same p xs ys (nearer p x a) (nearer p y b) (near_same p x y a b e head) tail
-best_same p [] (b ∷ ys) x y e f = cc
-best_same p (a ∷ xs) [] x y e f = cc
-
-chosen_same : (p : ℕ) (known other : KnownGroups) → map start_known known ≡ map start_known other → chosen p known ≡ chosen p other
-chosen_same p [] [] e = refl
-chosen_same p (x ∷ xs) (y ∷ ys) e =
-    let head : start_known x ≡ start_known y = cc in
-    let tail : map start_known xs ≡ map start_known ys = cc in
-    best_same p xs ys x y head tail
-chosen_same p [] (y ∷ ys) e = cc
-chosen_same p (x ∷ xs) [] e = cc
-
--- the chosen group is known
-pub chosen_among : (p : ℕ) (known : KnownGroups) (group : Draw) → chosen p known ≡ Some group → Among group (map name_in known)
-chosen_among p known group e = (let c = chosen_is p known group e in subst (λ d. Among d (map name_in known)) c.name (map_among name_in known c.entry c.stands))
 
 -- ---- how many requests are begun
 
@@ -115,6 +50,21 @@ Seeks step = (w : IsWaiting step.0) → (op : Op) × Among (asking step.0.me w.t
 pub record Ignores (client : ClientState) (mail : Mail) (step : ClientStep) : Type 0 where
   pub after_is : step ≡ (client, [])
   pub no_end : (w : IsWaiting client) (answer : AnswerBody) → EndsWait answer → mail ≡ mail_of w.target (client_actor client.me) (Answer w.group w.seq answer) → ⊥
+
+-- what a body of calm mail says: plain words of a group, or what stands beside them
+pub record SaysPlain (begun : Requests) (set : Setting) (from to : ℕ) (body : MailBody) : Type 0 where
+  pub frame : Frame
+  pub is_frame : Among frame set.frames
+  pub says : IsPlainBody begun frame from to body
+
+abbrev pub CalmSays : Requests → Setting → ℕ → ℕ → MailBody → Type 0
+CalmSays begun set from to body = SaysPlain begun set from to body ⊎ IsAsideBody begun set from to body
+
+pub calm_says : (begun : Requests) (set : Setting) (mail : Mail) → IsCalmMail begun set mail → (body : MailBody) → mail.body ≡ body → CalmSays begun set mail.from mail.to body
+calm_says begun set mail m body e = elim m [
+  | inl q ↦ inl (record { frame = q.frame; is_frame = q.is_frame; says = subst (IsPlainBody begun q.frame mail.from mail.to) e q.says })
+  | inr a ↦ inr (subst (IsAsideBody begun set mail.from mail.to) e a)
+]
 
 module _ (set : Setting) where
   abbrev P : Draw × Way → Type 0
@@ -210,8 +160,8 @@ module _ (set : Setting) where
       ready_row : gone ≡ true → (seq : ℕ) (op : Op) (client : ClientState) → IsReady seq op client → begun client.me seq op → Stays (request_sent client)
       ready_row g seq op client k b =
           let one = one_chosen (pos_of (key_of op)) client.known (one_known client.known k.knows) in
-          let is : request_sent client ≡ sent_to one.0 client = ap (λ (o : Option (ℕ × Op)). sent_where client (chosen_for client o)) (request_is seq op client k) ∙ ap (sent_where client) one.1 in
-          subst Stays (sym is) (asked_row g seq op client k one.0 one.1 b)
+          let fact : request_sent client ≡ sent_to one.0 client = ap (λ (o : Option (ℕ × Op)). sent_where client (chosen_for client o)) (request_is seq op client k) ∙ ap (sent_where client) one.1 in
+          subst Stays (sym fact) (asked_row g seq op client k one.0 one.1 b)
 
     -- the next request, or none where all are answered
     started_row : (begun : Requests) (client : ClientState) (seq : ℕ) → client.me ≡ asks.client → client.requests ≡ asks.ops → (length client.replies < length client.requests → Knows set client.known) → (length client.replies < length client.requests → Each (CanBeAsked set) client.known) → seq ≡ length client.replies + 1 → length client.replies ≤ length client.requests
@@ -220,8 +170,8 @@ module _ (set : Setting) where
         cond_both (nat_le seq (length client.requests)) (request_sent (record client { waiting = Some seq })) (record client { waiting = None }, []) (λ (x : ClientStep). StaysCalm begun set asks true x × Seeks x)
         (λ t. (let le = leb-true seq (length client.requests) t in
         let op = get_or client.requests (seq - 1) (Get []) in
-        let is = slice_get-get_or client.requests (seq - 1) (Get []) (omega (arith, le, number)) in
-        ready_row begun true refl seq op (record client { waiting = Some seq }) (record { me_is = me_is; requests_are = requests_are; knows = knows (omega (arith, le, number)); targets = targets (omega (arith, le, number)); waits = refl; number = number; op_is = is }) (now seq op (omega (arith, number)) is (let begins = started_begun seq client le in omega (arith, begins, number)))))
+        let fact = slice_get-get_or client.requests (seq - 1) (Get []) (omega (arith, le, number)) in
+        ready_row begun true refl seq op (record client { waiting = Some seq }) (record { me_is = me_is; requests_are = requests_are; knows = knows (omega (arith, le, number)); targets = targets (omega (arith, le, number)); waits = refl; number = number; op_is = fact }) (now seq op (omega (arith, number)) fact (let begins = started_begun seq client le in omega (arith, begins, number)))))
         (λ f. (let past = leb-false seq (length client.requests) f in (
           (
             record { me_is = me_is; requests_are = requests_are; knows = knows; targets = targets; state = inl (record { waits = refl; replies = inr (refl, omega (arith, past, number, few)) }) },
@@ -229,11 +179,6 @@ module _ (set : Setting) where
           ),
           (λ w. (let bad : None ≡ Some w.seq = w.waits in cc)),
         )))
-
-    -- a client that has not started has asked nothing
-    pub unasked : (client : ClientState) → IsResting false client ⊎ ((false ≡ true) × IsWaiting client) → (client.waiting ≡ None) × (client.replies ≡ [])
-    unasked client (inl rests) = elim (rests.replies) [ inl is ↦ (rests.waits, is.1) | inr is ↦ (let bad : false ≡ true = is.0 in cc) ]
-    unasked client (inr is) = (let bad : false ≡ true = is.0 in cc)
 
     pub go_calm : (begun : Requests) (client : ClientState) → IsCalmClient set asks false client → BeginsBy begun client (table client Go) → StaysCalm begun set asks true (table client Go) × Seeks (table client Go)
     go_calm begun client k now =
@@ -243,7 +188,7 @@ module _ (set : Setting) where
 
     -- ---- each mail
 
-    module _ (begun later : Requests) (gone : Bool) (client : ClientState) (mail : Mail) (is : IsSetting set) (linked : IsLinkedSetting set) (k : IsCalmClient set asks gone client) (m : IsCalmMail begun set mail) (to : mail.to ≡ client_actor client.me)
+    module _ (begun later : Requests) (gone : Bool) (client : ClientState) (mail : Mail) (fact : IsSetting set) (linked : IsLinkedSetting set) (k : IsCalmClient set asks gone client) (m : IsCalmMail begun set mail) (to : mail.to ≡ client_actor client.me)
         (asked_right : (seq : ℕ) (op : Op) → begun client.me seq op → slice_get client.requests (seq - 1) ≡ Some op) (weaker : (c n : ℕ) (op : Op) → begun c n op → later c n op) (now : BeginsBy later client (table client (Got mail))) where
       abbrev Keeps : ClientStep → Type 0
       Keeps step = StaysCalm later set asks gone step × (Seeks step ⊎ Ignores client mail step)
@@ -260,21 +205,6 @@ module _ (set : Setting) where
         (record { me_is = k.me_is; requests_are = k.requests_are; knows = k.knows; targets = k.targets; state = k.state }, tt),
         inr (record { after_is = refl; no_end = λ w answer f e. no_end w answer f (ap (λ (m : Mail). m.from) e) (ap (λ (m : Mail). m.body) e) }),
       )
-
-      -- what a body says
-      record SaysPlain (body : MailBody) : Type 0 where
-        frame : Frame
-        is_frame : Among frame set.frames
-        says : IsPlainBody begun frame mail.from mail.to body
-
-      abbrev Says : MailBody → Type 0
-      Says body = SaysPlain body ⊎ IsAsideBody begun set mail.from mail.to body
-
-      says_of : (body : MailBody) → mail.body ≡ body → Says body
-      says_of body e = elim m [
-        | inl q ↦ inl (record { frame = q.frame; is_frame = q.is_frame; says = subst (IsPlainBody begun q.frame mail.from mail.to) e q.says })
-        | inr a ↦ inr (subst (IsAsideBody begun set mail.from mail.to) e a)
-      ]
 
       -- ---- an answer to the request that waits
 
@@ -310,7 +240,7 @@ module _ (set : Setting) where
             sends (started (w.seq + 1) after) (subst (λ g. StaysCalm later set asks g (started (w.seq + 1) after) × Seeks (started (w.seq + 1) after)) (sym is_gone) (started_row later after (w.seq + 1) k.me_is k.requests_are (λ more. k.knows few) (λ more. k.targets few) (omega (arith, push, number)) (omega (arith, push, low, number)) begins))
 
         -- it names another node, which is asked
-        hinted : (group : Draw) (node : ℕ) → w.group ≡ group → Says (Answer group w.seq (NotLeader (Some node))) → Keeps (sent_to group (record client { known = preferring group node client.known }))
+        hinted : (group : Draw) (node : ℕ) → w.group ≡ group → CalmSays begun set mail.from mail.to (Answer group w.seq (NotLeader (Some node))) → Keeps (sent_to group (record client { known = preferring group node client.known }))
         hinted group node name (inl s) = absurd (s.says.1.says)
         hinted group node name (inr s) =
             let known = preferring group node client.known in
@@ -333,11 +263,11 @@ module _ (set : Setting) where
             let among = subst (Among frame.core.id) r.first.names (chosen_among (pos_of (key_of w.op)) client.known frame.core.id chosen_here) in
             let f = from_map id_of (take r.reached r.ring) frame.core.id among in
             let in_ring : Among f.0 r.ring = subst (Among f.0) (take-append-drop r.reached r.ring) (Among-left f.0 (take r.reached r.ring) (drop r.reached r.ring) f.1) in
-            let same : f.0 ≡ frame = is.apart f.0 frame (r.is_ring.within f.0 in_ring) a f.2 in
+            let same : f.0 ≡ frame = fact.apart f.0 frame (r.is_ring.within f.0 in_ring) a f.2 in
             let next_ = learn_in_turn.not_mine r.ring r.reached (pos_of (key_of w.op)) frame client.known r.is_ring.round r.first (subst (λ x. Among x r.ring) same in_ring) chosen_here lacks in
             inr (record { ring = r.ring; is_ring = r.is_ring; reached = r.reached + 1; first = next_.1 })
 
-        sent_on : (group : Draw) (arc : Arc) (succ : Link) → w.group ≡ group → Says (Answer group w.seq (NotMine arc succ)) → Keeps (request_sent (record client { known = learnt_from_not_mine group arc succ client.known }))
+        sent_on : (group : Draw) (arc : Arc) (succ : Link) → w.group ≡ group → CalmSays begun set mail.from mail.to (Answer group w.seq (NotMine arc succ)) → Keeps (request_sent (record client { known = learnt_from_not_mine group arc succ client.known }))
         sent_on group arc succ name (inr s) = absurd (s.says)
         sent_on group arc succ name (inl s) =
             let frame : Frame = s.frame in
@@ -363,7 +293,7 @@ module _ (set : Setting) where
             let in_ring : Among f.0 r.ring = subst (Among f.0) (take-append-drop r.reached r.ring) (Among-left f.0 (take r.reached r.ring) (drop r.reached r.ring) f.1) in
             absurd (linked.stand f.0 into (r.is_ring.within f.0 in_ring) (subst (λ d. HasGoneTo set d into) (sym f.2) went))
 
-        moved : (group : Draw) (into : Route) → w.group ≡ group → Says (Answer group w.seq (Gone into)) → Keeps (request_sent (record client { known = learnt_from_gone group into client.known }))
+        moved : (group : Draw) (into : Route) → w.group ≡ group → CalmSays begun set mail.from mail.to (Answer group w.seq (Gone into)) → Keeps (request_sent (record client { known = learnt_from_gone group into client.known }))
         moved group into name (inl s) = absurd (s.says.1.says)
         moved group into name (inr s) =
             let one = alone group into name s.says (k.knows few) in
@@ -374,7 +304,7 @@ module _ (set : Setting) where
             (sends (request_sent (record client { known = known })) (ready_row later gone is_gone w.seq w.op (record client { known = known }) (ready known (inl (into.group, new_way into.lo into.members, refl)) (linked.routes group into s.says, tt)) (begun_later s.client s.op s.to_is s.is_begun)))
 
         -- whatever it says, where it comes from the node that was asked
-        redirected_calm : (group : Draw) (answer : AnswerBody) → mail.body ≡ Answer group w.seq answer → ((reply : Reply) → answer ≡ Value reply → ⊥) → w.group ≡ group → Says (Answer group w.seq answer) → Keeps (redirected group answer client)
+        redirected_calm : (group : Draw) (answer : AnswerBody) → mail.body ≡ Answer group w.seq answer → ((reply : Reply) → answer ≡ Value reply → ⊥) → w.group ≡ group → CalmSays begun set mail.from mail.to (Answer group w.seq answer) → Keeps (redirected group answer client)
         redirected_calm group (NotLeader (Some node)) e no_ name s = hinted group node name s
         redirected_calm group (NotLeader None) e no_ name (inl s) = absurd (s.says.1.says)
         redirected_calm group (NotLeader None) e no_ name (inr s) = absurd (s.says)
@@ -393,7 +323,7 @@ module _ (set : Setting) where
         by_asked group answer e no_ =
             cond_both (was_asked client.asked mail.from group) (redirected group answer client) (client, []) Keeps
             (λ t. (let parts = and_parts (eqb w.target mail.from) (same_draw w.group group) (ap (λ (o : Option (Draw × ℕ)). was_asked o mail.from group) (sym w.asked) ∙ t) in
-            redirected_calm group answer e no_ (draw_is w.group group parts.1) (says_of (Answer group w.seq answer) e)))
+            redirected_calm group answer e no_ (draw_is w.group group parts.1) (calm_says begun set mail m (Answer group w.seq answer) e)))
             (λ f. ignored (λ w_ answer_ ends from body. (
             let name : group ≡ w_.group = same_group (sym e ∙ body) in
             let asked : was_asked client.asked mail.from group ≡ true =
@@ -455,5 +385,5 @@ waiting_home set asks gone client k w = by (way_to w.group client.known) refl w.
 pub clients_calm : ClientsStayCalm
 clients_calm = record {
   go = λ scenario rows set asks client k now. (go_calm set asks (IsBegun scenario rows) client k now).0;
-  takes = λ scenario rows later set asks gone client mail is linked k m to asked_right weaker now. (takes_calm set asks (IsBegun scenario rows) (IsBegun scenario later) gone client mail is linked k m to asked_right weaker now).0;
+  takes = λ scenario rows later set asks gone client mail fact linked k m to asked_right weaker now. (takes_calm set asks (IsBegun scenario rows) (IsBegun scenario later) gone client mail fact linked k m to asked_right weaker now).0;
 }

@@ -9,10 +9,10 @@ use Rattle.sc_group_table.specs.machine.Definitions.{Group}
 use Rattle.sc_words.proofs.PaxosProofs.Lemmas.{Each-weaker, find_found}
 use Rattle.sc_node_table.specs.Definitions.{NodeState, replica_of, with_replica, node_table, ReplicaState, Executed, childless, name_of, mailed, request_refusal, requested, request_row}
 use Rattle.sc_live_plain.specs.Definitions.{Other, mark, Setting, IsHome, HasGoneTo, IsSetting, IsNearer, KnowsBetter, IsCalmNode, IsAsideAnswer, IsAsideBody, IsCalmMail, ComesInTime, NodesStayCalm, IsFrame, IsBegun, Requests, IsPlainBody, IsPlainMail, IsPlainAt}
-use Rattle.sc_live_plain.proofs.RowsProofs.Lists.{some_is}
-use Rattle.sc_live_plain.proofs.RowsProofs.NodeRows.{NodeRow, node_row, mail_is, node_plain, node_said, me_after, found_after, others_after}
-use Rattle.sc_live_plain.proofs.RowsProofs.ReplicaRows.{DidAccept, Does}
-use Rattle.sc_live_plain.proofs.RowsProofs.RepeatedMail.{mail_of}
+use Rattle.sc_live_plain.proofs.PlainRowsProofs.Lists.{some_is}
+use Rattle.sc_live_plain.proofs.PlainRowsProofs.NodeRows.{NodeRow, node_row, mail_is, node_plain, node_said, me_after, found_after, others_after}
+use Rattle.sc_live_plain.proofs.PlainRowsProofs.ReplicaRows.{DidAccept, Does}
+use Rattle.sc_live_plain.proofs.PlainRowsProofs.RepeatedMail.{mail_of}
 
 -- a replica in its own place leaves all as they are
 put_same : (group : Draw) (r : ReplicaState) (replicas : List ReplicaState) → replica_of group replicas ≡ Some r → with_replica group r replicas ≡ replicas
@@ -43,27 +43,27 @@ unfolding mailed request_row requested
 aside_step r group from client seq op stops =
     ap (λ (o : Option AnswerBody). childless (requested o client seq op (r, []))) (ap (λ b. request_refusal r.group.core.gone r.group.core b r.hint op) stops ∙ aside_refused r.group.core.gone r.group.core r.hint op)
 
-module _ (begun : Requests) (set : Setting) (is : IsSetting set) (node : NodeState) (n : IsCalmNode begun set node) (mail : Mail) (to : mail.to ≡ node.me)
+module _ (begun : Requests) (set : Setting) (fact : IsSetting set) (node : NodeState) (n : IsCalmNode begun set node) (mail : Mail) (to : mail.to ≡ node.me)
     (not_client : (client seq : ℕ) (op : Op) → begun client seq op → node.me ≡ client_actor client → ⊥) (due : ComesInTime begun set node mail) where
   abbrev Stays : NodeState × List Mail → Type 0
   Stays step = IsCalmNode begun set step.0 × Each (IsCalmMail begun set) step.1
 
   -- ---- a mail of a group that stands
 
-  module _ (k : NodeRow begun set.frames is.are is.apart node mail (node_table node (Got mail))) where
+  module _ (k : NodeRow begun set.frames fact.are fact.apart node mail (node_table node (Got mail))) where
     frame_is : IsFrame k.frame
-    frame_is = is.are k.frame k.is_frame
+    frame_is = fact.are k.frame k.is_frame
 
     me_is : (node_table node (Got mail)).0.me ≡ node.me
-    me_is = me_after begun set.frames is.are is.apart node mail (node_table node (Got mail)) n.plain k
+    me_is = me_after begun set.frames fact.are fact.apart node mail (node_table node (Got mail)) n.plain k
 
     -- a replica that is found then is the one that took the mail, or was there
     found_cases : (group : Draw) (r : ReplicaState) → replica_of group (node_table node (Got mail)).0.replicas ≡ Some r → ((k.frame.core.id ≡ group) × (k.place.0 ≡ r)) ⊎ (replica_of group node.replicas ≡ Some r)
     found_cases group r e = elim (cases_Bool (same_draw group k.frame.core.id)) [
       | inl t ↦ (let name = sym (draw_is group k.frame.core.id t) in
-          inl (name, some_is (sym (found_after begun set.frames is.are is.apart node mail (node_table node (Got mail)) n.plain k) ∙ (ap (λ d. replica_of d (node_table node (Got mail)).0.replicas) name ∙ e))))
+          inl (name, some_is (sym (found_after begun set.frames fact.are fact.apart node mail (node_table node (Got mail)) n.plain k) ∙ (ap (λ d. replica_of d (node_table node (Got mail)).0.replicas) name ∙ e))))
       | inr f ↦ (let other : group ≡ k.frame.core.id → ⊥ = λ same. both_ways (same_draw group k.frame.core.id) f (same_name group k.frame.core.id same) in
-          inr (sym (others_after begun set.frames is.are is.apart node mail (node_table node (Got mail)) n.plain k group other) ∙ e))
+          inr (sym (others_after begun set.frames fact.are fact.apart node mail (node_table node (Got mail)) n.plain k group other) ∙ e))
     ]
 
     says : IsPlainBody begun k.frame mail.from node.me mail.body
@@ -73,15 +73,15 @@ module _ (begun : Requests) (set : Setting) (is : IsSetting set) (node : NodeSta
     away left e = both_ways (is_member k.frame.core.members node.me) left (ap (is_member k.frame.core.members) e ∙ frame_is.leads)
 
     -- at a node that left, the mail asks to accept something
-    accepts : (body : MailBody) → is_member k.frame.core.members node.me ≡ false → IsPlainBody begun k.frame mail.from node.me body → Does begun k.frame (is.are k.frame k.is_frame) node.me k.r mail.from body k.place
-        → (slot : ℕ) × DidAccept begun k.frame (is.are k.frame k.is_frame) node.me mail.from slot k.r k.place
+    accepts : (body : MailBody) → is_member k.frame.core.members node.me ≡ false → IsPlainBody begun k.frame mail.from node.me body → Does begun k.frame (fact.are k.frame k.is_frame) node.me k.r mail.from body k.place
+        → (slot : ℕ) × DidAccept begun k.frame (fact.are k.frame k.is_frame) node.me mail.from slot k.r k.place
     accepts (Accept group ballot slot command) left b response = (slot, response)
     accepts (Request group client seq op) left b response = absurd (away left response.0)
     accepts (Accepted group ballot slot) left b response = absurd (away left response.0)
     accepts (Learn group slot command) left b response = absurd (both_ways (is_member k.frame.core.members node.me) left b.1.to_in)
     accepts _ left b response = absurd response
 
-    did : is_member k.frame.core.members node.me ≡ false → (slot : ℕ) × DidAccept begun k.frame (is.are k.frame k.is_frame) node.me mail.from slot k.r k.place
+    did : is_member k.frame.core.members node.me ≡ false → (slot : ℕ) × DidAccept begun k.frame (fact.are k.frame k.is_frame) node.me mail.from slot k.r k.place
     did left = accepts mail.body left says k.row.response
 
     own_after : IsPlainAt begun k.frame node.me k.place.0 → k.place.0.me ≡ node.me
@@ -100,18 +100,18 @@ module _ (begun : Requests) (set : Setting) (is : IsSetting set) (node : NodeSta
     stopped_at r ne (inr left) = left.follower.stopped
 
     near : (who : ℕ) → who ≡ node.me → (node.me ≡ k.frame.lead → ⊥) → set.ways.far k.frame.core.id k.frame.lead + 1 ≤ set.ways.far k.frame.core.id who
-    near who e ne = is.nearer k.frame who k.is_frame (λ lead. ne (sym e ∙ lead))
+    near who e ne = fact.nearer k.frame who k.is_frame (λ lead. ne (sym e ∙ lead))
 
     -- the leader is known, or where the group went is known still
     better_now : (gone : Option Route) → k.place.0.me ≡ node.me → k.place.0.hint ≡ Some k.frame.lead → (node.me ≡ k.frame.lead → ⊥) → KnowsBetter set k.frame.core.id k.r gone → KnowsBetter set k.frame.core.id k.place.0 gone
     better_now (Some into) me hint ne w = w
-    better_now None me hint ne w = (k.frame.lead, hint, record { has = is.leads k.frame k.is_frame; near = near k.place.0.me me ne })
+    better_now None me hint ne w = (k.frame.lead, hint, record { has = fact.leads k.frame k.is_frame; near = near k.place.0.me me ne })
 
     stops_after : IsPlainAt begun k.frame node.me k.place.0 → k.place.0.running ≡ false → KnowsBetter set k.frame.core.id k.place.0 k.place.0.group.core.gone
     stops_after (inl (p, inl l)) stops = absurd (both_ways k.place.0.running stops l.1.leader.running)
     stops_after (inl (p, inr f)) stops =
         let stands : k.place.0.group.core.gone ≡ None = ap (λ (core : Core). core.gone) p.group.core_is ∙ frame_is.stands in
-        subst (λ gone. KnowsBetter set k.frame.core.id k.place.0 gone) (sym stands) (k.frame.lead, p.hint_is, record { has = is.leads k.frame k.is_frame; near = near k.place.0.me p.me_is f.0 })
+        subst (λ gone. KnowsBetter set k.frame.core.id k.place.0 gone) (sym stands) (k.frame.lead, p.hint_is, record { has = fact.leads k.frame k.is_frame; near = near k.place.0.me p.me_is f.0 })
     stops_after (inr left) stops =
         let d = (did left.left).1 in
         let ne = away left.left in
@@ -121,15 +121,15 @@ module _ (begun : Requests) (set : Setting) (is : IsSetting set) (node : NodeSta
     plain_stays : Stays (node_table node (Got mail))
     plain_stays = (
       record {
-        plain = node_plain begun set.frames is.are is.apart node mail (node_table node (Got mail)) n.plain k;
+        plain = node_plain begun set.frames fact.are fact.apart node mail (node_table node (Got mail)) n.plain k;
         own = λ group r e. elim (found_cases group r e) [
           | inl here ↦ ap (λ (x : ReplicaState). x.me) (sym here.1) ∙ (own_after k.row.after ∙ sym me_is)
           | inr was ↦ n.own group r was ∙ sym me_is
         ];
         has = λ group h. (let was = n.has group (subst (IsHome set group) me_is h) in
             elim (cases_Bool (same_draw group k.frame.core.id)) [
-              | inl t ↦ (k.place.0, ap (λ d. replica_of d (node_table node (Got mail)).0.replicas) (draw_is group k.frame.core.id t) ∙ found_after begun set.frames is.are is.apart node mail (node_table node (Got mail)) n.plain k)
-              | inr f ↦ (was.0, others_after begun set.frames is.are is.apart node mail (node_table node (Got mail)) n.plain k group (λ same. both_ways (same_draw group k.frame.core.id) f (same_name group k.frame.core.id same)) ∙ was.1)
+              | inl t ↦ (k.place.0, ap (λ d. replica_of d (node_table node (Got mail)).0.replicas) (draw_is group k.frame.core.id t) ∙ found_after begun set.frames fact.are fact.apart node mail (node_table node (Got mail)) n.plain k)
+              | inr f ↦ (was.0, others_after begun set.frames fact.are fact.apart node mail (node_table node (Got mail)) n.plain k group (λ same. both_ways (same_draw group k.frame.core.id) f (same_name group k.frame.core.id same)) ∙ was.1)
             ]);
         runs = λ group r e runs. elim (found_cases group r e) [
           | inl here ↦ (k.frame, k.is_frame, here.0, me_is ∙ runs_after k.row.after (ap (λ (x : ReplicaState). x.running) here.1 ∙ runs))
@@ -141,7 +141,7 @@ module _ (begun : Requests) (set : Setting) (is : IsSetting set) (node : NodeSta
           | inr was ↦ n.stops group r was stops
         ];
       },
-      Each-weaker (IsPlainMail begun set.frames) (IsCalmMail begun set) (λ sent p. inl p) (node_table node (Got mail)).1 (node_said begun set.frames is.are is.apart node mail (node_table node (Got mail)) n.plain k),
+      Each-weaker (IsPlainMail begun set.frames) (IsCalmMail begun set) (λ sent p. inl p) (node_table node (Got mail)).1 (node_said begun set.frames fact.are fact.apart node mail (node_table node (Got mail)) n.plain k),
     )
 
   -- ---- a request to one that does not run
@@ -179,7 +179,7 @@ module _ (begun : Requests) (set : Setting) (is : IsSetting set) (node : NodeSta
     unfolding aside_mail
     by_request =
         let s = aside_step a.r a.group mail.from a.client a.seq a.op a.stopped in
-        mail_is begun set.frames is.are is.apart a.group mail.from (Request a.group a.client a.seq a.op) node a.r refl refl a.found (ap (λ (e : Executed). e.1) s)
+        mail_is begun set.frames fact.are fact.apart a.group mail.from (Request a.group a.client a.seq a.op) node a.r refl refl a.found (ap (λ (e : Executed). e.1) s)
         ∙ (ap (λ (e : Executed). (record node { replicas = with_replica a.group e.0.0 node.replicas }, e.0.1)) s
         ∙ ap (λ (rs : List ReplicaState). (record node { replicas = rs }, mail_of a.r.me (client_actor a.client) (Answer (name_of a.r) a.seq (aside_answer a.r.group.core.gone a.r.hint)) ∷ [])) (put_same a.group a.r node.replicas a.found))
 
@@ -202,10 +202,10 @@ module _ (begun : Requests) (set : Setting) (is : IsSetting set) (node : NodeSta
   -- ---- each mail
 
   abbrev pub Turns : Type 0
-  Turns = NodeRow begun set.frames is.are is.apart node mail (node_table node (Got mail)) ⊎ StepsAside
+  Turns = NodeRow begun set.frames fact.are fact.apart node mail (node_table node (Got mail)) ⊎ StepsAside
 
   plain_turns : IsPlainMail begun set.frames mail → Turns
-  plain_turns m = inl (node_row begun set.frames is.are is.apart node mail n.plain m to not_client due)
+  plain_turns m = inl (node_row begun set.frames fact.are fact.apart node mail n.plain m to not_client due)
 
   request_turns : (group : Draw) (client seq : ℕ) (op : Op) → mail.body ≡ Request group client seq op → IsAsideBody begun set mail.from mail.to (Request group client seq op) → Turns
   request_turns group client seq op e a =
@@ -242,4 +242,4 @@ module _ (begun : Requests) (set : Setting) (is : IsSetting set) (node : NodeSta
 
 -- Between two orders, while clients ask alone, a node that takes mail stays calm and sends such mail: its replicas of groups that stand stay plain, and all others answer whom to ask or where their group went.
 pub nodes_calm : NodesStayCalm
-nodes_calm scenario rows set node mail is n m to not_client due = stays_by (IsBegun scenario rows) set is node n mail to not_client due (turns (IsBegun scenario rows) set is node n mail to not_client due m)
+nodes_calm scenario rows set node mail fact n m to not_client due = stays_by (IsBegun scenario rows) set fact node n mail to not_client due (turns (IsBegun scenario rows) set fact node n mail to not_client due m)

@@ -1,49 +1,32 @@
 -- Between two orders each request that waits is on its way, or its answer is, or it is queued at the leader that was asked.
-use Rattle.std.proofs.Common.{◌≡◌, ℕ, ◌≤◌, eqb, true, false, List, [], ◌∷◌, ◌++◌, drop, find, Option, Some, None, ◌⊎◌, inl, inr, refl, sym, ◌∙◌, ap, subst, arith}
-use Rattle.std.proofs.lemmas.Bool.{cases_eq, cases_Bool, both_ways}
-use Rattle.sc_base.specs.Definitions.{Among, client_actor, same_draw}
-use Rattle.sc_node_table.specs.Values.{Draw, Op, Route, OrderLine, AnswerBody, NotMine, Stale, Mail, Request, Answer, Node, Client, Seat, Event, Deliver, Go, Got, Row}
-use Rattle.sc_base.proofs.Lemmas.{draw_is, same_name}
+use Rattle.std.proofs.Common.{◌≡◌, ℕ, eqb, true, false, List, [], ◌∷◌, ◌++◌, drop, find, Some, ◌⊎◌, inl, inr, refl, sym, ◌∙◌, ap, subst, arith}
+use Rattle.std.proofs.lemmas.Bool.{cases_eq, both_ways}
+use Rattle.sc_base.specs.Definitions.{Among, client_actor}
+use Rattle.sc_node_table.specs.Values.{Draw, OrderLine, Mail, Answer, Client, Seat, Event, Deliver, Go, Got, Row}
 use Rattle.sc_actor.specs.declared.rows.Input.TheVariants.{Go as GoInput}
-use Rattle.sc_actor.specs.Definitions.{mails, value, acted, input_of, System, row_of, has_started, waiting, kth}
-use Rattle.sc_words.proofs.PaxosProofs.Lemmas.{find_found}
+use Rattle.sc_actor.specs.Definitions.{value, System, row_of, has_started, waiting, kth}
 use Rattle.sc_client_table.specs.table.Definitions.{Client as ClientState, ClientStep, table}
-use Rattle.sc_node_table.specs.Definitions.{NodeState, replica_of, is_node, node_table, ReplicaState, Place, name_of}
+use Rattle.sc_node_table.specs.Definitions.{is_node}
 use Rattle.sc_scenario.specs.declared.scenario.scenarios.Asks.{Asks}
 use Rattle.sc_scenario.specs.declared.scenario.scenarios.Scenario.{Scenario}
 use Rattle.sc_meaning.specs.sound.Definitions.{Player, player_table, node_seat, client_seat, route_of, births, system_of, as_nodes}
 use Rattle.sc_live_orderly.specs.Definitions.{IsTidy, IsOrderly, IsInOrder, rest, mail_for, taken}
 use Rattle.sc_live_orderly.proofs.Lemmas.{TakesFirst, rest-row}
-use Rattle.sc_live_plain.specs.Definitions.{IsAskingNode, IsAsking, AreFarFromLast, replica_at, IsLinkedSetting, Setting, IsSetting, Frame, IsBegun, IsWaiting, IsPlainBody}
+use Rattle.sc_live_plain.specs.Definitions.{IsAsking, AreFarFromLast, IsLinkedSetting, Setting, IsSetting, IsWaiting}
 use Rattle.sc_live_plain.proofs.CalmProofs.RequestPhaseClients as clients_of
-use Rattle.sc_live_plain.proofs.CalmProofs.RequestPhaseNodes as turns_of
 use Rattle.sc_live_plain.proofs.PlainProofs.PlainBeginnings.{IsStage}
-use Rattle.sc_live_plain.proofs.PlainProofs.PlainSteps.{node_number, client_number, value_others, client_away}
-use Rattle.sc_live_plain.proofs.RowsProofs.RowViews.{Journal, replica_is, replica_others}
+use Rattle.sc_live_plain.proofs.PlainProofs.PlainSteps.{client_number, value_others}
+use Rattle.sc_live_plain.proofs.PlainRowsProofs.RowViews.{Journal, replica_others}
 use Rattle.sc_live_plain.proofs.PlainProofs.PlainJournals.{of_player}
-use Rattle.sc_live_plain.proofs.CalmProofs.CalmClients.{EndsWait, Seeks, Ignores}
-use Rattle.sc_live_plain.proofs.CalmProofs.CalmNodes.{Turns, aside_is, aside_answer, step_is}
+use Rattle.sc_live_plain.proofs.CalmProofs.CalmClients.{Seeks, Ignores}
 use Rattle.sc_live_plain.proofs.PlainProofs.PlainClients.{asking}
-use Rattle.sc_live_plain.proofs.LeadersProofs.LeadingReplicas.{IsHeld, IsReportedOf}
-use Rattle.sc_live_plain.proofs.RowsProofs.Lists.{some_is}
-use Rattle.sc_live_plain.proofs.RowsProofs.NodeRows.{NodeRow, found_after, others_after}
-use Rattle.sc_live_plain.proofs.PlainProofs.WaitingRequestPlaces.{IsFinal, does_holds, sent_left, others_left, own_left, behind_left, told_final}
+use Rattle.sc_live_plain.proofs.PlainProofs.WaitingRequestPlaces.{sent_left, others_left, behind_left}
 use Rattle.sc_live_plain.proofs.PlainProofs.WaitingRequestJournals.{client_is}
-use Rattle.sc_live_plain.proofs.RowsProofs.ReplicaRows.{Does}
-use Rattle.sc_live_plain.proofs.RowsProofs.RepeatedMail.{mail_of}
+use Rattle.sc_live_plain.proofs.PlainRowsProofs.RepeatedMail.{mail_of}
+use Rattle.sc_live_plain.proofs.CalmProofs.SoughtRequests.{IsAsked, IsHeldAt, IsSought, AreSought, me_of}
+use Rattle.sc_live_plain.proofs.CalmProofs.NodeRowsLeaveRequests.{node_event}
 
-final_ends : (answer : AnswerBody) → IsFinal answer → EndsWait answer
-final_ends (Stale last) f = f
-final_ends _ f = tt
-
-aside_ends : (gone : Option Route) (hint : Option ℕ) → EndsWait (aside_answer gone hint)
-aside_ends (Some into) hint = tt
-aside_ends None hint = tt
-
-abbrev with_mail : NodeState → Mail → NodeState × List Mail
-with_mail node mail = (node, mail ∷ [])
-
-module _ (words : ℕ → ℕ → ℕ × ℕ) (scenario : Scenario) (begins : IsStage scenario) (set : Setting) (is : IsSetting set) (linked : IsLinkedSetting set) where
+module _ (words : ℕ → ℕ → ℕ × ℕ) (scenario : Scenario) (begins : IsStage scenario) (set : Setting) (fact : IsSetting set) (linked : IsLinkedSetting set) where
   abbrev sys : System Player Mail OrderLine
   sys = system_of as_nodes words scenario
 
@@ -53,307 +36,7 @@ module _ (words : ℕ → ℕ → ℕ × ℕ) (scenario : Scenario) (begins : Is
   abbrev cseat : Asks → Seat Player
   cseat asks = client_seat (route_of begins.first) asks
 
-  -- its request is on its way
-  abbrev pub IsAsked : Journal → ClientState → Draw → ℕ → ℕ → Type 0
-  IsAsked rows client group target seq = (op : Op) × Among (asking client.me target group seq op) (rest (system_of as_nodes words scenario) rows target)
-
-  -- its answer is
-  pub record IsAnswered (rows : Journal) (client : ClientState) (group : Draw) (target seq : ℕ) : Type 0 where
-    pub answer : AnswerBody
-    pub ends : EndsWait answer
-    pub there : Among (mail_of target (client_actor client.me) (Answer group seq answer)) (rest (system_of as_nodes words scenario) rows (client_actor client.me))
-
-  -- its request is queued at the leader
-  pub record IsHeldAt (rows : Journal) (client : ClientState) (group : Draw) (target seq : ℕ) : Type 0 where
-    pub frame : Frame
-    pub is_frame : Among frame set.frames
-    pub name : frame.core.id ≡ group
-    pub lead : frame.lead ≡ target
-    pub r : ReplicaState
-    pub there : replica_at scenario rows group target ≡ Some r
-    pub held : IsHeld r client.me seq
-
-  -- one of these
-  abbrev pub IsSought : Journal → ClientState → Draw → ℕ → ℕ → Type 0
-  IsSought rows client group target seq = IsAsked rows client group target seq ⊎ (IsAnswered rows client group target seq ⊎ IsHeldAt rows client group target seq)
-
-  abbrev pub AreSought : Journal → Type 0
-  AreSought rows = (asks : Asks) (client : ClientState) → Among asks scenario.clients → value player_table (client_seat (route_of begins.first) asks) rows ≡ Client client → (w : IsWaiting client) → IsSought rows client w.group w.target w.seq
-
-  module _ (rows : Journal) (t : IsTidy rows) (j : IsAsking words scenario set begins.first rows) (sought : AreSought rows) where
-    me_of : (asks : Asks) (client : ClientState) → Among asks scenario.clients → value player_table (client_seat (route_of begins.first) asks) rows ≡ Client client → client.me ≡ asks.client
-    me_of asks client a e = (let c = j.clients asks a in ap (λ (x : ClientState). x.me) (client_is (sym e ∙ c.is)) ∙ c.calm.me_is)
-
-    -- ---- rows of nodes
-
-    module _ (room : AreFarFromLast scenario set rows) (me : ℕ) (one : 1 ≤ me) (most : me ≤ scenario.nodes) (born : find (λ (other : Seat Player). eqb other.who me) (births as_nodes scenario) ≡ Some (node_seat as_nodes scenario.groups scenario.policy me)) where
-      module _ (event : Event OrderLine) (fine : IsInOrder (system_of as_nodes words scenario) rows me event) where
-        after : (who : ℕ) → rest (system_of as_nodes words scenario) (rows ++ row_of player_table (node_seat as_nodes scenario.groups scenario.policy me) rows event ∷ []) who
-            ≡ drop (taken who (row_of player_table (node_seat as_nodes scenario.groups scenario.policy me) rows event)) (rest (system_of as_nodes words scenario) rows who) ++ mail_for (system_of as_nodes words scenario) who (row_of player_table (node_seat as_nodes scenario.groups scenario.policy me) rows event).sent
-        after who = rest-row sys rows (row_of player_table (nseat me) rows event) who t (record { seat = nseat me; born = born; event = event; row_is = refl; in_order = fine })
-
-        -- a client is what it was
-        was_client : (asks : Asks) (client : ClientState) → Among asks scenario.clients → value player_table (client_seat (route_of begins.first) asks) (rows ++ row_of player_table (node_seat as_nodes scenario.groups scenario.policy me) rows event ∷ []) ≡ Client client
-            → value player_table (client_seat (route_of begins.first) asks) rows ≡ Client client
-        was_client asks client a e = sym (value_others words scenario begins rows (row_of player_table (nseat me) rows event) (cseat asks) (λ x. client_away words scenario begins me (node_number words scenario begins me one most) asks a x)) ∙ e
-
-        -- where the node that was asked does not act
-        elsewhere : (client : ClientState) (group : Draw) (target seq : ℕ) → (client_actor client.me ≡ me → ⊥) → (target ≡ me → ⊥) → IsSought rows client group target seq → IsSought (rows ++ row_of player_table (node_seat as_nodes scenario.groups scenario.policy me) rows event ∷ []) client group target seq
-        elsewhere client group target seq ne other (inl asked) = inl (asked.0, others_left words scenario rows (row_of player_table (nseat me) rows event) after target (asking client.me target group seq asked.0) other asked.1)
-        elsewhere client group target seq ne other (inr (inl a)) =
-            inr (inl (record { answer = a.answer; ends = a.ends; there = others_left words scenario rows (row_of player_table (nseat me) rows event) after (client_actor client.me) (mail_of target (client_actor client.me) (Answer group seq a.answer)) ne a.there }))
-        elsewhere client group target seq ne other (inr (inr h)) =
-            inr (inr (record { frame = h.frame; is_frame = h.is_frame; name = h.name; lead = h.lead; r = h.r; there = replica_others words scenario rows (row_of player_table (nseat me) rows event) group target other ∙ h.there; held = h.held }))
-
-        -- an answer on its way stays there
-        answered_stays : (client : ClientState) (group : Draw) (target seq : ℕ) → (client_actor client.me ≡ me → ⊥) → IsAnswered rows client group target seq → IsAnswered (rows ++ row_of player_table (node_seat as_nodes scenario.groups scenario.policy me) rows event ∷ []) client group target seq
-        answered_stays client group target seq ne a =
-            record { answer = a.answer; ends = a.ends; there = others_left words scenario rows (row_of player_table (nseat me) rows event) after (client_actor client.me) (mail_of target (client_actor client.me) (Answer group seq a.answer)) ne a.there }
-
-      -- ---- a node takes a mail
-
-      module _ (number : ℕ) (fine : kth (waiting (system_of as_nodes words scenario) rows (Some me)) 1 ≡ Some number) (n : IsAskingNode scenario set rows me)
-          (first : TakesFirst (system_of as_nodes words scenario) rows me number) (step : NodeState × List Mail) (became : value player_table (node_seat as_nodes scenario.groups scenario.policy me) (rows ++ row_of player_table (node_seat as_nodes scenario.groups scenario.policy me) rows (Deliver number) ∷ []) ≡ Node step.0)
-          (sends : (row_of player_table (node_seat as_nodes scenario.groups scenario.policy me) rows (Deliver number)).sent ≡ step.1)
-          (asks : Asks) (client : ClientState) (a : Among asks scenario.clients) (was : value player_table (client_seat (route_of begins.first) asks) rows ≡ Client client) (w : IsWaiting client) (here : w.target ≡ me) where
-        abbrev Later : Type 0
-        Later = IsSought (rows ++ row_of player_table (node_seat as_nodes scenario.groups scenario.policy me) rows (Deliver number) ∷ []) client w.group w.target w.seq
-
-        -- what becomes of its request where that is taken, and where it is queued
-        abbrev Took : Type 0
-        Took = (op : Op) → first.mail ≡ asking client.me w.target w.group w.seq op → Later
-
-        abbrev Held : Type 0
-        Held = IsHeldAt rows client w.group w.target w.seq → Later
-
-        number_is : is_node me ≡ true
-        number_is = node_number words scenario begins me one most
-
-        who : client.me ≡ asks.client
-        who = me_of asks client a was
-
-        no_client : client_actor client.me ≡ me → ⊥
-        no_client e = client_away words scenario begins me (node_number words scenario begins me one most) asks a (ap client_actor (sym who) ∙ e)
-
-        -- the replicas before and after
-        before_is : (group : Draw) → replica_at scenario rows group me ≡ replica_of group n.node.replicas
-        before_is group = replica_is words scenario rows group me (Node n.node) number_is n.is
-
-        after_is : (group : Draw) → replica_at scenario (rows ++ row_of player_table (node_seat as_nodes scenario.groups scenario.policy me) rows (Deliver number) ∷ []) group me ≡ replica_of group step.0.replicas
-        after_is group = replica_is words scenario (rows ++ row_of player_table (nseat me) rows (Deliver number) ∷ []) group me (Node step.0) number_is became
-
-        -- an answer that the node sends
-        told_later : (answer : AnswerBody) → EndsWait answer → Among (mail_of w.target (client_actor client.me) (Answer w.group w.seq answer)) step.1 → Later
-        told_later answer ends sent =
-            inr (inl (record {
-              answer = answer;
-              ends = ends;
-              there = sent_left words scenario rows (row_of player_table (nseat me) rows (Deliver number)) (after (Deliver number) fine) (client_actor client.me) (mail_of w.target (client_actor client.me) (Answer w.group w.seq answer)) refl (subst (Among (mail_of w.target (client_actor client.me) (Answer w.group w.seq answer))) (sym sends) sent);
-            }))
-
-        -- by a replica of a group that stands
-        module _ (k : NodeRow (IsBegun scenario rows) set.frames is.are is.apart n.node first.mail step) where
-          said_is : step.1 ≡ k.place.1
-          said_is = ap (λ (x : NodeState × List Mail). x.1) k.after_is
-
-          -- the node leads the group that was asked
-          module _ (name : k.frame.core.id ≡ w.group) (lead : w.target ≡ k.frame.lead) where
-            mail_is : (answer : AnswerBody) → mail_of k.frame.lead (client_actor client.me) (Answer k.frame.core.id w.seq answer) ≡ mail_of w.target (client_actor client.me) (Answer w.group w.seq answer)
-            mail_is answer =
-                ap (λ x. mail_of x (client_actor client.me) (Answer k.frame.core.id w.seq answer)) (sym lead)
-                ∙ ap (λ d. mail_of w.target (client_actor client.me) (Answer d w.seq answer)) name
-
-            answered_later : (answer : AnswerBody) → EndsWait answer → Among (mail_of k.frame.lead (client_actor client.me) (Answer k.frame.core.id w.seq answer)) k.place.1 → Later
-            answered_later answer ends sent = told_later answer ends (subst (Among (mail_of w.target (client_actor client.me) (Answer w.group w.seq answer))) (sym said_is) (subst (λ m. Among m k.place.1) (mail_is answer) sent))
-
-            told : IsReportedOf k.frame k.place.1 client.me w.seq → Later
-            told x =
-                let f = told_final words scenario begins rows asks a client was who w k.frame k.place.1 k.row.said x in
-                answered_later f.0 (final_ends f.0 f.1) f.2
-
-            held_later : IsHeld k.place.0 client.me w.seq → Later
-            held_later h =
-                inr (inr (record {
-                  frame = k.frame;
-                  is_frame = k.is_frame;
-                  name = name;
-                  lead = sym lead;
-                  r = k.place.0;
-                  there = ap (λ d. replica_at scenario (rows ++ row_of player_table (nseat me) rows (Deliver number) ∷ []) d w.target) (sym name)
-                      ∙ (ap (replica_at scenario (rows ++ row_of player_table (nseat me) rows (Deliver number) ∷ []) k.frame.core.id) here
-                      ∙ (after_is k.frame.core.id ∙ found_after (IsBegun scenario rows) set.frames is.are is.apart n.node first.mail step n.calm.plain k));
-                  held = h;
-                }))
-
-            -- the request comes to it
-            took : Took
-            took op same =
-                let response = subst (λ (m : Mail). Does (IsBegun scenario rows) k.frame (is.are k.frame k.is_frame) n.node.me k.r m.from m.body k.place) same k.row.response in
-                elim (response.1) [
-                  | inl refused ↦ answered_later (NotMine k.frame.core.arc k.frame.core.succ) tt (subst (Among (mail_of k.frame.lead (client_actor client.me) (Answer k.frame.core.id w.seq (NotMine k.frame.core.arc k.frame.core.succ)))) (sym (ap (λ (p : Place). p.1) refused.place_is)) (inl refl))
-                  | inr queued ↦ elim (queued.run.leads.backlog client.me w.seq (inr (refl, omega arith))) [ inl h ↦ held_later h | inr x ↦ told x ]
-                ]
-
-            -- its request is queued there
-            held_still : (r : ReplicaState) → replica_at scenario rows w.group w.target ≡ Some r → IsHeld r client.me w.seq → Later
-            held_still r there h =
-                let was_there : Some k.r ≡ Some r = sym k.found ∙ (sym (before_is k.frame.core.id) ∙ (ap (λ d. replica_at scenario rows d me) name ∙ (ap (replica_at scenario rows w.group) (sym here) ∙ there))) in
-                let same : k.r ≡ r = some_is was_there in
-                elim (does_holds (IsBegun scenario rows) k.frame (is.are k.frame k.is_frame) n.node.me k.r first.mail.from first.mail.body k.place (n.me_is ∙ (sym here ∙ lead)) k.row.response client.me w.seq (subst (λ x. IsHeld x client.me w.seq) (sym same) h)) [
-                  | inl now_ ↦ held_later now_
-                  | inr x ↦ told x
-                ]
-
-          took_by : Took
-          took_by op same =
-              let b = subst (λ (m : Mail). IsPlainBody (IsBegun scenario rows) k.frame m.from m.to m.body) same k.says in
-              took (sym b.0) b.1.to_is op same
-
-          held_by : Held
-          held_by h = elim (cases_Bool (same_draw w.group k.frame.core.id)) [
-            | inl yes_ ↦ (
-                let name : k.frame.core.id ≡ w.group = sym (draw_is w.group k.frame.core.id yes_) in
-                let same : k.frame ≡ h.frame = is.apart k.frame h.frame k.is_frame h.is_frame (name ∙ sym h.name) in
-                held_still name (sym h.lead ∙ ap (λ (f : Frame). f.lead) (sym same)) h.r h.there h.held)
-            | inr no_ ↦ (
-                let other : w.group ≡ k.frame.core.id → ⊥ = λ e. both_ways (same_draw w.group k.frame.core.id) no_ (same_name w.group k.frame.core.id e) in
-                inr (inr (record {
-                  frame = h.frame;
-                  is_frame = h.is_frame;
-                  name = h.name;
-                  lead = h.lead;
-                  r = h.r;
-                  there = ap (replica_at scenario (rows ++ row_of player_table (nseat me) rows (Deliver number) ∷ []) w.group) here
-                      ∙ (after_is w.group
-                      ∙ (others_after (IsBegun scenario rows) set.frames is.are is.apart n.node first.mail step n.calm.plain k w.group other ∙ (sym (before_is w.group) ∙ (ap (replica_at scenario rows w.group) (sym here) ∙ h.there))));
-                  held = h.held;
-                })))
-          ]
-
-        -- by one that steps aside: the node stays, and answers
-        module _ (group : Draw) (c seq : ℕ) (op_ : Op) (body_is : first.mail.body ≡ Request group c seq op_) (answer : AnswerBody) (ends : EndsWait answer) (step_is_ : step ≡ (n.node, mail_of me (client_actor c) (Answer group seq answer) ∷ [])) where
-          took_aside : Took
-          took_aside op same =
-              let body : Request group c seq op_ ≡ Request w.group client.me w.seq op = sym body_is ∙ ap (λ (m : Mail). m.body) same in
-              let g : group ≡ w.group = cc in
-              let who_ : c ≡ client.me = cc in
-              let seq_ : seq ≡ w.seq = cc in
-              let mail : mail_of me (client_actor c) (Answer group seq answer) ≡ mail_of w.target (client_actor client.me) (Answer w.group w.seq answer) =
-              ap (λ x. mail_of x (client_actor c) (Answer group seq answer)) (sym here)
-              ∙ (ap (λ x. mail_of w.target (client_actor x) (Answer group seq answer)) who_ ∙ (ap (λ d. mail_of w.target (client_actor client.me) (Answer d seq answer)) g ∙ ap (λ m. mail_of w.target (client_actor client.me) (Answer w.group m answer)) seq_)) in
-              told_later answer ends (subst (Among (mail_of w.target (client_actor client.me) (Answer w.group w.seq answer))) (sym (ap (λ (x : NodeState × List Mail). x.1) step_is_)) (inl mail))
-
-          held_aside : Held
-          held_aside h =
-              inr (inr (record {
-                frame = h.frame;
-                is_frame = h.is_frame;
-                name = h.name;
-                lead = h.lead;
-                r = h.r;
-                there = ap (replica_at scenario (rows ++ row_of player_table (nseat me) rows (Deliver number) ∷ []) w.group) here
-                    ∙ (after_is w.group
-                    ∙ (ap (λ (x : NodeState × List Mail). replica_of w.group x.0.replicas) step_is_ ∙ (sym (before_is w.group) ∙ (ap (replica_at scenario rows w.group) (sym here) ∙ h.there))));
-                held = h.held;
-              }))
-
-        -- whoever takes it
-        record Takes : Type 0 where
-          took_it : Took
-          held_it : Held
-
-        sought_here : Takes → IsSought rows client w.group w.target w.seq → Later
-        sought_here takes (inl asked) =
-            let mine : Among (asking client.me w.target w.group w.seq asked.0) (rest (system_of as_nodes words scenario) rows me) = subst (λ x. Among (asking client.me w.target w.group w.seq asked.0) (rest sys rows x)) here asked.1 in
-            elim (behind_left words scenario rows (row_of player_table (nseat me) rows (Deliver number)) (after (Deliver number) fine) first.mail first.behind first.first refl (asking client.me w.target w.group w.seq asked.0) mine) [
-              | inl same ↦ takes.took_it asked.0 same
-              | inr b ↦ inl (asked.0, subst (λ x. Among (asking client.me w.target w.group w.seq asked.0) (rest sys (rows ++ row_of player_table (nseat me) rows (Deliver number) ∷ []) x)) (sym here) b)
-            ]
-        sought_here takes (inr (inl x)) = inr (inl (answered_stays (Deliver number) fine client w.group w.target w.seq no_client x))
-        sought_here takes (inr (inr h)) = takes.held_it h
-
-      -- ---- any row of a node
-
-      module _ (number : ℕ) (fine : kth (waiting (system_of as_nodes words scenario) rows (Some me)) 1 ≡ Some number) where
-        abbrev at : IsAskingNode scenario set rows me
-        at = turns_of.n words scenario begins set is rows t j room me one most born
-
-        abbrev first_ : TakesFirst (system_of as_nodes words scenario) rows me number
-        first_ = turns_of.first words scenario begins set is rows t j room me one most born number fine
-
-        abbrev step_ : NodeState × List Mail
-        step_ = node_table at.node (Got first_.mail)
-
-        became_ : value player_table (node_seat as_nodes scenario.groups scenario.policy me) (rows ++ row_of player_table (node_seat as_nodes scenario.groups scenario.policy me) rows (Deliver number) ∷ []) ≡ Node step_.0
-        became_ = turns_of.became words scenario begins set is rows t j room me one most born number fine
-
-        sends_ : (row_of player_table (node_seat as_nodes scenario.groups scenario.policy me) rows (Deliver number)).sent ≡ step_.1
-        sends_ = turns_of.sends words scenario begins set is rows t j room me one most born number fine
-
-        takes_by : (asks : Asks) (client : ClientState) (a : Among asks scenario.clients) (was : value player_table (client_seat (route_of begins.first) asks) rows ≡ Client client) (w : IsWaiting client) (here : w.target ≡ me)
-            → Turns (IsBegun scenario rows) set is at.node at.calm first_.mail (turns_of.to_me words scenario begins set is rows t j room me one most born number fine) (turns_of.not_client words scenario begins set is rows t j room me one most born) (turns_of.in_time words scenario begins set is rows t j room me one most born number fine)
-            → Takes number fine at first_ step_ became_ sends_ asks client a was w here
-        takes_by asks client a was w here (inl k) = record {
-          took_it = took_by number fine at first_ step_ became_ sends_ asks client a was w here k;
-          held_it = held_by number fine at first_ step_ became_ sends_ asks client a was w here k;
-        }
-        takes_by asks client a was w here (inr s) =
-            let step_is_ = step_is (IsBegun scenario rows) set is at.node at.calm first_.mail (turns_of.to_me words scenario begins set is rows t j room me one most born number fine) (turns_of.not_client words scenario begins set is rows t j room me one most born) (turns_of.in_time words scenario begins set is rows t j room me one most born number fine) s in
-            let name : name_of s.r ≡ s.group = draw_is (name_of s.r) s.group (find_found (λ (x : ReplicaState). same_draw (name_of x) s.group) at.node.replicas s.r s.found).1 in
-            let answer : AnswerBody = aside_answer s.r.group.core.gone s.r.hint in
-            let from : s.r.me ≡ me = at.calm.own s.group s.r s.found ∙ at.me_is in
-            let sent = aside_is (IsBegun scenario rows) set is at.node at.calm first_.mail (turns_of.to_me words scenario begins set is rows t j room me one most born number fine) (turns_of.not_client words scenario begins set is rows t j room me one most born) (turns_of.in_time words scenario begins set is rows t j room me one most born number fine) s in
-            let all : step_ ≡ (at.node, mail_of me (client_actor s.client) (Answer s.group s.seq answer) ∷ []) =
-            step_is_ ∙ ap (λ (m : Mail). with_mail at.node m) (sent ∙ (ap (λ x. mail_of x (client_actor s.client) (Answer (name_of s.r) s.seq answer)) from ∙ ap (λ d. mail_of me (client_actor s.client) (Answer d s.seq answer)) name)) in
-            record {
-              took_it = took_aside number fine at first_ step_ became_ sends_ asks client a was w here s.group s.client s.seq s.op s.body_is answer (aside_ends s.r.group.core.gone s.r.hint) all;
-              held_it = held_aside number fine at first_ step_ became_ sends_ asks client a was w here s.group s.client s.seq s.op s.body_is answer (aside_ends s.r.group.core.gone s.r.hint) all;
-            }
-
-        node_turn : AreSought (rows ++ row_of player_table (node_seat as_nodes scenario.groups scenario.policy me) rows (Deliver number) ∷ [])
-        node_turn asks client a now_is w =
-            let was = was_client (Deliver number) fine asks client a now_is in
-            let s = sought asks client a was w in
-            elim (cases_eq w.target me) [
-              | inl here ↦ sought_here number fine at first_ step_ became_ sends_ asks client a was w here (takes_by asks client a was w here (turns_of.turn words scenario begins set is rows t j room me one most born number fine)) s
-              | inr ne ↦ elsewhere (Deliver number) fine client w.group w.target w.seq (λ e. client_away words scenario begins me (node_number words scenario begins me one most) asks a (ap client_actor (sym (me_of asks client a was)) ∙ e)) ne s
-            ]
-
-      node_go : (fine : has_started rows me ≡ false) → AreSought (rows ++ row_of player_table (node_seat as_nodes scenario.groups scenario.policy me) rows Go ∷ [])
-      node_go fine asks client a now_is w =
-          let r = row_of player_table (nseat me) rows Go in
-          let was = was_client Go fine asks client a now_is in
-          let n = turns_of.n words scenario begins set is rows t j room me one most born in
-          let ne : client_actor client.me ≡ me → ⊥ = λ e. client_away words scenario begins me (node_number words scenario begins me one most) asks a (ap client_actor (sym (me_of asks client a was)) ∙ e) in
-          let acted_go : acted player_table (value player_table (nseat me) rows) (input_of {O = OrderLine} (mails rows) Go) ≡ (Node n.node, []) = ap (λ p. acted player_table p (Some GoInput)) n.is in
-          let same : value player_table (nseat me) (rows ++ r ∷ []) ≡ Node n.node = turns_of.value_own words scenario begins set is rows t j (nseat me) Go ∙ ap (λ (p : Player × List Mail). p.0) acted_go in
-          elim (cases_eq w.target me) [
-            | inr other ↦ elsewhere Go fine client w.group w.target w.seq ne other (sought asks client a was w)
-            | inl here ↦ elim (sought asks client a was w) [
-              | inl asked ↦ inl (
-                asked.0,
-                subst (λ x. Among (asking client.me w.target w.group w.seq asked.0) (rest sys (rows ++ r ∷ []) x)) (sym here)
-                    (own_left words scenario rows r (after Go fine) refl (asking client.me w.target w.group w.seq asked.0) (subst (λ x. Among (asking client.me w.target w.group w.seq asked.0) (rest sys rows x)) here asked.1)),
-              )
-              | inr (inl x) ↦ inr (inl (answered_stays Go fine client w.group w.target w.seq ne x))
-              | inr (inr h) ↦ inr (inr (record {
-                frame = h.frame;
-                is_frame = h.is_frame;
-                name = h.name;
-                lead = h.lead;
-                r = h.r;
-                there = ap (λ d. replica_at scenario (rows ++ r ∷ []) d w.target) (sym h.name)
-                    ∙ (turns_of.same_replicas words scenario begins set is rows t j room me one most born Go same h.frame w.target ∙ (ap (λ d. replica_at scenario rows d w.target) h.name ∙ h.there));
-                held = h.held;
-              }))
-            ]
-          ]
-
-      node_event : (event : Event OrderLine) → IsInOrder (system_of as_nodes words scenario) rows me event → AreSought (rows ++ row_of player_table (node_seat as_nodes scenario.groups scenario.policy me) rows event ∷ [])
-      node_event (Deliver number) fine = node_turn number fine
-      node_event Go fine = node_go fine
-      node_event _ fine = absurd fine
-
+  module _ (rows : Journal) (t : IsTidy rows) (j : IsAsking words scenario set begins.first rows) (sought : AreSought words scenario begins set fact linked rows) where
     -- ---- rows of clients
 
     module _ (mine : Asks) (is_mine : Among mine scenario.clients) (born : find (λ (other : Seat Player). eqb other.who (client_actor mine.client)) (births as_nodes scenario) ≡ Some (client_seat (route_of begins.first) mine)) where
@@ -365,17 +48,17 @@ module _ (words : ℕ → ℕ → ℕ × ℕ) (scenario : Scenario) (begins : Is
           (became : value player_table (client_seat (route_of begins.first) mine) (rows ++ row_of player_table (client_seat (route_of begins.first) mine) rows event ∷ []) ≡ Client step.0)
           (sends : (row_of player_table (client_seat (route_of begins.first) mine) rows event).sent ≡ step.1) where
         abbrev Still : ClientState → Draw → ℕ → ℕ → Type 0
-        Still client group target seq = IsSought (rows ++ row_of player_table (client_seat (route_of begins.first) mine) rows event ∷ []) client group target seq
+        Still client group target seq = IsSought words scenario begins set fact linked (rows ++ row_of player_table (client_seat (route_of begins.first) mine) rows event ∷ []) client group target seq
 
         after_row : (who : ℕ) → rest (system_of as_nodes words scenario) (rows ++ row_of player_table (client_seat (route_of begins.first) mine) rows event ∷ []) who
             ≡ drop (taken who (row_of player_table (client_seat (route_of begins.first) mine) rows event)) (rest (system_of as_nodes words scenario) rows who) ++ mail_for (system_of as_nodes words scenario) who (row_of player_table (client_seat (route_of begins.first) mine) rows event).sent
         after_row who = rest-row sys rows (row_of player_table (cseat mine) rows event) who t (record { seat = cseat mine; born = born; event = event; row_is = refl; in_order = fine })
 
         -- what is no client's stays
-        asked_stays : (client : ClientState) (group : Draw) (target seq : ℕ) → is_node target ≡ true → IsAsked rows client group target seq → Still client group target seq
+        asked_stays : (client : ClientState) (group : Draw) (target seq : ℕ) → is_node target ≡ true → IsAsked words scenario begins set fact linked rows client group target seq → Still client group target seq
         asked_stays client group target seq node x = inl (x.0, others_left words scenario rows (row_of player_table (cseat mine) rows event) after_row target (asking client.me target group seq x.0) (node_away target node) x.1)
 
-        held_stays : (client : ClientState) (group : Draw) (target seq : ℕ) → is_node target ≡ true → IsHeldAt rows client group target seq → Still client group target seq
+        held_stays : (client : ClientState) (group : Draw) (target seq : ℕ) → is_node target ≡ true → IsHeldAt words scenario begins set fact linked rows client group target seq → Still client group target seq
         held_stays client group target seq node h =
             inr (inr (record { frame = h.frame; is_frame = h.is_frame; name = h.name; lead = h.lead; r = h.r; there = replica_others words scenario rows (row_of player_table (cseat mine) rows event) group target (node_away target node) ∙ h.there; held = h.held }))
 
@@ -385,7 +68,7 @@ module _ (words : ℕ → ℕ → ℕ × ℕ) (scenario : Scenario) (begins : Is
         other_sought asks client a ne now_is w node =
             let r = row_of player_table (cseat mine) rows event in
             let was : value player_table (cseat asks) rows ≡ Client client = sym (value_others words scenario begins rows r (cseat asks) ne) ∙ now_is in
-            let who = me_of asks client a was in
+            let who = me_of words scenario begins set fact linked rows t j sought asks client a was in
             elim (sought asks client a was w) [
               | inl x ↦ asked_stays client w.group w.target w.seq node x
               | inr (inl x) ↦ inr (inl (record {
@@ -404,7 +87,7 @@ module _ (words : ℕ → ℕ → ℕ × ℕ) (scenario : Scenario) (begins : Is
 
         -- each client's, by what becomes of its own
         all_sought : ((asks : Asks) (client : ClientState) → Among asks scenario.clients → value player_table (client_seat (route_of begins.first) asks) (rows ++ row_of player_table (client_seat (route_of begins.first) mine) rows event ∷ []) ≡ Client client → (w : IsWaiting client) → is_node w.target ≡ true)
-            → ((w : IsWaiting step.0) → is_node w.target ≡ true → Still step.0 w.group w.target w.seq) → AreSought (rows ++ row_of player_table (client_seat (route_of begins.first) mine) rows event ∷ [])
+            → ((w : IsWaiting step.0) → is_node w.target ≡ true → Still step.0 w.group w.target w.seq) → AreSought words scenario begins set fact linked (rows ++ row_of player_table (client_seat (route_of begins.first) mine) rows event ∷ [])
         all_sought nodes own asks client a now_is w = elim (cases_eq (client_actor asks.client) (client_actor mine.client)) [
           | inl same ↦ (
               let e : asks ≡ mine = begins.once asks mine a is_mine (omega (arith, same)) in
@@ -419,27 +102,27 @@ module _ (words : ℕ → ℕ → ℕ × ℕ) (scenario : Scenario) (begins : Is
       module _ (number : ℕ) (fine : kth (waiting (system_of as_nodes words scenario) rows (Some (client_actor mine.client))) 1 ≡ Some number)
           (nodes : (asks : Asks) (client : ClientState) → Among asks scenario.clients → value player_table (client_seat (route_of begins.first) asks) (rows ++ row_of player_table (client_seat (route_of begins.first) mine) rows (Deliver number) ∷ []) ≡ Client client → (w : IsWaiting client) → is_node w.target ≡ true) where
         abbrev first : TakesFirst (system_of as_nodes words scenario) rows (client_actor mine.client) number
-        first = clients_of.first words scenario begins set is linked rows t j mine is_mine born number fine
+        first = clients_of.first words scenario begins set fact linked rows t j mine is_mine born number fine
 
         abbrev state : ClientState
-        state = (clients_of.c words scenario begins set is linked rows t j mine is_mine born).client
+        state = (clients_of.c words scenario begins set fact linked rows t j mine is_mine born).client
 
         abbrev step : ClientStep
         step = table state (Got first.mail)
 
         became : value player_table (client_seat (route_of begins.first) mine) (rows ++ row_of player_table (client_seat (route_of begins.first) mine) rows (Deliver number) ∷ []) ≡ Client step.0
-        became = clients_of.became words scenario begins set is linked rows t j mine is_mine born (Deliver number) fine step (clients_of.got_is words scenario begins set is linked rows t j mine is_mine born number fine) (clients_of.got_more words scenario begins set is linked rows t j mine is_mine born number fine)
+        became = clients_of.became words scenario begins set fact linked rows t j mine is_mine born (Deliver number) fine step (clients_of.got_is words scenario begins set fact linked rows t j mine is_mine born number fine) (clients_of.got_more words scenario begins set fact linked rows t j mine is_mine born number fine)
 
         sends : (row_of player_table (client_seat (route_of begins.first) mine) rows (Deliver number)).sent ≡ step.1
-        sends = ap (λ (p : Player × List Mail). p.1) (clients_of.got_is words scenario begins set is linked rows t j mine is_mine born number fine)
+        sends = ap (λ (p : Player × List Mail). p.1) (clients_of.got_is words scenario begins set fact linked rows t j mine is_mine born number fine)
 
         -- a mail that it ignores is not the answer
-        ignored : Ignores state first.mail step → (w : IsWaiting state) → is_node w.target ≡ true → IsSought (rows ++ row_of player_table (client_seat (route_of begins.first) mine) rows (Deliver number) ∷ []) state w.group w.target w.seq
+        ignored : Ignores state first.mail step → (w : IsWaiting state) → is_node w.target ≡ true → IsSought words scenario begins set fact linked (rows ++ row_of player_table (client_seat (route_of begins.first) mine) rows (Deliver number) ∷ []) state w.group w.target w.seq
         ignored d w node =
-            let c = clients_of.c words scenario begins set is linked rows t j mine is_mine born in
+            let c = clients_of.c words scenario begins set fact linked rows t j mine is_mine born in
             let r = row_of player_table (cseat mine) rows (Deliver number) in
             let who : client_actor state.me ≡ client_actor mine.client = ap client_actor c.calm.me_is in
-            elim (sought mine state is_mine c.is w) [
+            elim (sought mine state is_mine c.fact w) [
               | inl x ↦ asked_stays (Deliver number) fine step became sends state w.group w.target w.seq node x
               | inr (inl x) ↦ (
                   let mail : Mail = mail_of w.target (client_actor state.me) (Answer w.group w.seq x.answer) in
@@ -450,29 +133,29 @@ module _ (words : ℕ → ℕ → ℕ × ℕ) (scenario : Scenario) (begins : Is
               | inr (inr h) ↦ held_stays (Deliver number) fine step became sends state w.group w.target w.seq node h
             ]
 
-        own : Seeks step ⊎ Ignores state first.mail step → (w : IsWaiting step.0) → is_node w.target ≡ true → IsSought (rows ++ row_of player_table (client_seat (route_of begins.first) mine) rows (Deliver number) ∷ []) step.0 w.group w.target w.seq
+        own : Seeks step ⊎ Ignores state first.mail step → (w : IsWaiting step.0) → is_node w.target ≡ true → IsSought words scenario begins set fact linked (rows ++ row_of player_table (client_seat (route_of begins.first) mine) rows (Deliver number) ∷ []) step.0 w.group w.target w.seq
         own (inl seeks) w node = sent_sought (Deliver number) fine step became sends seeks w
         own (inr d) w node =
             let e : state ≡ step.0 = sym (ap (λ (p : ClientStep). p.0) d.after_is) in
-            subst (λ (x : ClientState). (w : IsWaiting x) → is_node w.target ≡ true → IsSought (rows ++ row_of player_table (cseat mine) rows (Deliver number) ∷ []) x w.group w.target w.seq) e (ignored d) w node
+            subst (λ (x : ClientState). (w : IsWaiting x) → is_node w.target ≡ true → IsSought words scenario begins set fact linked (rows ++ row_of player_table (cseat mine) rows (Deliver number) ∷ []) x w.group w.target w.seq) e (ignored d) w node
 
-        client_turn : AreSought (rows ++ row_of player_table (client_seat (route_of begins.first) mine) rows (Deliver number) ∷ [])
-        client_turn = all_sought (Deliver number) fine step became sends nodes (own (clients_of.response words scenario begins set is linked rows t j mine is_mine born number fine))
+        client_turn : AreSought words scenario begins set fact linked (rows ++ row_of player_table (client_seat (route_of begins.first) mine) rows (Deliver number) ∷ [])
+        client_turn = all_sought (Deliver number) fine step became sends nodes (own (clients_of.response words scenario begins set fact linked rows t j mine is_mine born number fine))
 
       client_go : (fine : has_started rows (client_actor mine.client) ≡ false)
           → ((asks : Asks) (client : ClientState) → Among asks scenario.clients → value player_table (client_seat (route_of begins.first) asks) (rows ++ row_of player_table (client_seat (route_of begins.first) mine) rows Go ∷ []) ≡ Client client → (w : IsWaiting client) → is_node w.target ≡ true)
-          → AreSought (rows ++ row_of player_table (client_seat (route_of begins.first) mine) rows Go ∷ [])
+          → AreSought words scenario begins set fact linked (rows ++ row_of player_table (client_seat (route_of begins.first) mine) rows Go ∷ [])
       client_go fine nodes =
-          let c = clients_of.c words scenario begins set is linked rows t j mine is_mine born in
+          let c = clients_of.c words scenario begins set fact linked rows t j mine is_mine born in
           let step : ClientStep = table c.client GoInput in
-          let go_is = clients_of.go_is words scenario begins set is linked rows t j mine is_mine born fine in
-          let became = clients_of.became words scenario begins set is linked rows t j mine is_mine born Go fine step go_is (clients_of.go_more words scenario begins set is linked rows t j mine is_mine born fine) in
+          let go_is = clients_of.go_is words scenario begins set fact linked rows t j mine is_mine born fine in
+          let became = clients_of.became words scenario begins set fact linked rows t j mine is_mine born Go fine step go_is (clients_of.go_more words scenario begins set fact linked rows t j mine is_mine born fine) in
           let sends : (row_of player_table (cseat mine) rows Go).sent ≡ step.1 = ap (λ (p : Player × List Mail). p.1) go_is in
-          all_sought Go fine step became sends nodes (λ w node. sent_sought Go fine step became sends (clients_of.seeks words scenario begins set is linked rows t j mine is_mine born fine) w)
+          all_sought Go fine step became sends nodes (λ w node. sent_sought Go fine step became sends (clients_of.seeks words scenario begins set fact linked rows t j mine is_mine born fine) w)
 
       client_event : (event : Event OrderLine) → IsInOrder (system_of as_nodes words scenario) rows (client_actor mine.client) event
           → ((asks : Asks) (client : ClientState) → Among asks scenario.clients → value player_table (client_seat (route_of begins.first) asks) (rows ++ row_of player_table (client_seat (route_of begins.first) mine) rows event ∷ []) ≡ Client client → (w : IsWaiting client) → is_node w.target ≡ true)
-          → AreSought (rows ++ row_of player_table (client_seat (route_of begins.first) mine) rows event ∷ [])
+          → AreSought words scenario begins set fact linked (rows ++ row_of player_table (client_seat (route_of begins.first) mine) rows event ∷ [])
       client_event (Deliver number) fine nodes = client_turn number fine nodes
       client_event Go fine nodes = client_go fine nodes
       client_event _ fine nodes = absurd fine
@@ -480,16 +163,16 @@ module _ (words : ℕ → ℕ → ℕ × ℕ) (scenario : Scenario) (begins : Is
     -- ---- each row
 
     pub sought_row : AreFarFromLast scenario set rows → (row : Row Mail OrderLine) → IsOrderly (system_of as_nodes words scenario) rows row
-        → ((asks : Asks) (client : ClientState) → Among asks scenario.clients → value player_table (client_seat (route_of begins.first) asks) (rows ++ row ∷ []) ≡ Client client → (w : IsWaiting client) → is_node w.target ≡ true) → AreSought (rows ++ row ∷ [])
+        → ((asks : Asks) (client : ClientState) → Among asks scenario.clients → value player_table (client_seat (route_of begins.first) asks) (rows ++ row ∷ []) ≡ Client client → (w : IsWaiting client) → is_node w.target ≡ true) → AreSought words scenario begins set fact linked (rows ++ row ∷ [])
     sought_row room row o nodes = elim (of_player words scenario begins rows row o) [
       | inl n ↦ (
           let row_is : row ≡ row_of player_table (nseat n.me) rows o.event = o.row_is ∙ ap (λ (seat : Seat Player). row_of player_table seat rows o.event) n.seat_is in
           let born = subst (λ (seat : Seat Player). find (λ (other : Seat Player). eqb other.who seat.who) (births as_nodes scenario) ≡ Some seat) n.seat_is o.born in
-          subst (λ r. AreSought (rows ++ r ∷ [])) (sym row_is) (node_event room n.me n.one n.most born o.event (subst (λ (seat : Seat Player). IsInOrder sys rows seat.who o.event) n.seat_is o.in_order)))
+          subst (λ r. AreSought words scenario begins set fact linked (rows ++ r ∷ [])) (sym row_is) (node_event words scenario begins set fact linked rows t j sought room n.me n.one n.most born o.event (subst (λ (seat : Seat Player). IsInOrder sys rows seat.who o.event) n.seat_is o.in_order)))
       | inr d ↦ (
           let row_is : row ≡ row_of player_table (cseat d.asks) rows o.event = o.row_is ∙ ap (λ (seat : Seat Player). row_of player_table seat rows o.event) d.seat_is in
           let born = subst (λ (seat : Seat Player). find (λ (other : Seat Player). eqb other.who seat.who) (births as_nodes scenario) ≡ Some seat) d.seat_is o.born in
-          subst (λ r. AreSought (rows ++ r ∷ [])) (sym row_is)
+          subst (λ r. AreSought words scenario begins set fact linked (rows ++ r ∷ [])) (sym row_is)
           (client_event d.asks d.is_asks born o.event (subst (λ (seat : Seat Player). IsInOrder sys rows seat.who o.event) d.seat_is o.in_order)
           (subst (λ r. (asks : Asks) (client : ClientState) → Among asks scenario.clients → value player_table (client_seat (route_of begins.first) asks) (rows ++ r ∷ []) ≡ Client client → (w : IsWaiting client) → is_node w.target ≡ true) row_is nodes)))
     ]

@@ -10,10 +10,10 @@ use Rattle.sc_base.proofs.Lemmas.{draw_is, same_name}
 use Rattle.sc_words.proofs.PaxosProofs.Lemmas.{Each-among}
 use Rattle.sc_client_table.specs.declared.lookup.ways.Way.{Way}
 use Rattle.sc_client_table.specs.lookup.Definitions.{far, new_way, KnownGroups, way_to, chosen, changed, preferring, starting, learnt_from_not_mine}
-use Rattle.sc_paxos_law.proofs.Lemmas.{from_map, Among-left, Among-right, Among-either}
+use Rattle.sc_paxos_law.proofs.Lemmas.{from_map, Among-right, Among-either}
 use Rattle.sc_live_plain.specs.Definitions.{FollowedBy, AreRoundRing, start_of, start_known, KnowsFirst, ClientsLearnInTurn, Frame}
-use Rattle.sc_live_plain.proofs.PlainProofs.PlainKnownGroups.{IsChosen, chosen_is, parts_of, take_prefix}
-use Rattle.sc_live_plain.proofs.RowsProofs.Lists.{map_among}
+use Rattle.sc_live_plain.proofs.PlainProofs.PlainKnownGroups.{IsChosen, among_first, chosen_is, parts_of, take_prefix}
+use Rattle.sc_live_plain.proofs.PlainRowsProofs.Lists.{map_among}
 use Rattle.sc_live_plain.proofs.PlainProofs.PlainKnownGroups.{map_push as map_last}
 
 abbrev pub name_in : Draw × Way → Draw
@@ -148,9 +148,6 @@ module _ (frames : List Frame) (ring : AreRoundRing frames) where
     parts : frames ≡ prefix ++ back
     parts = sym (take-append-drop reached frames)
 
-    prefix_frames : (frame : Frame) → Among frame prefix → Among frame frames
-    prefix_frames frame a = subst (Among frame) (sym parts) (Among-left frame prefix back a)
-
     -- none of the first is nearer to a position
     abbrev IsNearest : ℕ → Frame → Type 0
     IsNearest p frame = (other : Frame) → Among other prefix → gap p frame.core.arc.lo ≤ gap p other.core.arc.lo
@@ -167,14 +164,14 @@ module _ (frames : List Frame) (ring : AreRoundRing frames) where
     wrapped p frame a near lacks l whole (first ∷ rest) e same =
         let k = ring.last l rest frame first whole e in
         let le = near first (subst (Among first) (sym (same ∙ e)) (inl refl)) in
-        let lt = nearer p frame first (prefix_frames frame a) k lacks in
+        let lt = nearer p frame first (among_first reached frames frame a) k lacks in
         absurd (omega (arith, le, lt))
 
     behind : (p : ℕ) (frame : Frame) → Among frame prefix → IsNearest p frame → holds frame.core.arc p ≡ false → (l b rest : List Frame) → back ≡ rest → prefix ≡ l ++ frame ∷ b → frames ≡ l ++ frame ∷ (b ++ rest) → Follows frame
     behind p frame a near lacks l (other ∷ b) rest r split whole =
         let k = ring.next l (b ++ rest) frame other whole in
         let le = near other (subst (Among other) (sym split) (Among-right other l (frame ∷ other ∷ b) (inr (inl refl)))) in
-        let lt = nearer p frame other (prefix_frames frame a) k lacks in
+        let lt = nearer p frame other (among_first reached frames frame a) k lacks in
         absurd (omega (arith, le, lt))
     behind p frame a near lacks l [] (other ∷ rest) r split whole = record { other = other; rest = rest; whole = parts ∙ ap (λ (fs : List Frame). prefix ++ fs) r; before = ring.next l rest frame other whole }
     behind p frame a near lacks l [] [] r split whole = wrapped p frame a near lacks l whole frames refl (subst (λ (fs : List Frame). prefix ≡ fs) (split ∙ sym whole) refl)
@@ -197,13 +194,13 @@ module _ (frames : List Frame) (ring : AreRoundRing frames) where
     in_prefix =
         let name : Among frame.core.id (map name_in known) = subst (λ d. Among d (map name_in known)) best.name (map_among name_in known best.entry best.stands) in
         let f = from_map id_of (take reached frames) frame.core.id (subst (Among frame.core.id) k.names name) in
-        subst (λ g. Among g (take reached frames)) (apart f.0 frame (prefix_frames reached k.low f.0 f.1) a f.2) f.1
+        subst (λ g. Among g (take reached frames)) (apart f.0 frame (among_first reached frames f.0 f.1) a f.2) f.1
 
     -- where a start is known, it is that of the group of its name
     start_is : 2 ≤ reached → (lo : ℕ) → Among (frame.core.id, lo) (map start_known known) → lo ≡ frame.core.arc.lo
     start_is two lo m =
         let f = from_map start_of (take reached frames) (frame.core.id, lo) (subst (Among (frame.core.id, lo)) (k.starts two) m) in
-        let same : f.0 ≡ frame = apart f.0 frame (prefix_frames reached k.low f.0 f.1) a (ap (λ (s : Draw × ℕ). s.0) f.2) in
+        let same : f.0 ≡ frame = apart f.0 frame (among_first reached frames f.0 f.1) a (ap (λ (s : Draw × ℕ). s.0) f.2) in
         sym (ap (λ (s : Draw × ℕ). s.1) f.2) ∙ ap (λ (g : Frame). g.core.arc.lo) same
 
     near : (other : Frame) → Among other (take reached frames) → gap p frame.core.arc.lo ≤ gap p other.core.arc.lo

@@ -12,9 +12,9 @@ use Rattle.sc_node_table.specs.Definitions.{ReplicaState, name_of, next, members
 use Rattle.sc_paxos_law.proofs.Lemmas.{place_among, among-member}
 use Rattle.sc_live_steps.specs.calm.Definitions.{View as Replicas, IsAtRest, IsUpToDate, StandsQuiet}
 use Rattle.sc_live_plain.specs.Definitions.{IsOfNodes, IsKept, frame_at_rest, view_at_rest, StandsPlain, QuietGroupsStandPlain, IsBetween, next_in, voters_in, votes_in, Frame, IsFrame, IsBegun, Requests, IsPlainCommand, takers, AreTaken, IsPlainGroup, IsPlainFlight, IsPlainLeader, IsPlainFollower, IsPlainVoter, IsPlainReplica, IsLeading, IsSettled, IsPlainAt}
-use Rattle.sc_live_plain.proofs.RowsProofs.SlotCounts.{one_if, one_no}
+use Rattle.sc_live_plain.proofs.PlainRowsProofs.SlotCounts.{one_if, one_no}
 use Rattle.sc_live_plain.proofs.LeadersProofs.LeadingReplicas.{in_range, range_before, range_behind}
-use Rattle.sc_live_plain.proofs.RowsProofs.Lists.{some_is}
+use Rattle.sc_live_plain.proofs.PlainRowsProofs.Lists.{some_is}
 use Rattle.sc_live_plain.proofs.LeadersProofs.IdleLeaders.{all_voted}
 
 -- the members of four open slots, by their numbers
@@ -186,7 +186,7 @@ module _ (begun : Requests) (at : Replicas) (group : Draw) (quiet : StandsQuiet 
 
   settled_at : (node : ℕ) (r : ReplicaState) → at group node ≡ Some r → IsSettled begun (frame_at_rest quiet.lead) node r
   settled_at node r there = elim (cases_eq node quiet.lead.me) [
-    | inl is ↦ (let same : quiet.lead ≡ r = some_is (sym here ∙ (ap (at group) (sym is) ∙ there)) in inl (is, subst (λ x. IsLeading begun (frame_at_rest quiet.lead) x) same leading))
+    | inl fact ↦ (let same : quiet.lead ≡ r = some_is (sym here ∙ (ap (at group) (sym fact) ∙ there)) in inl (fact, subst (λ x. IsLeading begun (frame_at_rest quiet.lead) x) same leading))
     | inr ne ↦ inr (ne, follows node r there ne)
   ]
 
@@ -214,16 +214,16 @@ module _ (begun : Requests) (at : Replicas) (group : Draw) (quiet : StandsQuiet 
   next_low node = by (at group node) refl
     where
       by : (o : Option ReplicaState) → at group node ≡ o → next_in (at (name_of quiet.lead) node) ≤ next_in (at (name_of quiet.lead) quiet.lead.me)
-      by None e = (let is = ap (λ d. next_in (at d node)) name ∙ ap next_in e in omega (arith, is))
-      by (Some r) e = (let is = next_at node r e in let low = quiet.newest.most node r e in let lead_is = next_at quiet.lead.me quiet.lead here in omega (arith, is, low, lead_is))
+      by None e = (let fact = ap (λ d. next_in (at d node)) name ∙ ap next_in e in omega (arith, fact))
+      by (Some r) e = (let fact = next_at node r e in let low = quiet.newest.most node r e in let lead_is = next_at quiet.lead.me quiet.lead here in omega (arith, fact, low, lead_is))
 
   between : IsBetween (frame_at_rest quiet.lead) (view_at_rest at quiet.lead) (λ node. [])
   between = record {
     learners = λ node m ne. (let u = quiet.member node m in
-        let is = next_at node u.0 u.1 in
+        let fact = next_at node u.0 u.1 in
         let lead_is = next_at quiet.lead.me quiet.lead here in
         let same = u.2.next_is in
-        record { left = 0; reaches = omega (arith, is, lead_is, same); tells = refl });
+        record { left = 0; reaches = omega (arith, fact, lead_is, same); tells = refl });
     order = λ node. tt;
     below = λ node. tt;
     low = next_low;

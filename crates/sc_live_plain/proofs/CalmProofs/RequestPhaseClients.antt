@@ -1,5 +1,5 @@
 -- Between two orders each row of a client leaves a journal in which clients ask alone; and so each row.
-use Rattle.std.proofs.Common.{◌≡◌, ℕ, ◌-◌, ◌≤◌, eqb, ◌&&◌, ◌||◌, Bool, true, false, cond, List, [], ◌∷◌, ◌++◌, length, map, drop, find, Some, ◌⊎◌, inl, inr, refl, sym, ◌∙◌, ap, subst, arith}
+use Rattle.std.proofs.Common.{◌≡◌, ℕ, ◌-◌, ◌≤◌, eqb, ◌&&◌, ◌||◌, Bool, true, false, cond, List, [], ◌∷◌, ◌++◌, length, drop, find, Some, ◌⊎◌, inl, inr, refl, sym, ◌∙◌, ap, subst, arith}
 use Rattle.std.specs.Prelude.{slice_get}
 use Rattle.std.specs.Option.{option_map}
 use Rattle.std.proofs.lemmas.Bool.{cases_eq, eq-eqb, or_right}
@@ -17,20 +17,21 @@ use Rattle.sc_meaning.specs.sound.Definitions.{Player, player_table, node_seat, 
 use Rattle.sc_live_orderly.specs.Definitions.{IsTidy, IsOrderly, IsInOrder, rest, mail_for, taken}
 use Rattle.sc_live_orderly.proofs.Lemmas.{TakesFirst, takes_first, is_born-from, rest-row}
 use Rattle.sc_live_plain.specs.Definitions.{IsAskingClient, IsAsking, AreFarFromLast, RequestsGoOn, Mark, Other, mark, marks_for, marks_at, IsOther, IsTaken, IsLinkedSetting, IsCalmClient, BeginsBy, StaysCalm, Setting, IsSetting, IsCalmMail, begun_ones, waiting_ones, begun_of, IsBegun}
+use Rattle.sc_live_plain.proofs.PlainProofs.PlainClients.{unasked}
 use Rattle.sc_live_plain.proofs.CalmProofs.MoreCalmRequests.{aside_mark, takes_only, go_only}
 use Rattle.sc_live_plain.proofs.CalmProofs.RequestPhaseNodes as turns_of
 use Rattle.sc_live_plain.proofs.PlainProofs.MorePlainRequests.{IsMore}
-use Rattle.sc_live_plain.proofs.PlainProofs.PlainClientRows.{client_mark}
-use Rattle.sc_live_plain.proofs.RowsProofs.LeaderMailOfGroups.{group_idle}
-use Rattle.sc_live_plain.proofs.PlainProofs.BegunRequestCounts.{got_grows}
-use Rattle.sc_live_plain.proofs.RowsProofs.LeaderMarks.{each_mark}
+use Rattle.sc_live_plain.proofs.PlainProofs.PlainClientRows.{client_mark, taken_other}
+use Rattle.sc_live_plain.proofs.PlainRowsProofs.LeaderMailOfGroups.{group_idle}
+use Rattle.sc_live_plain.proofs.PlainProofs.BegunRequestCounts.{begun_right, got_grows}
+use Rattle.sc_live_plain.proofs.PlainRowsProofs.LeaderMarks.{each_mark}
 use Rattle.sc_live_plain.proofs.PlainProofs.PlainBeginnings.{IsStage, stage}
 use Rattle.sc_live_plain.proofs.PlainProofs.PlainSteps.{client_number, value_others, started_still, begun_more, same_client, node_away}
-use Rattle.sc_live_plain.proofs.RowsProofs.RowViews.{Journal, replica_others, replica_none}
+use Rattle.sc_live_plain.proofs.PlainRowsProofs.RowViews.{Journal, replica_others, replica_none}
 use Rattle.sc_live_plain.proofs.PlainProofs.PlainJournals.{of_player}
-use Rattle.sc_live_plain.proofs.CalmProofs.CalmClients.{clients_calm, unasked, Seeks, Ignores, takes_calm, go_calm}
+use Rattle.sc_live_plain.proofs.CalmProofs.CalmClients.{clients_calm, Seeks, Ignores, takes_calm, go_calm}
 
-module _ (words : ℕ → ℕ → ℕ × ℕ) (scenario : Scenario) (begins : IsStage scenario) (set : Setting) (is : IsSetting set) (linked : IsLinkedSetting set) (rows : Journal) (t : IsTidy rows) (j : IsAsking words scenario set begins.first rows) where
+module _ (words : ℕ → ℕ → ℕ × ℕ) (scenario : Scenario) (begins : IsStage scenario) (set : Setting) (fact : IsSetting set) (linked : IsLinkedSetting set) (rows : Journal) (t : IsTidy rows) (j : IsAsking words scenario set begins.first rows) where
   abbrev sys : System Player Mail OrderLine
   sys = system_of as_nodes words scenario
 
@@ -48,13 +49,13 @@ module _ (words : ℕ → ℕ → ℕ × ℕ) (scenario : Scenario) (begins : Is
     module _ (event : Event OrderLine) (fine : IsInOrder (system_of as_nodes words scenario) rows (client_actor asks.client) event) (after : ClientStep)
         (acted_is : acted player_table (value player_table (client_seat (route_of begins.first) asks) rows) (input_of (mails rows) event) ≡ (Client after.0, after.1)) (grows : begun_ones c.client ≤ begun_ones after.0) where
       pub became : value player_table (client_seat (route_of begins.first) asks) (rows ++ row_of player_table (client_seat (route_of begins.first) asks) rows event ∷ []) ≡ Client after.0
-      became = turns_of.value_own words scenario begins set is rows t j (cseat asks) event ∙ ap (λ (p : Player × List Mail). p.0) acted_is
+      became = turns_of.value_own words scenario begins set fact rows t j (cseat asks) event ∙ ap (λ (p : Player × List Mail). p.0) acted_is
 
       pub more : IsMore (IsBegun scenario rows) (IsBegun scenario (rows ++ row_of player_table (client_seat (route_of begins.first) asks) rows event ∷ []))
       more = begun_more words scenario begins rows (row_of player_table (cseat asks) rows event) (λ other b. elim (cases_eq (client_actor other.client) (client_actor asks.client)) [
         | inl here ↦ (let same : other ≡ asks = same_client scenario begins asks other a b here in
             subst (λ (x : Asks). begun_of (value player_table (cseat x) rows) ≤ begun_of (value player_table (cseat x) (rows ++ row_of player_table (cseat asks) rows event ∷ []))) (sym same)
-            (let before = ap begun_of c.is in let now_ = ap begun_of became in omega (arith, before, now_, grows)))
+            (let before = ap begun_of c.fact in let now_ = ap begun_of became in omega (arith, before, now_, grows)))
         | inr ne ↦ (let same = ap begun_of (value_others words scenario begins rows (row_of player_table (cseat asks) rows event) (cseat other) ne) in omega (arith, same))
       ])
 
@@ -83,13 +84,13 @@ module _ (words : ℕ → ℕ → ℕ × ℕ) (scenario : Scenario) (begins : Is
           let rest_after : (who : ℕ) → rest sys (rows ++ r ∷ []) who ≡ drop (taken who r) (rest sys rows who) ++ mail_for sys who r.sent = λ who. rest-row sys rows r who t orderly in
           let sent_is : r.sent ≡ after.1 = ap (λ (p : Player × List Mail). p.1) acted_is in
           record {
-            nodes = λ node low high. turns_of.node_stays words scenario begins set is rows t j r more node (node_away words scenario begins asks no_node node low high) (j.nodes node low high);
+            nodes = λ node low high. turns_of.node_stays words scenario begins set fact rows t j r more node (node_away words scenario begins asks no_node node low high) (j.nodes node low high);
             clients = λ other b. elim (cases_eq (client_actor other.client) (client_actor asks.client)) [
               | inl here ↦ subst (IsAskingClient scenario set begins.first (rows ++ r ∷ [])) (sym (same_client scenario begins asks other a b here))
-                  (record { client = after.0; is = became; calm = subst (λ g. IsCalmClient set asks g after.0) (sym is_gone) out.0 })
-              | inr ne ↦ turns_of.client_stays words scenario begins set is rows t j r other ne (j.clients other b)
+                  (record { client = after.0; fact = became; calm = subst (λ g. IsCalmClient set asks g after.0) (sym is_gone) out.0 })
+              | inr ne ↦ turns_of.client_stays words scenario begins set fact rows t j r other ne (j.clients other b)
             ];
-            left = turns_of.left_more words scenario begins set is rows t j r more rest_after (subst (Each (IsCalmMail (IsBegun scenario (rows ++ r ∷ [])) set)) (sym sent_is) out.1);
+            left = turns_of.left_more words scenario begins set fact rows t j r more rest_after (subst (Each (IsCalmMail (IsBegun scenario (rows ++ r ∷ [])) set)) (sym sent_is) out.1);
             groups = λ frame b.
                 group_idle words scenario rows r rest_after frame (j.groups frame b)
                 (λ node. elim (cases_eq node (client_actor asks.client)) [
@@ -112,51 +113,40 @@ module _ (words : ℕ → ℕ → ℕ × ℕ) (scenario : Scenario) (begins : Is
       pub got_is : acted player_table (value player_table (client_seat (route_of begins.first) asks) rows) (input_of {O = OrderLine} (mails rows) (Deliver number)) ≡ (Client (table c.client (Got first.mail)).0, (table c.client (Got first.mail)).1)
       got_is =
           ap (λ o. acted player_table (value player_table (cseat asks) rows) (option_map Got o)) first.sent
-          ∙ ap (λ p. acted player_table p (Some (Got first.mail))) c.is
+          ∙ ap (λ p. acted player_table p (Some (Got first.mail))) c.fact
 
       pub got_more : begun_ones c.client ≤ begun_ones (table c.client (Got first.mail)).0
       got_more = got_grows first.mail.from first.mail.body c.client
 
-      -- what is begun of a client is its request
-      pub asked_right : (seq : ℕ) (op : Op) → IsBegun scenario rows c.client.me seq op → slice_get c.client.requests (seq - 1) ≡ Some op
-      asked_right seq op b =
-          let same : b.asks ≡ asks = begins.once b.asks asks b.is_asks a (b.client_is ∙ c.calm.me_is) in
-          ap (λ (ops : List Op). slice_get ops (seq - 1)) (c.calm.requests_are ∙ sym (ap (λ (x : Asks). x.ops) same)) ∙ b.op_is
-
       -- what becomes of the request that waits
       pub response : Seeks (table c.client (Got first.mail)) ⊎ Ignores c.client first.mail (table c.client (Got first.mail))
       response =
-          (takes_calm set asks (IsBegun scenario rows) (IsBegun scenario (rows ++ row_of player_table (client_seat (route_of begins.first) asks) rows (Deliver number) ∷ [])) (has_started rows (client_actor asks.client)) c.client first.mail is linked c.calm is_calm
-          (first.receiver ∙ ap client_actor (sym c.calm.me_is)) asked_right (more (Deliver number) fine (table c.client (Got first.mail)) got_is got_more) (now (Deliver number) fine (table c.client (Got first.mail)) got_is got_more)).1
+          (takes_calm set asks (IsBegun scenario rows) (IsBegun scenario (rows ++ row_of player_table (client_seat (route_of begins.first) asks) rows (Deliver number) ∷ [])) (has_started rows (client_actor asks.client)) c.client first.mail fact linked c.calm is_calm
+          (first.receiver ∙ ap client_actor (sym c.calm.me_is)) (begun_right scenario rows begins.once asks a c.client c.calm.me_is c.calm.requests_are) (more (Deliver number) fine (table c.client (Got first.mail)) got_is got_more) (now (Deliver number) fine (table c.client (Got first.mail)) got_is got_more)).1
 
       mark_none : (name : Draw) → IsCalmMail (IsBegun scenario rows) set first.mail → mark name first.mail ≡ Other
-      mark_none name (inl p) = client_mark (IsBegun scenario rows) p.frame name (is.are p.frame p.is_frame) first.mail.from first.mail.to first.mail.body (ap is_node first.receiver ∙ no_node) p.says
+      mark_none name (inl p) = client_mark (IsBegun scenario rows) p.frame name (fact.are p.frame p.is_frame) first.mail.from first.mail.to first.mail.body (ap is_node first.receiver ∙ no_node) p.says
       mark_none name (inr s) = aside_mark (IsBegun scenario rows) set name first.mail first.mail.body refl s
-
-      marks_taken : (name : Draw) → IsTaken Other (marks_at words scenario rows name (client_actor asks.client)) (drop 1 (marks_at words scenario rows name (client_actor asks.client)))
-      marks_taken name =
-          let all : marks_at words scenario rows name (client_actor asks.client) ≡ mark name first.mail ∷ map (mark name) first.behind = ap (map (mark name)) first.first in
-          inl (all ∙ (ap (λ m. m ∷ map (mark name) first.behind) (mark_none name is_calm) ∙ ap (λ l. Other ∷ l) (sym (ap (drop 1) all))))
 
       client_turn : IsAsking words scenario set begins.first (rows ++ row_of player_table (client_seat (route_of begins.first) asks) rows (Deliver number) ∷ [])
       client_turn =
           let r = row_of player_table (cseat asks) rows (Deliver number) in
           client_after (Deliver number) fine (table c.client (Got first.mail)) got_is got_more (has_started rows (client_actor asks.client)) (started_still words scenario begins rows r (client_actor asks.client) refl)
-          (clients_calm.takes scenario rows (rows ++ r ∷ []) set asks (has_started rows (client_actor asks.client)) c.client first.mail is linked c.calm is_calm (first.receiver ∙ ap client_actor (sym c.calm.me_is)) asked_right
-          (more (Deliver number) fine (table c.client (Got first.mail)) got_is got_more) (now (Deliver number) fine (table c.client (Got first.mail)) got_is got_more)) marks_taken (takes_only first.mail c.client)
+          (clients_calm.takes scenario rows (rows ++ r ∷ []) set asks (has_started rows (client_actor asks.client)) c.client first.mail fact linked c.calm is_calm (first.receiver ∙ ap client_actor (sym c.calm.me_is)) (begun_right scenario rows begins.once asks a c.client c.calm.me_is c.calm.requests_are)
+          (more (Deliver number) fine (table c.client (Got first.mail)) got_is got_more) (now (Deliver number) fine (table c.client (Got first.mail)) got_is got_more)) (λ name. taken_other words scenario rows (client_actor asks.client) number first name (mark_none name is_calm)) (takes_only first.mail c.client)
 
     -- ---- a client starts
 
     module _ (fine : has_started rows (client_actor asks.client) ≡ false) where
       pub go_is : acted player_table (value player_table (client_seat (route_of begins.first) asks) rows) (input_of {O = OrderLine} (mails rows) Go) ≡ (Client (table c.client GoInput).0, (table c.client GoInput).1)
-      go_is = ap (λ p. acted player_table p (Some GoInput)) c.is
+      go_is = ap (λ p. acted player_table p (Some GoInput)) c.fact
 
       pub fresh : IsCalmClient set asks false c.client
       fresh = subst (λ g. IsCalmClient set asks g c.client) fine c.calm
 
       pub go_more : begun_ones c.client ≤ begun_ones (table c.client GoInput).0
       go_more =
-          let none = unasked set asks c.client fresh.state in
+          let none = unasked c.client fresh.state in
           let waits = ap waiting_ones none.0 in
           let replies = ap length none.1 in
           omega (arith, waits, replies)
@@ -193,7 +183,7 @@ module _ (words : ℕ → ℕ → ℕ × ℕ) (scenario : Scenario) (begins : Is
         let row_is : row ≡ row_of player_table (node_seat as_nodes scenario.groups scenario.policy n.me) rows o.event = o.row_is ∙ ap (λ (seat : Seat Player). row_of player_table seat rows o.event) n.seat_is in
         let born = subst (λ (seat : Seat Player). find (λ (other : Seat Player). eqb other.who seat.who) (births as_nodes scenario) ≡ Some seat) n.seat_is o.born in
         subst (λ r. IsAsking words scenario set begins.first (rows ++ r ∷ [])) (sym row_is)
-        (turns_of.node_event words scenario begins set is rows t j room n.me n.one n.most born o.event (subst (λ (seat : Seat Player). IsInOrder sys rows seat.who o.event) n.seat_is o.in_order)))
+        (turns_of.node_event words scenario begins set fact rows t j room n.me n.one n.most born o.event (subst (λ (seat : Seat Player). IsInOrder sys rows seat.who o.event) n.seat_is o.in_order)))
     | inr d ↦ (
         let row_is : row ≡ row_of player_table (cseat d.asks) rows o.event = o.row_is ∙ ap (λ (seat : Seat Player). row_of player_table seat rows o.event) d.seat_is in
         let born = subst (λ (seat : Seat Player). find (λ (other : Seat Player). eqb other.who seat.who) (births as_nodes scenario) ≡ Some seat) d.seat_is o.born in
@@ -202,7 +192,7 @@ module _ (words : ℕ → ℕ → ℕ × ℕ) (scenario : Scenario) (begins : Is
   ]
 
 pub go_on : ValidScenariosAreBounded → RequestsGoOn
-go_on all_bounded words scenario set first others rows row valid groups is linked t room j o =
+go_on all_bounded words scenario set first others rows row valid groups fact linked t room j o =
     let begins = stage scenario (all_bounded scenario valid) in
     let same : first ≡ begins.first = (let e : first ∷ others ≡ begins.first ∷ begins.others = sym groups ∙ begins.groups_are in cc) in
-    subst (λ (f : Base). IsAsking words scenario set f (rows ++ row ∷ [])) (sym same) (asking_row words scenario begins set is linked rows t (subst (λ (f : Base). IsAsking words scenario set f rows) same j) room row o)
+    subst (λ (f : Base). IsAsking words scenario set f (rows ++ row ∷ [])) (sym same) (asking_row words scenario begins set fact linked rows t (subst (λ (f : Base). IsAsking words scenario set f rows) same j) room row o)

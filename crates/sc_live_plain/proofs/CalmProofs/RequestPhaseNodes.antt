@@ -1,5 +1,5 @@
 -- Between two orders each row of a node leaves a journal in which clients ask alone.
-use Rattle.std.proofs.Common.{◌≡◌, ℕ, zero, suc, ◌≤◌, eqb, true, false, cond, List, [], ◌∷◌, ◌++◌, map, drop, find, Some, inl, inr, refl, sym, ◌∙◌, ap, subst, arith}
+use Rattle.std.proofs.Common.{◌≡◌, ℕ, ◌≤◌, eqb, true, false, cond, List, [], ◌∷◌, ◌++◌, map, drop, find, Some, inl, inr, refl, sym, ◌∙◌, ap, subst, arith}
 use Rattle.std.specs.Option.{option_map}
 use Rattle.std.proofs.lemmas.Bool.{cases_eq, eq-eqb}
 use Rattle.sc_base.specs.Definitions.{Among, Each, client_actor}
@@ -17,14 +17,15 @@ use Rattle.sc_live_orderly.proofs.Lemmas.{TakesFirst, takes_first, is_born-from,
 use Rattle.sc_live_plain.specs.Definitions.{IsAskingNode, IsAskingClient, IsAsking, AreFarFromLast, Other, mark, marks_for, marks_at, next_in, replica_at, IsGroupAt, IsOther, IsCalmClient, Setting, IsSetting, IsCalmNode, IsCalmMail, ComesInTime, Frame, IsBegun}
 use Rattle.sc_live_plain.proofs.CalmProofs.MoreCalmRequests.{calm_mail_more, calm_node_more}
 use Rattle.sc_live_plain.proofs.PlainProofs.MorePlainRequests.{IsMore}
-use Rattle.sc_live_plain.proofs.RowsProofs.LeaderMailOfGroups.{due, group_idle, group_after}
-use Rattle.sc_live_plain.proofs.RowsProofs.LeaderMarks.{each_mark}
+use Rattle.sc_live_plain.proofs.PlainRowsProofs.LeaderMailOfGroups.{due, group_idle, group_after}
+use Rattle.sc_live_plain.proofs.PlainRowsProofs.LeaderMarks.{each_mark}
 use Rattle.sc_live_plain.proofs.PlainProofs.PlainBeginnings.{IsStage}
 use Rattle.sc_live_plain.proofs.PlainProofs.PlainSteps.{node_number, value_others, gone_others, begun_still, client_away}
-use Rattle.sc_live_plain.proofs.RowsProofs.RowViews.{Journal, replica_is, replica_others}
+use Rattle.sc_live_plain.proofs.PlainRowsProofs.RowViews.{Journal, replica_is, replica_others}
 use Rattle.sc_live_plain.proofs.CalmProofs.CalmNodes.{aside_mail, aside_mail_mark, step_is, Turns, turns, stays_by, me_stays}
+use Rattle.sc_law_walks.proofs.Lemmas.{Each-drop}
 
-module _ (words : ℕ → ℕ → ℕ × ℕ) (scenario : Scenario) (stage : IsStage scenario) (set : Setting) (is : IsSetting set) (rows : Journal) (t : IsTidy rows) (j : IsAsking words scenario set stage.first rows) where
+module _ (words : ℕ → ℕ → ℕ × ℕ) (scenario : Scenario) (stage : IsStage scenario) (set : Setting) (fact : IsSetting set) (rows : Journal) (t : IsTidy rows) (j : IsAsking words scenario set stage.first rows) where
   abbrev sys : System Player Mail OrderLine
   sys = system_of as_nodes words scenario
 
@@ -39,7 +40,7 @@ module _ (words : ℕ → ℕ → ℕ × ℕ) (scenario : Scenario) (stage : IsS
   pub node_stays : (row : Row Mail OrderLine) → IsMore (IsBegun scenario rows) (IsBegun scenario (rows ++ row ∷ [])) → (me : ℕ) → (me ≡ row.who → ⊥) → IsAskingNode scenario set rows me → IsAskingNode scenario set (rows ++ row ∷ []) me
   node_stays row more me ne n = record {
     node = n.node;
-    is = value_others words scenario stage rows row (nseat me) ne ∙ n.is;
+    fact = value_others words scenario stage rows row (nseat me) ne ∙ n.fact;
     me_is = n.me_is;
     calm = calm_node_more (IsBegun scenario rows) (IsBegun scenario (rows ++ row ∷ [])) more set n.node n.calm;
   }
@@ -47,15 +48,9 @@ module _ (words : ℕ → ℕ → ℕ × ℕ) (scenario : Scenario) (stage : IsS
   pub client_stays : (row : Row Mail OrderLine) (asks : Asks) → (client_actor asks.client ≡ row.who → ⊥) → IsAskingClient scenario set stage.first rows asks → IsAskingClient scenario set stage.first (rows ++ row ∷ []) asks
   client_stays row asks ne c = record {
     client = c.client;
-    is = value_others words scenario stage rows row (cseat asks) ne ∙ c.is;
+    fact = value_others words scenario stage rows row (cseat asks) ne ∙ c.fact;
     calm = subst (λ b. IsCalmClient set asks b c.client) (sym (gone_others words scenario stage rows row (client_actor asks.client) ne)) c.calm;
   }
-
-  drop_each : {X : Type 0} (P : X → Type 0) (n : ℕ) (xs : List X) → Each P xs → Each P (drop n xs)
-  drop_each P zero [] e = tt
-  drop_each P zero (x ∷ xs) e = e
-  drop_each P (suc n) [] e = tt
-  drop_each P (suc n) (x ∷ xs) e = drop_each P n xs e.1
 
   -- what is left of the mail of each is calm
   pub left_more : (row : Row Mail OrderLine) → IsMore (IsBegun scenario rows) (IsBegun scenario (rows ++ row ∷ []))
@@ -65,7 +60,7 @@ module _ (words : ℕ → ℕ → ℕ × ℕ) (scenario : Scenario) (stage : IsS
       let P : Mail → Type 0 = IsCalmMail (IsBegun scenario (rows ++ row ∷ [])) set in
       subst (Each P) (sym (after who))
       (Each-append P (drop (taken who row) (rest sys rows who)) (mail_for sys who row.sent)
-      (drop_each P (taken who row) (rest sys rows who) (Each-weaker (IsCalmMail (IsBegun scenario rows) set) P (calm_mail_more (IsBegun scenario rows) (IsBegun scenario (rows ++ row ∷ [])) more set) (rest sys rows who) (j.left who born)))
+      (Each-drop P (taken who row) (rest sys rows who) (Each-weaker (IsCalmMail (IsBegun scenario rows) set) P (calm_mail_more (IsBegun scenario rows) (IsBegun scenario (rows ++ row ∷ [])) more set) (rest sys rows who) (j.left who born)))
       (Each-filter P (λ (mail : Mail). eqb (sys.receiver mail) who) row.sent sent))
 
   -- the value of who acts
@@ -98,7 +93,7 @@ module _ (words : ℕ → ℕ → ℕ × ℕ) (scenario : Scenario) (stage : IsS
         elim (cases_eq node me) [
           | inl here ↦ ap (replica_at scenario (rows ++ r ∷ []) frame.core.id) here
               ∙ (replica_is words scenario (rows ++ r ∷ []) frame.core.id me (Node n.node) number_is same
-              ∙ (sym (replica_is words scenario rows frame.core.id me (Node n.node) number_is n.is) ∙ ap (replica_at scenario rows frame.core.id) (sym here)))
+              ∙ (sym (replica_is words scenario rows frame.core.id me (Node n.node) number_is n.fact) ∙ ap (replica_at scenario rows frame.core.id) (sym here)))
           | inr ne ↦ replica_others words scenario rows r frame.core.id node ne
         ]
 
@@ -111,7 +106,7 @@ module _ (words : ℕ → ℕ → ℕ × ℕ) (scenario : Scenario) (stage : IsS
 
       pub in_time : ComesInTime (IsBegun scenario rows) set n.node first.mail
       in_time frame r a says found =
-          let here : replica_at scenario rows frame.core.id me ≡ Some r = replica_is words scenario rows frame.core.id me (Node n.node) number_is n.is ∙ found in
+          let here : replica_at scenario rows frame.core.id me ≡ Some r = replica_is words scenario rows frame.core.id me (Node n.node) number_is n.fact ∙ found in
           let far = room frame me a in
           let at = ap next_in here in (
             due words scenario (IsBegun scenario rows) rows frame (j.groups frame a) me r here first.mail.from (map (mark frame.core.id) first.behind) first.mail.to first.mail.body first.receiver (ap (map (mark frame.core.id)) first.first) says,
@@ -121,17 +116,17 @@ module _ (words : ℕ → ℕ → ℕ × ℕ) (scenario : Scenario) (stage : IsS
       pub to_me : first.mail.to ≡ n.node.me
       to_me = first.receiver ∙ sym n.me_is
 
-      pub turn : Turns (IsBegun scenario rows) set is n.node n.calm first.mail to_me not_client in_time
-      turn = turns (IsBegun scenario rows) set is n.node n.calm first.mail to_me not_client in_time is_calm
+      pub turn : Turns (IsBegun scenario rows) set fact n.node n.calm first.mail to_me not_client in_time
+      turn = turns (IsBegun scenario rows) set fact n.node n.calm first.mail to_me not_client in_time is_calm
 
       after_is : IsCalmNode (IsBegun scenario rows) set (node_table n.node (Got first.mail)).0 × Each (IsCalmMail (IsBegun scenario rows) set) (node_table n.node (Got first.mail)).1
-      after_is = stays_by (IsBegun scenario rows) set is n.node n.calm first.mail to_me not_client in_time turn
+      after_is = stays_by (IsBegun scenario rows) set fact n.node n.calm first.mail to_me not_client in_time turn
 
       -- what the step makes of the node, and what it sends
       pub acted_is : acted player_table (value player_table (node_seat as_nodes scenario.groups scenario.policy me) rows) (input_of {O = OrderLine} (mails rows) (Deliver number)) ≡ (Node (node_table n.node (Got first.mail)).0, (node_table n.node (Got first.mail)).1)
       acted_is =
           ap (λ o. acted player_table (value player_table (nseat me) rows) (option_map Got o)) first.sent
-          ∙ ap (λ p. acted player_table p (Some (Got first.mail))) n.is
+          ∙ ap (λ p. acted player_table p (Some (Got first.mail))) n.fact
 
       pub rest_after : (who : ℕ) → rest (system_of as_nodes words scenario) (rows ++ row_of player_table (node_seat as_nodes scenario.groups scenario.policy me) rows (Deliver number) ∷ []) who
           ≡ drop (taken who (row_of player_table (node_seat as_nodes scenario.groups scenario.policy me) rows (Deliver number))) (rest (system_of as_nodes words scenario) rows who) ++ mail_for (system_of as_nodes words scenario) who (row_of player_table (node_seat as_nodes scenario.groups scenario.policy me) rows (Deliver number)).sent
@@ -144,15 +139,15 @@ module _ (words : ℕ → ℕ → ℕ × ℕ) (scenario : Scenario) (stage : IsS
       sends = ap (λ (p : Player × List Mail). p.1) acted_is
 
       -- in each group, by what the node does
-      groups_after : Turns (IsBegun scenario rows) set is n.node n.calm first.mail to_me not_client in_time → (frame : Frame) → Among frame set.frames → IsGroupAt words scenario (rows ++ row_of player_table (node_seat as_nodes scenario.groups scenario.policy me) rows (Deliver number) ∷ []) frame
+      groups_after : Turns (IsBegun scenario rows) set fact n.node n.calm first.mail to_me not_client in_time → (frame : Frame) → Among frame set.frames → IsGroupAt words scenario (rows ++ row_of player_table (node_seat as_nodes scenario.groups scenario.policy me) rows (Deliver number) ∷ []) frame
       groups_after (inl k) frame a =
-          group_after words scenario rows (row_of player_table (nseat me) rows (Deliver number)) rest_after (IsBegun scenario rows) set.frames is.are is.apart n.node first.mail (node_table n.node (Got first.mail)) n.calm.plain k (sym n.me_is) refl sends to_me first.behind
-          (ap (rest sys rows) n.me_is ∙ first.first) (ap is_node n.me_is ∙ number_is) (ap (λ m. value player_table (nseat m) rows) n.me_is ∙ n.is)
+          group_after words scenario rows (row_of player_table (nseat me) rows (Deliver number)) rest_after (IsBegun scenario rows) set.frames fact.are fact.apart n.node first.mail (node_table n.node (Got first.mail)) n.calm.plain k (sym n.me_is) refl sends to_me first.behind
+          (ap (rest sys rows) n.me_is ∙ first.first) (ap is_node n.me_is ∙ number_is) (ap (λ m. value player_table (nseat m) rows) n.me_is ∙ n.fact)
           (ap (λ m. value player_table (nseat m) (rows ++ row_of player_table (nseat me) rows (Deliver number) ∷ [])) n.me_is ∙ became) frame a (j.groups frame a)
       groups_after (inr s) frame a =
-          let step = step_is (IsBegun scenario rows) set is n.node n.calm first.mail to_me not_client in_time s in
-          let said : Mail = aside_mail (IsBegun scenario rows) set is n.node n.calm first.mail to_me not_client in_time s in
-          let said_mark = aside_mail_mark (IsBegun scenario rows) set is n.node n.calm first.mail to_me not_client in_time s in
+          let step = step_is (IsBegun scenario rows) set fact n.node n.calm first.mail to_me not_client in_time s in
+          let said : Mail = aside_mail (IsBegun scenario rows) set fact n.node n.calm first.mail to_me not_client in_time s in
+          let said_mark = aside_mail_mark (IsBegun scenario rows) set fact n.node n.calm first.mail to_me not_client in_time s in
           let all : marks_at words scenario rows frame.core.id me ≡ mark frame.core.id first.mail ∷ map (mark frame.core.id) first.behind = ap (map (mark frame.core.id)) first.first in
           let none : mark frame.core.id first.mail ≡ Other = ap (λ body. mark frame.core.id (record { from = first.mail.from; to = first.mail.to; body = body })) s.body_is in
           group_idle words scenario rows (row_of player_table (nseat me) rows (Deliver number)) rest_after frame (j.groups frame a)
@@ -169,8 +164,8 @@ module _ (words : ℕ → ℕ → ℕ × ℕ) (scenario : Scenario) (stage : IsS
             nodes = λ other low high. elim (cases_eq other me) [
               | inl same ↦ subst (IsAskingNode scenario set (rows ++ r ∷ [])) (sym same) (record {
                 node = (node_table n.node (Got first.mail)).0;
-                is = became;
-                me_is = me_stays (IsBegun scenario rows) set is n.node n.calm first.mail to_me not_client in_time turn ∙ n.me_is;
+                fact = became;
+                me_is = me_stays (IsBegun scenario rows) set fact n.node n.calm first.mail to_me not_client in_time turn ∙ n.me_is;
                 calm = calm_node_more (IsBegun scenario rows) (IsBegun scenario (rows ++ r ∷ [])) more set (node_table n.node (Got first.mail)).0 after_is.0;
               })
               | inr ne ↦ node_stays r more other ne (j.nodes other low high)
@@ -187,7 +182,7 @@ module _ (words : ℕ → ℕ → ℕ × ℕ) (scenario : Scenario) (stage : IsS
     node_go : has_started rows me ≡ false → IsAsking words scenario set stage.first (rows ++ row_of player_table (node_seat as_nodes scenario.groups scenario.policy me) rows Go ∷ [])
     node_go fine =
         let r = row_of player_table (nseat me) rows Go in
-        let acted_go : acted player_table (value player_table (nseat me) rows) (input_of {O = OrderLine} (mails rows) Go) ≡ (Node n.node, []) = ap (λ p. acted player_table p (Some GoInput)) n.is in
+        let acted_go : acted player_table (value player_table (nseat me) rows) (input_of {O = OrderLine} (mails rows) Go) ≡ (Node n.node, []) = ap (λ p. acted player_table p (Some GoInput)) n.fact in
         let orderly : IsOrderly sys rows r = record { seat = nseat me; born = born; event = Go; row_is = refl; in_order = fine } in
         let rest_after : (who : ℕ) → rest sys (rows ++ r ∷ []) who ≡ drop (taken who r) (rest sys rows who) ++ mail_for sys who r.sent = λ who. rest-row sys rows r who t orderly in
         let more = begun_still words scenario stage rows r (λ asks a e. client_away words scenario stage me number_is asks a e) in
@@ -196,7 +191,7 @@ module _ (words : ℕ → ℕ → ℕ × ℕ) (scenario : Scenario) (stage : IsS
         record {
           nodes = λ other low high. elim (cases_eq other me) [
             | inl here ↦ subst (IsAskingNode scenario set (rows ++ r ∷ [])) (sym here)
-                (record { node = n.node; is = same; me_is = n.me_is; calm = calm_node_more (IsBegun scenario rows) (IsBegun scenario (rows ++ r ∷ [])) more set n.node n.calm })
+                (record { node = n.node; fact = same; me_is = n.me_is; calm = calm_node_more (IsBegun scenario rows) (IsBegun scenario (rows ++ r ∷ [])) more set n.node n.calm })
             | inr ne ↦ node_stays r more other ne (j.nodes other low high)
           ];
           clients = λ asks a. client_stays r asks (λ e. client_away words scenario stage me number_is asks a e) (j.clients asks a);

@@ -14,13 +14,13 @@ use Rattle.sc_meaning.specs.sound.Definitions.{player_table, node_seat, route_of
 use Rattle.sc_live_orderly.specs.Definitions.{rest, is_born}
 use Rattle.sc_actor.specs.Definitions.{value, has_started}
 use Rattle.sc_live_steps.specs.calm.Definitions.{Ways, View as Replicas, StandsQuiet, IsAnswered}
-use Rattle.sc_live_plain.specs.Definitions.{IsAskingNode, IsAskingClient, IsAsking, NobodyWaits, replicas_after, setting_at, AreFramesOf, DoHintsRise, IsQuietJournal, QuietJournalsAsk, frame_at_rest, StandsPlain, Mark, Asks as AsksFor, Votes, Tells, Other, mark, AreInOrder, IsBelow, View, IsBetween, replica_at, next_in, voters_in, votes_in, view_at, marks_at, IsGroupAt, IsOther, CanBeAsked, IsCalmClient, Setting, IsHome, IsSetting, KnowsBetter, IsCalmNode, IsCalmMail, Frame, IsFrame, IsBegun, Requests, IsPlainAt}
+use Rattle.sc_live_plain.specs.Definitions.{IsAskingNode, IsAskingClient, IsAsking, NobodyWaits, replicas_after, setting_at, AreFramesOf, DoHintsRise, IsQuietJournal, QuietJournalsAsk, frame_at_rest, StandsPlain, Mark, Asks as AsksFor, Votes, Teaches, Other, mark, AreInOrder, IsBelow, View, IsBetween, replica_at, next_in, voters_in, votes_in, view_at, marks_at, IsGroupAt, IsOther, CanBeAsked, IsCalmClient, Setting, IsHome, IsSetting, KnowsBetter, IsCalmNode, IsCalmMail, Frame, IsFrame, IsBegun, Requests, IsPlainAt}
 use Rattle.sc_live_plain.proofs.PlainProofs.PlainBeginnings.{IsStage, stage}
 use Rattle.sc_live_plain.proofs.PlainProofs.PlainSteps.{node_number}
-use Rattle.sc_live_plain.proofs.RowsProofs.RowViews.{Journal, replica_is}
+use Rattle.sc_live_plain.proofs.PlainRowsProofs.RowViews.{Journal, replica_is}
 use Rattle.sc_live_plain.proofs.PlainProofs.WaitingRequestJournals.{client_is}
 use Rattle.sc_live_plain.proofs.CalmProofs.QuietFrames.{quiet_stand_plain}
-use Rattle.sc_live_plain.proofs.RowsProofs.MarkLists.{told-other as other_told}
+use Rattle.sc_live_plain.proofs.PlainRowsProofs.MarkLists.{told-other as other_told}
 
 -- ---- mail that is nothing to a group
 
@@ -34,7 +34,7 @@ other_order low [] e = tt
 other_order low (Other ∷ marks) e = other_order low marks e.1
 other_order low (AsksFor slot ∷ marks) e = (let bad : AsksFor slot ≡ Other = e.0 in cc)
 other_order low (Votes node slot ∷ marks) e = (let bad : Votes node slot ≡ Other = e.0 in cc)
-other_order low (Tells slot ∷ marks) e = (let bad : Tells slot ≡ Other = e.0 in cc)
+other_order low (Teaches slot ∷ marks) e = (let bad : Teaches slot ≡ Other = e.0 in cc)
 
 other_below : (bound : ℕ) (marks : List Mark) → Each IsOther marks → Each (IsBelow bound) marks
 other_below bound [] e = tt
@@ -142,7 +142,7 @@ module _ (words : ℕ → ℕ → ℕ × ℕ) (scenario : Scenario) (begins : Is
     }
 
     asking_node : IsAskingNode scenario (setting_at (replicas_after scenario rows) frames ways) rows me
-    asking_node = record { node = node; is = node_is; me_is = me_is; calm = calm }
+    asking_node = record { node = node; fact = node_is; me_is = me_is; calm = calm }
 
   -- ---- a client
 
@@ -167,7 +167,7 @@ module _ (words : ℕ → ℕ → ℕ × ℕ) (scenario : Scenario) (begins : Is
     asking_client =
         let p = q.players asks a in
         let answered = Each-among (λ (c : Bool × ClientState). IsAnswered c.0 (route_of begins.first) c.1) q.clients (has_started rows (client_actor asks.client), p.0) q.quiet.answered p.4 in
-        record { client = p.0; is = p.1; calm = calm_by (has_started rows (client_actor asks.client)) p.0 p.2 p.3 answered }
+        record { client = p.0; fact = p.1; calm = calm_by (has_started rows (client_actor asks.client)) p.0 p.2 p.3 answered }
 
   still : (gone : Bool) (client : ClientState) → IsAnswered gone (route_of begins.first) client → client.waiting ≡ None
   still false client fresh = ap (λ (x : ClientState). x.waiting) fresh

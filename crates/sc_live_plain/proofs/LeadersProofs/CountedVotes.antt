@@ -10,12 +10,13 @@ use Rattle.sc_words.proofs.PaxosProofs.Lemmas.{find_found, Each-among}
 use Rattle.sc_node_table.specs.Definitions.{has_room, executed, ReplicaState, Place, Executed, childless, next, set_at, last_slot, at_slot, with_slot, numbers_from, slots_ahead, leads, readied, vote_tallied, voted, accepted_row}
 use Rattle.sc_live_plain.specs.Definitions.{Frame, IsFrame, replica_owes, Requests, IsPlainCommand, takers, IsPlainFlight, IsPlainLeader, IsPlainReplica, HasOffered}
 use Rattle.sc_live_plain.proofs.LeadersProofs.LeaderRequests.{begins}
-use Rattle.sc_live_plain.proofs.RowsProofs.SlotCounts.{found_one, one_if, one_if_most, one_yes, one_no, entries_at, with_length, with_count, with_each, with_among, with_it, with_at, out_length, out_here, out_other, out_each, out_among}
-use Rattle.sc_live_plain.proofs.LeadersProofs.Flights.{others_out, voted_length, voted_count, voted_each, voted_value, voted_others, voted_here, only_flight, no_flight_at, HasVoted, vote_kept, numbered_get, closed_set}
+use Rattle.sc_live_plain.proofs.PlainRowsProofs.SlotCounts.{found_one, one_if, one_if_most, one_yes, one_no, entries_at, with_length, with_count, with_each, with_among, with_it, with_at, out_length, out_here, out_other, out_each, out_among}
+use Rattle.sc_live_plain.proofs.LeadersProofs.Flights.{others_out, voted_length, voted_count, voted_each, voted_value, voted_others, voted_here, only_flight, no_flight_at, numbered_get, numbered_past, closed_set}
+use Rattle.sc_live_steps.proofs.FollowingProofs.KeptVotes.{HasVoted, vote_kept}
 use Rattle.sc_live_plain.proofs.LeadersProofs.LeadingReplicas.{in_range, range_before, range_behind, early_taken, flights_at, IsHeld, Leads}
-use Rattle.sc_live_plain.proofs.LeadersProofs.Pumps.{call_is}
+use Rattle.sc_live_plain.proofs.LeadersProofs.PlainPumps.{call_is}
 use Rattle.sc_live_plain.proofs.LeadersProofs.LeaderExecutions.{IsRun, executed_none, executed_run, some_taken}
-use Rattle.sc_live_plain.proofs.RowsProofs.Lists.{some_is}
+use Rattle.sc_live_plain.proofs.PlainRowsProofs.Lists.{some_is}
 
 -- ---- Accepted
 
@@ -25,7 +26,7 @@ pub record IsVoted (from slot : ℕ) (before after : List (Flight Command)) : Ty
   pub here : (flight : Flight Command) → flight_at slot after ≡ Some flight
       → (was : Flight Command) × (flight_at slot before ≡ Some was) × ((who : ℕ) → is_member (kept_voters was.voters) who ≡ true → is_member (kept_voters flight.voters) who ≡ true) × (is_member (kept_voters flight.voters) from ≡ true)
 
-module _ (begun : Requests) (frame : Frame) (is : IsFrame frame) (taken : ℕ) (r : ReplicaState) (p : IsPlainReplica begun frame frame.lead r) (l : IsPlainLeader begun frame taken r) (d : HasOffered taken r) (room : next r + taken ≤ last_slot) where
+module _ (begun : Requests) (frame : Frame) (fact : IsFrame frame) (taken : ℕ) (r : ReplicaState) (p : IsPlainReplica begun frame frame.lead r) (l : IsPlainLeader begun frame taken r) (d : HasOffered taken r) (room : next r + taken ≤ last_slot) where
   abbrev pub Keeps : ℕ → ℕ → Type 0
   Keeps c n = IsHeld r c n
 
@@ -33,7 +34,7 @@ module _ (begun : Requests) (frame : Frame) (is : IsFrame frame) (taken : ℕ) (
   pub record IsCounted (from slot : ℕ) (place : Place) : Type 0 where
     pub held : List (Flight Command)
     pub votes : IsVoted from slot r.leader.flights held
-    pub run : IsRun begun frame is (next r) (next r + taken) held (replica_owes r) Keeps place
+    pub run : IsRun begun frame fact (next r) (next r + taken) held (replica_owes r) Keeps place
 
   abbrev changed : List (Flight Command) → List (ℕ × Command) → ReplicaState
   changed fs es = record r { leader = record r.leader { flights = fs }; ready = es }
@@ -86,7 +87,7 @@ module _ (begun : Requests) (frame : Frame) (is : IsFrame frame) (taken : ℕ) (
   same_counted from slot none = record {
     held = r.leader.flights;
     votes = record { others = λ other ne. refl; here = λ flight e. absurd (none flight e) };
-    run = record { taken = taken; leads = begins begun frame is taken r p l (replica_owes r) Keeps (omega arith) (λ c n h. h); done = d };
+    run = record { taken = taken; leads = begins begun frame fact taken r p l (replica_owes r) Keeps (omega arith) (λ c n h. h); done = d };
   }
 
   -- a slot that is not open has no flight
@@ -135,7 +136,7 @@ module _ (begun : Requests) (frame : Frame) (is : IsFrame frame) (taken : ℕ) (
       unfolding voters
       has_voted =
           let same : frame.at flight.slot ≡ frame.at slot = ap frame.at at in
-          vote_kept (frame.at slot) from flight.voters (is.rosters slot) member (subst (λ (ms : List ℕ). length (kept_voters flight.voters) ≤ votes_of ms (kept_voters flight.voters)) same flies.voters_are)
+          vote_kept (frame.at slot) from flight.voters (fact.rosters slot) member (subst (λ (ms : List ℕ). length (kept_voters flight.voters) ≤ votes_of ms (kept_voters flight.voters)) same flies.voters_are)
           (ap (λ (ms : List ℕ). is_majority ms (kept_voters flight.voters)) (sym same) ∙ flies.undecided)
 
       -- the vote decides nothing yet
@@ -156,7 +157,7 @@ module _ (begun : Requests) (frame : Frame) (is : IsFrame frame) (taken : ℕ) (
                 is_call = q.is_call;
                 voters_are = (let same : flight ≡ g = some_is (sym e ∙ k) in
                     let here : g.slot ≡ slot = ap (λ (x : Flight Command). x.slot) (sym same) ∙ at in
-                    subst (λ s. length (kept_voters voters) ≤ votes_of (frame.at s) (kept_voters voters)) (sym here) has_voted.members_still);
+                    subst (λ s. length (kept_voters voters) ≤ votes_of (frame.at s) (kept_voters voters)) (sym here) has_voted.few);
                 undecided = (let same : flight ≡ g = some_is (sym e ∙ k) in
                     let here : g.slot ≡ slot = ap (λ (x : Flight Command). x.slot) (sym same) ∙ at in ap (λ s. is_majority (frame.at s) (kept_voters voters)) here ∙ undecided);
               }))
@@ -234,7 +235,7 @@ module _ (begun : Requests) (frame : Frame) (is : IsFrame frame) (taken : ℕ) (
           let out = out_here (λ (f : Flight Command). f.slot) (λ m xs. without_flight m xs) (λ m. refl) (λ m x xs. refl) slot r.leader.flights (omega (arith, one)) in
           no_flight_at slot (without_flight slot r.leader.flights) g (omega (arith, one, out)) k
 
-      decided_by : (place : Place) → IsRun begun frame is (next r) (next r + taken) fs (replica_owes r) Keeps place → R place
+      decided_by : (place : Place) → IsRun begun frame fact (next r) (next r + taken) fs (replica_owes r) Keeps place → R place
       unfolding fs
       decided_by place run = record {
         held = without_flight slot r.leader.flights;
@@ -250,14 +251,14 @@ module _ (begun : Requests) (frame : Frame) (is : IsFrame frame) (taken : ℕ) (
           cond_both (eqb slot (next r) && has_room after) (executed true flight.value (after, [])) (childless (after, [])) (λ (step : Executed). R step.0)
           (λ t. (
           let here = eqb-true slot (next r) (and_parts (eqb slot (next r)) (has_room after) t).0 in
-          let c = call_is begun frame is (next r) (next r + taken) fs (replica_owes r) Keeps flight.value flies.is_call in
+          let c = call_is begun frame fact (next r) (next r + taken) fs (replica_owes r) Keeps flight.value flies.is_call in
           let ready : at_slot es (next r) ≡ Some flight.value = ap (at_slot es) (sym here) ∙ with_at slot flight.value r.ready in
-          let less = some_taken begun frame is (next r) (next r + taken) fs (replica_owes r) Keeps taken after [] flight.value ready ready_leads in
+          let less = some_taken begun frame fact (next r) (next r + taken) fs (replica_owes r) Keeps taken after [] flight.value ready ready_leads in
           let now = subst (λ t_. Leads begun frame (next r) (next r + taken) fs (replica_owes r) Keeps t_ (after, [])) less.1 ready_leads in
           let up : next r + (less.0 + 1) ≡ next r + taken = ap (λ t_. next r + t_) (sym less.1) in
           decided_by (executed true flight.value (after, [])).0
-          (subst (λ (x : Command). IsRun begun frame is (next r) (next r + taken) fs (replica_owes r) Keeps (executed true x (after, [])).0) (sym c.3)
-          (executed_run begun frame is (next r) (next r + taken) fs (replica_owes r) Keeps room less.0 after [] c.0 c.1 c.2 up (ready ∙ ap Some c.3) now))))
+          (subst (λ (x : Command). IsRun begun frame fact (next r) (next r + taken) fs (replica_owes r) Keeps (executed true x (after, [])).0) (sym c.3)
+          (executed_run begun frame fact (next r) (next r + taken) fs (replica_owes r) Keeps room less.0 after [] c.0 c.1 c.2 up (ready ∙ ap Some c.3) now))))
           (λ n. (
           let past : slot ≡ next r → ⊥ = λ here. both_ways (eqb slot (next r) && has_room after) n
           (and_from (eqb slot (next r)) (has_room after) (eq-eqb slot (next r) here) (lt-ltb (next r) (last_slot + length r.sets) (omega (arith, room, sets)))) in
@@ -274,13 +275,13 @@ module _ (begun : Requests) (frame : Frame) (is : IsFrame frame) (taken : ℕ) (
           cond_both (eqb slot (next r) && has_room after) (executed true flight.value (after, [])) (childless (after, [])) (λ (step : Executed). step.1 ≡ [])
           (λ t. (
           let here = eqb-true slot (next r) (and_parts (eqb slot (next r)) (has_room after) t).0 in
-          let c = call_is begun frame is (next r) (next r + taken) fs (replica_owes r) Keeps flight.value flies.is_call in
+          let c = call_is begun frame fact (next r) (next r + taken) fs (replica_owes r) Keeps flight.value flies.is_call in
           let ready : at_slot es (next r) ≡ Some flight.value = ap (at_slot es) (sym here) ∙ with_at slot flight.value r.ready in
-          let less = some_taken begun frame is (next r) (next r + taken) fs (replica_owes r) Keeps taken after [] flight.value ready ready_leads in
+          let less = some_taken begun frame fact (next r) (next r + taken) fs (replica_owes r) Keeps taken after [] flight.value ready ready_leads in
           let now = subst (λ t_. Leads begun frame (next r) (next r + taken) fs (replica_owes r) Keeps t_ (after, [])) less.1 ready_leads in
           let up : next r + (less.0 + 1) ≡ next r + taken = ap (λ t_. next r + t_) (sym less.1) in
           subst (λ (x : Command). (executed true x (after, [])).1 ≡ []) (sym c.3)
-          (executed_none begun frame is (next r) (next r + taken) fs (replica_owes r) Keeps room less.0 after [] c.0 c.1 c.2 up (ready ∙ ap Some c.3) now)))
+          (executed_none begun frame fact (next r) (next r + taken) fs (replica_owes r) Keeps room less.0 after [] c.0 c.1 c.2 up (ready ∙ ap Some c.3) now)))
           (λ n. refl)
 
     vote_none : (o : Option (Flight Command)) → flight_at slot r.leader.flights ≡ o → (vote_tallied slot (vote_at from slot (frame.at slot) o r.leader) (r, [])).1 ≡ []

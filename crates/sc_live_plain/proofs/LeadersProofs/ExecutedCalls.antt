@@ -11,7 +11,7 @@ use Rattle.sc_words.specs.declared.commands.effects.Effect.TheVariants as Was
 use Rattle.sc_group_table.specs.machine.Definitions.{Group, done, served_by_note, served, called, applied}
 use Rattle.sc_node_table.specs.Definitions.{answer_of, entered, forgotten, ReplicaState}
 use Rattle.sc_live_plain.specs.Definitions.{Frame, IsFrame, answer_owes, Requests, written_by, IsWrittenValue, IsPlainCall, IsPlainAnswer, IsPlainGroup}
-use Rattle.sc_live_plain.proofs.RowsProofs.Lists.{some_is}
+use Rattle.sc_live_plain.proofs.PlainRowsProofs.Lists.{some_is}
 
 -- what a key has after an operation is what it had, or what the operation writes
 abbrev Had : Op → Contents → Contents → Type 0
@@ -46,7 +46,7 @@ pub record IsServed (begun : Requests) (frame : Frame) (client seq : ℕ) (op : 
   pub says : IsPlainAnswer begun frame client seq op answer
   pub owes : answer_owes answer ≡ 1
 
-module _ (begun : Requests) (frame : Frame) (is : IsFrame frame) where
+module _ (begun : Requests) (frame : Frame) (fact : IsFrame frame) where
   done_plain : (client seq : ℕ) (op : Op) (group : Group) → begun client seq op → IsPlainGroup begun frame group → IsServed begun frame client seq op (done group client seq op)
   done_plain client seq op group b g = record {
     group = record {
@@ -97,7 +97,7 @@ module _ (begun : Requests) (frame : Frame) (is : IsFrame frame) where
 
   pub call_plain : (client seq : ℕ) (op : Op) (group : Group) → IsPlainCall begun frame client seq op → IsPlainGroup begun frame group → IsServed begun frame client seq op (applied group (Call client seq op))
   call_plain client seq op group c g =
-      lock_plain group.core.gone group.core.lock client seq op group (ap (λ (core : Core). core.gone) g.core_is ∙ is.stands) (ap (λ (core : Core). core.lock) g.core_is ∙ is.free) c g
+      lock_plain group.core.gone group.core.lock client seq op group (ap (λ (core : Core). core.gone) g.core_is ∙ fact.stands) (ap (λ (core : Core). core.lock) g.core_is ∙ fact.free) c g
 
 -- a replica that executes a plain call keeps the record of its frame
 pub entered_frame : (begun : Requests) (frame : Frame) (client seq : ℕ) (op : Op) (r : ReplicaState) → IsServed begun frame client seq op (applied r.group (Call client seq op)) → (entered (Call client seq op) r).group.core ≡ frame.core

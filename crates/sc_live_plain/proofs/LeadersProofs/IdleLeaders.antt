@@ -9,7 +9,7 @@ use Rattle.sc_words.proofs.PaxosProofs.Lemmas.{Each-among, find_found}
 use Rattle.sc_node_table.specs.Definitions.{ReplicaState, next}
 use Rattle.sc_paxos_law.proofs.Lemmas.{among-member}
 use Rattle.sc_live_plain.specs.Definitions.{voters_in, Frame, IsFrame, Requests, takers, IsPlainFlight, IsLeading}
-use Rattle.sc_live_plain.proofs.RowsProofs.SlotCounts.{one_yes, one_no, count-cons, find_some}
+use Rattle.sc_live_plain.proofs.PlainRowsProofs.SlotCounts.{one_yes, one_no, count-cons, find_some}
 use Rattle.sc_live_plain.proofs.LeadersProofs.LeadingReplicas.{in_range, range_yes, range_before, range_behind, IsHeld}
 
 count_among : {X : Type 0} (p : X → Bool) (xs : List X) (x : X) → Among x xs → p x ≡ true → 1 ≤ count_by p xs
@@ -26,7 +26,7 @@ all_voted (x ∷ members) voters f =
     let more = all_voted members voters (λ node a. f node (inr a)) in
     omega (arith, c, one, more)
 
-module _ (begun : Requests) (frame : Frame) (is : IsFrame frame) (r : ReplicaState) (d : IsLeading begun frame r)
+module _ (begun : Requests) (frame : Frame) (fact : IsFrame frame) (r : ReplicaState) (d : IsLeading begun frame r)
     (votes : (slot : ℕ) (voters : List ℕ) → voters_in r.leader.flights slot ≡ Some voters → (node : ℕ) → is_member (frame.at slot) node ≡ true → is_member voters node ≡ true) where
   -- so nothing is in flight at the next slot, and no slot is taken
   none_taken : 0 < d.taken → ⊥
@@ -42,7 +42,7 @@ module _ (begun : Requests) (frame : Frame) (is : IsFrame frame) (r : ReplicaSta
       let kept : voters_in r.leader.flights (next r) ≡ Some voters = ap (λ (o : Option (Flight Command)). option_map (λ (flight : Flight Command). kept_voters flight.voters) o) found.1 in
       let members = frame.at (next r) in
       let all = all_voted members voters (λ node a. votes (next r) voters kept node (among-member members node a)) in
-      let least = (is.rosters (next r)).some in
+      let least = (fact.rosters (next r)).some in
       let yes_ : is_majority members voters ≡ true = lt-ltb (length members) (2 * votes_of members voters) (omega (arith, all, least)) in
       both_ways (is_majority members voters) (ap (λ slot. is_majority (frame.at slot) voters) (sym at) ∙ plain.undecided) yes_
 

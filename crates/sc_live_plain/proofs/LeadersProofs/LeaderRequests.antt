@@ -12,8 +12,8 @@ use Rattle.sc_node_table.specs.Definitions.{admits_requests, pumped, queued_numb
 use Rattle.sc_live_plain.specs.Definitions.{Frame, IsFrame, replica_owes, Requests, IsPlainCommand, IsPlainCall, IsPlainLeader, IsPlainReplica, HasOffered}
 use Rattle.sc_live_plain.proofs.LeadersProofs.LeadingReplicas.{early_taken, IsHeld, Leads}
 use Rattle.sc_live_plain.proofs.LeadersProofs.LeaderExecutions.{IsRun, pumped_run}
-use Rattle.sc_live_plain.proofs.RowsProofs.RepeatedMail.{mail_of, among_push, last_among}
-use Rattle.sc_live_plain.proofs.RowsProofs.Lists.{some_is}
+use Rattle.sc_live_plain.proofs.PlainRowsProofs.RepeatedMail.{mail_of, among_push, last_among}
+use Rattle.sc_live_plain.proofs.PlainRowsProofs.Lists.{some_is}
 use Rattle.sc_law_groups.proofs.GroupProofs.WithoutOne.{Each-without_request as out_calls}
 
 -- ---- the queued requests of a client
@@ -59,10 +59,10 @@ stays_call (x ∷ backlog) client c n op (inr a) = stays_rest x backlog client c
           | inl t ↦ inl (subst (Among (Call c n op)) (sym (cond-true (eqb d client) backlog (Call d m p ∷ without_request backlog client) t)) a)
           | inr f ↦ elim more [
             | inl b ↦ inl (subst (Among (Call c n op)) (sym (cond-false (eqb d client) backlog (Call d m p ∷ without_request backlog client) f)) (inr b))
-            | inr is ↦ inr (is.0, cond-false (eqb d client) (Some m) (queued_number backlog client) f ∙ is.1)
+            | inr fact ↦ inr (fact.0, cond-false (eqb d client) (Some m) (queued_number backlog client) f ∙ fact.1)
           ]
         ]
-    stays_rest _ backlog client c n op a more = elim more [ inl b ↦ inl (inr b) | inr is ↦ inr is ]
+    stays_rest _ backlog client c n op a more = elim more [ inl b ↦ inl (inr b) | inr fact ↦ inr fact ]
 
 -- ---- why a request is not taken
 
@@ -81,7 +81,7 @@ refusal_key None core running hint op g t s h =
 
 -- ---- the rows
 
-module _ (begun : Requests) (frame : Frame) (is : IsFrame frame) (taken : ℕ) (r : ReplicaState) (p : IsPlainReplica begun frame frame.lead r) (l : IsPlainLeader begun frame taken r) where
+module _ (begun : Requests) (frame : Frame) (fact : IsFrame frame) (taken : ℕ) (r : ReplicaState) (p : IsPlainReplica begun frame frame.lead r) (l : IsPlainLeader begun frame taken r) where
   -- how a row begins
   pub begins : (bound : ℕ) (wanted : ℕ → ℕ → Type 0) → replica_owes r ≤ bound → ((c n : ℕ) → wanted c n → IsHeld r c n) → Leads begun frame (next r) (next r + taken) r.leader.flights bound wanted taken (r, [])
   begins bound wanted low holds =
@@ -104,7 +104,7 @@ module _ (begun : Requests) (frame : Frame) (is : IsFrame frame) (taken : ℕ) (
       }
 
   gone_none : r.group.core.gone ≡ None
-  gone_none = ap (λ (core : Core). core.gone) p.group.core_is ∙ is.stands
+  gone_none = ap (λ (core : Core). core.gone) p.group.core_is ∙ fact.stands
 
   held_is : (op : Op) → holds_key r.group.core.arc (key_of op) ≡ holds_key frame.core.arc (key_of op)
   held_is op = ap (λ (core : Core). holds_key core.arc (key_of op)) p.group.core_is
@@ -115,7 +115,7 @@ module _ (begun : Requests) (frame : Frame) (is : IsFrame frame) (taken : ℕ) (
   unfolding request_row requested
   request_refused client seq op h =
       ap (λ (o : Option AnswerBody). requested o client seq op (r, []))
-      (refusal_key r.group.core.gone r.group.core r.running r.hint op gone_none l.running (ap (λ (core : Core). admits_requests core.lock) p.group.core_is ∙ ap admits_requests is.free) (held_is op ∙ h))
+      (refusal_key r.group.core.gone r.group.core r.running r.hint op gone_none l.running (ap (λ (core : Core). admits_requests core.lock) p.group.core_is ∙ ap admits_requests fact.free) (held_is op ∙ h))
       ∙ ap (λ (core : Core). (r, mail_of r.me (client_actor client) (Answer core.id seq (Says.NotMine core.arc core.succ)) ∷ [])) p.group.core_is
       ∙ ap (λ me. (r, mail_of me (client_actor client) (Answer frame.core.id seq (Says.NotMine frame.core.arc frame.core.succ)) ∷ [])) p.me_is
 
@@ -125,14 +125,14 @@ module _ (begun : Requests) (frame : Frame) (is : IsFrame frame) (taken : ℕ) (
     Wanted c n = IsHeld r c n ⊎ ((c ≡ client) × (n ≤ seq))
 
     abbrev Run : Place → Type 0
-    Run place = IsRun begun frame is (next r) (next r + taken) r.leader.flights (replica_owes r + 28) Wanted place
+    Run place = IsRun begun frame fact (next r) (next r + taken) r.leader.flights (replica_owes r + 28) Wanted place
 
     -- with such requests queued
     with_calls : (backlog : List Command) → Each (IsPlainCommand begun frame) backlog → length backlog ≤ length r.backlog + 1 → ((c n : ℕ) → Wanted c n → IsHeld (record r { backlog = backlog }) c n) → Run (pumped (record r { backlog = backlog }, []))
     with_calls backlog e few holds =
         let after : ReplicaState = record r { backlog = backlog } in
         let none : 0 ≡ next r - next r = omega arith in
-        pumped_run begun frame is (next r) (next r + taken) r.leader.flights (replica_owes r + 28) Wanted room taken (record r { backlog = backlog }, []) d.executed (record {
+        pumped_run begun frame fact (next r) (next r + taken) r.leader.flights (replica_owes r + 28) Wanted room taken (record r { backlog = backlog }, []) d.executed (record {
           plain = record {
             me_is = p.me_is;
             group = p.group;

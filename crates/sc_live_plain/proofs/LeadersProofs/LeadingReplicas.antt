@@ -10,8 +10,8 @@ use Rattle.sc_words.specs.paxos.Definitions.{flight_at}
 use Rattle.sc_words.proofs.PaxosProofs.Lemmas.{Each-among, find_found}
 use Rattle.sc_node_table.specs.Definitions.{is_act, from_backlog, from_acts, from_queues, offered, ReplicaState, Place, next, flying, either, taken_at, listed, taken_from, under_way, open_slots, at_slot, numbers_from}
 use Rattle.sc_live_plain.specs.Definitions.{Frame, answer_owes, mail_owes, replica_owes, Requests, IsPlainCommand, IsPlainBody, takers, AreTaken, IsPlainLeader, IsPlainReplica}
-use Rattle.sc_live_plain.proofs.RowsProofs.SlotCounts.{one_if, one_yes, one_no, count-cons, count-push, find_none, find_some, at_none, at_some, at_found}
-use Rattle.sc_live_plain.proofs.RowsProofs.RepeatedMail.{learns_to, mail_of}
+use Rattle.sc_live_plain.proofs.PlainRowsProofs.SlotCounts.{one_if, one_yes, one_no, count-cons, count-push, find_none, find_some, at_none, at_some, at_found}
+use Rattle.sc_live_plain.proofs.PlainRowsProofs.RepeatedMail.{learns_to, mail_of}
 
 -- ---- which slots are taken
 
@@ -194,7 +194,7 @@ pub record IsReportedOf (frame : Frame) (mails : List Mail) (client seq : ℕ) :
   pub answer : AnswerBody
   pub later : seq ≤ number
   pub owes : answer_owes answer ≡ 1
-  pub told : Among (mail_of frame.lead (client_actor client) (Answer frame.core.id number answer)) mails
+  pub taught_slots : Among (mail_of frame.lead (client_actor client) (Answer frame.core.id number answer)) mails
 
 -- the slots of what is sent in a row: Accept of slots that were free, from `free` on, and Learn of those that were not executed, from `first` on
 abbrev pub InRow : ℕ → ℕ → ℕ → ℕ → MailBody → Type 0

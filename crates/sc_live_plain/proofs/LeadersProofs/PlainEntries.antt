@@ -1,14 +1,15 @@
 -- One entry of a plain journal, executed by the replica that leads, and by another.
 use Rattle.std.proofs.Common.{◌≡◌, ℕ, ◌+◌, ◌≤◌, not, Bool, true, false, List, [], ◌∷◌, ◌++◌, map, filter, Option, Some, None, inl, inr, refl, sym, ◌∙◌, ap, arith}
 use Rattle.std.proofs.lemmas.Bool.{cond-true, cond-false}
-use Rattle.sc_base.specs.Definitions.{Among, is_member, least_of}
+use Rattle.sc_base.specs.Definitions.{Among, is_member}
 use Rattle.sc_node_table.specs.Values.{Op, Command, Call, Core, Lock, Free, Effect, Route, AnswerBody, Mail, Learn}
 use Rattle.sc_group_table.specs.machine.Definitions.{applied}
 use Rattle.sc_node_table.specs.declared.Before.{Before}
-use Rattle.sc_node_table.specs.Definitions.{stopped, entered, answer_of, answered_or_put_back, effect_reported, announced, learnt_to, welcomed, slot_lost, landed, left_gone, left, is_among, looked_for, looked, executed_one, welcomed_all, answer_to, sent_others, ReplicaState, Place, name_of, next, members, flying, forgotten, waits_in, rest_of, numbers_from, slots_ahead, before_of, spoken, spoken_mails, begun_reported, went_on}
+use Rattle.sc_node_table.specs.Definitions.{entered, answer_of, answered_or_put_back, effect_reported, announced, learnt_to, welcomed, slot_lost, landed, left, is_among, looked_for, looked, executed_one, welcomed_all, answer_to, sent_others, ReplicaState, Place, name_of, next, members, flying, forgotten, waits_in, rest_of, numbers_from, slots_ahead, before_of, spoken, spoken_mails, begun_reported, went_on}
 use Rattle.sc_law_walks.proofs.Lemmas.{floor_under, entered_next, cleared}
 use Rattle.sc_paxos_law.proofs.Lemmas.{among-member}
 use Rattle.sc_live_plain.specs.Definitions.{Frame, IsFrame, Requests, IsPlainGroup, IsPlainReplica}
+use Rattle.sc_live_steps.proofs.CalmStepsProofs.CountedPotential.{left_stays, looked_stays}
 use Rattle.sc_live_steps.proofs.FollowingProofs.FollowerTables.{left_same as left_stopped}
 
 -- ---- members
@@ -23,7 +24,7 @@ none_new before now e = none_passes (λ node. not (is_member before node)) now (
 
 -- ---- the log
 
-module _ (begun : Requests) (frame : Frame) (is : IsFrame frame) where
+module _ (begun : Requests) (frame : Frame) (fact : IsFrame frame) where
   waits_none : (lock : Lock) (waits : ℕ) → lock ≡ Free → waits_in lock waits ≡ 0
   waits_none lock waits e = ap (λ l. waits_in l waits) e
 
@@ -31,7 +32,7 @@ module _ (begun : Requests) (frame : Frame) (is : IsFrame frame) where
   sets_next : (n : ℕ) (sets : List (List ℕ)) (members : List ℕ) → frame.from ≤ n → sets ≡ map frame.at (numbers_from n slots_ahead) → members ≡ frame.core.members
       → rest_of sets ++ members ∷ [] ≡ map frame.at (numbers_from (n + 1) slots_ahead)
   sets_next n sets members low e m =
-      let last : frame.at (n + 1 + 1 + 1 + 1) ≡ members = is.later (n + 1 + 1 + 1 + 1) (omega (arith, low)) ∙ sym m in
+      let last : frame.at (n + 1 + 1 + 1 + 1) ≡ members = fact.later (n + 1 + 1 + 1 + 1) (omega (arith, low)) ∙ sym m in
       ap (λ s. rest_of s ++ members ∷ []) e ∙ ap (λ set. frame.at (n + 1) ∷ frame.at (n + 1 + 1) ∷ frame.at (n + 1 + 1 + 1) ∷ set ∷ []) (sym last)
 
   pub entered_plain : (me : ℕ) (command : Command) (r : ReplicaState) → IsPlainGroup begun frame (applied r.group command).0 → IsPlainReplica begun frame me r → IsPlainReplica begun frame me (entered command r)
@@ -51,7 +52,7 @@ module _ (begun : Requests) (frame : Frame) (is : IsFrame frame) where
         begins = omega (arith, up, begins);
         sets_are = sets_next (next r) r.sets (applied r.group command).0.core.members p.begins p.sets_are (ap (λ (core : Core). core.members) g.core_is) ∙ ap (λ n. map frame.at (numbers_from n slots_ahead)) (sym up);
         acts = p.acts;
-        waits = waits_none (applied r.group command).0.core.lock r.waits (ap (λ (core : Core). core.lock) g.core_is ∙ is.free);
+        waits = waits_none (applied r.group command).0.core.lock r.waits (ap (λ (core : Core). core.lock) g.core_is ∙ fact.free);
       }
 
 -- ---- the parts of an execution, where nothing but a call happens
@@ -86,18 +87,6 @@ landed_counted slot command r mails = ap (λ (x : ReplicaState). (x, mails)) (lo
 landed_learnt : (slot : ℕ) (command : Command) (r : ReplicaState) (mails : List Mail) → flying r slot ≡ None → landed false slot command (r, mails) ≡ cleared slot (r, mails)
 unfolding landed
 landed_learnt slot command r mails e = ap (λ (o : Option Command). (slot_lost false command o (cleared slot (r, mails)).0, mails)) e
-
-left_gone_none : (gone : Option Route) (r : ReplicaState) (mails : List Mail) → gone ≡ None → is_member (members r) r.me ≡ true → left_gone gone (r, mails) ≡ (r, mails)
-left_gone_none into r mails g m =
-    ap (λ (o : Option Route). left_gone o (r, mails)) g ∙ cond-true (is_member (members r) r.me) (r, mails) (stopped (Some (least_of (members r))) (r, mails)) m
-
-left_stays : (r : ReplicaState) (mails : List Mail) → r.running ≡ true → r.group.core.gone ≡ None → is_member (members r) r.me ≡ true → left (r, mails) ≡ (r, mails)
-unfolding left
-left_stays r mails t g m = cond-true r.running (left_gone r.group.core.gone (r, mails)) (r, mails) t ∙ left_gone_none r.group.core.gone r mails g m
-
-looked_stays : (r : ReplicaState) (mails : List Mail) → r.running ≡ true → looked (r, mails) ≡ (r, mails)
-unfolding looked
-looked_stays r mails t = cond-true r.running (r, mails) (looked_for r.group.core.gone (r, mails)) t
 
 looked_none : (gone : Option Route) (r : ReplicaState) (mails : List Mail) → gone ≡ None → is_among (members r) r.hint ≡ true → looked_for gone (r, mails) ≡ (r, mails)
 looked_none into r mails g m = ap (λ (o : Option Route). looked_for o (r, mails)) g ∙ cond-true (is_among (members r) r.hint) (r, mails) _ m

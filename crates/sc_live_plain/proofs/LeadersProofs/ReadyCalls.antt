@@ -10,19 +10,19 @@ use Rattle.sc_node_table.specs.Definitions.{entered, executed_one, answer_to, se
 use Rattle.sc_law_walks.proofs.Lemmas.{cleared, entered_next}
 use Rattle.sc_paxos_law.proofs.Lemmas.{among-member}
 use Rattle.sc_live_plain.specs.Definitions.{Frame, IsFrame, mail_owes, replica_owes, Requests, IsPlainCommand, IsPlainCall, takers, IsPlainFlight, IsPlainLeader, IsPlainReplica}
-use Rattle.sc_live_plain.proofs.RowsProofs.SlotCounts.{one_if, one_yes, one_no, entries_at, out_none, out_length, out_here, out_other, out_each, out_among, at_found, at_only}
+use Rattle.sc_live_plain.proofs.PlainRowsProofs.SlotCounts.{one_if, one_yes, one_no, entries_at, out_none, out_length, out_here, out_other, out_each, out_among, at_found, at_only}
 use Rattle.sc_live_plain.proofs.LeadersProofs.PlainEntries.{entered_plain, recorded_after, counted_call}
 use Rattle.sc_live_plain.proofs.LeadersProofs.LeadingReplicas.{in_range, range_yes, range_less, flights_at, IsHeld, IsReportedOf, IsSaid, later_row, Leads}
-use Rattle.sc_live_plain.proofs.RowsProofs.RepeatedMail.{learns_to, mail_of, owed_push, learns_push, last_among, others_each, others_kept, others_owed, learns_one, member_counts, numbers_push, roster_rises, among_push}
+use Rattle.sc_live_plain.proofs.PlainRowsProofs.RepeatedMail.{learns_to, mail_of, owed_push, learns_push, last_among, others_each, others_kept, others_owed, learns_one, member_counts, numbers_push, roster_rises, among_push}
 use Rattle.sc_live_plain.proofs.LeadersProofs.ExecutedCalls.{IsServed, call_plain, entered_frame}
 
-module _ (begun : Requests) (frame : Frame) (is : IsFrame frame) (first free : ℕ) (held : List (Flight Command)) (bound : ℕ) (wanted : ℕ → ℕ → Type 0) where
+module _ (begun : Requests) (frame : Frame) (fact : IsFrame frame) (first free : ℕ) (held : List (Flight Command)) (bound : ℕ) (wanted : ℕ → ℕ → Type 0) where
   abbrev L : ℕ → Place → Type 0
   L taken place = Leads begun frame first free held bound wanted taken place
 
   -- the members are a set
   members_roster : IsRoster frame.core.members
-  members_roster = subst IsRoster (is.later (frame.from + slots_ahead) (omega arith)) (is.rosters (frame.from + slots_ahead))
+  members_roster = subst IsRoster (fact.later (frame.from + slots_ahead) (omega arith)) (fact.rosters (frame.from + slots_ahead))
 
   -- ---- the ready call of the next slot
 
@@ -37,7 +37,7 @@ module _ (begun : Requests) (frame : Frame) (is : IsFrame frame) (first free : �
     is_call = Each-among (λ (entry : ℕ × Command). IsPlainCommand begun frame entry.1) r.ready (next r, Call client seq op) k.leader.ready is_ready.1
 
     serves : IsServed begun frame client seq op (applied r.group (Call client seq op))
-    serves = call_plain begun frame is client seq op r.group is_call k.plain.group
+    serves = call_plain begun frame fact client seq op r.group is_call k.plain.group
 
     one_taker : takers r (next r) ≡ 1
     one_taker = (let once = k.leader.slots.once (next r) in let one = one_yes (in_range (next r) (taken + 1) (next r)) (range_yes (next r) (taken + 1) (next r) (omega arith) (omega arith)) in omega (arith, once, one))
@@ -75,11 +75,11 @@ module _ (begun : Requests) (frame : Frame) (is : IsFrame frame) (first free : �
         ∙ ap (λ (core : Core). sent_others frame.lead core.members (Learn frame.core.id (next r) (Call client seq op)) (answer_to frame.lead frame.core.id client seq serves.answer mails)) k.plain.group.core_is
 
     leads_here : is_member (members (entered (Call client seq op) r)) (entered (Call client seq op) r).me ≡ true
-    leads_here = ap (λ (core : Core). is_member core.members (entered (Call client seq op) r).me) (entered_frame begun frame client seq op r serves) ∙ ap (is_member frame.core.members) me_after ∙ is.leads
+    leads_here = ap (λ (core : Core). is_member core.members (entered (Call client seq op) r).me) (entered_frame begun frame client seq op r serves) ∙ ap (is_member frame.core.members) me_after ∙ fact.leads
 
     place_is : executed_one true (Call client seq op) (r, mails) ≡ (after, said_mails)
     place_is =
-        counted_call client seq op serves.answer r mails serves.answer_is (ap (λ (core : Core). core.members) ((entered_frame begun frame client seq op r serves) ∙ sym k.plain.group.core_is)) runs_after (ap (λ (core : Core). core.gone) (entered_frame begun frame client seq op r serves) ∙ is.stands) leads_here
+        counted_call client seq op serves.answer r mails serves.answer_is (ap (λ (core : Core). core.members) ((entered_frame begun frame client seq op r serves) ∙ sym k.plain.group.core_is)) runs_after (ap (λ (core : Core). core.gone) (entered_frame begun frame client seq op r serves) ∙ fact.stands) leads_here
         ∙ ap (λ l. (after, l)) told_is
 
     -- ---- what holds after it
@@ -121,7 +121,7 @@ module _ (begun : Requests) (frame : Frame) (is : IsFrame frame) (first free : �
 
     plain_after : IsPlainReplica begun frame frame.lead after
     unfolding entered forgotten
-    plain_after = (let p = entered_plain begun frame is frame.lead (Call client seq op) r serves.group k.plain in record {
+    plain_after = (let p = entered_plain begun frame fact frame.lead (Call client seq op) r serves.group k.plain in record {
       me_is = p.me_is;
       group = p.group;
       hint_is = p.hint_is;
@@ -170,7 +170,7 @@ module _ (begun : Requests) (frame : Frame) (is : IsFrame frame) (first free : �
         let others = others_owed frame.lead (Learn frame.core.id (next r) (Call client seq op)) frame.core.members (answer_to frame.lead frame.core.id client seq serves.answer mails) refl in
         let push = owed_push mails (mail_of frame.lead (client_actor client) (Answer frame.core.id seq serves.answer)) in
         let one = serves.owes in
-        let counts = member_counts frame.lead frame.core.members is.leads in
+        let counts = member_counts frame.lead frame.core.members fact.leads in
         let nine = members_roster.most in
         omega (arith, before, owes, others, push, one, counts, nine)
 
@@ -231,7 +231,7 @@ module _ (begun : Requests) (frame : Frame) (is : IsFrame frame) (first free : �
                     answer = serves.answer;
                     later = h.later;
                     owes = serves.owes;
-                    told = subst (λ m. Among (mail_of frame.lead (client_actor c) (Answer frame.core.id m serves.answer)) said_mails) number
+                    taught_slots = subst (λ m. Among (mail_of frame.lead (client_actor c) (Answer frame.core.id m serves.answer)) said_mails) number
                         (subst (λ m. Among (mail_of frame.lead (client_actor m) (Answer frame.core.id seq serves.answer)) said_mails) who told_it);
                   }))
               | inr past ↦ inl (record {
@@ -248,7 +248,7 @@ module _ (begun : Requests) (frame : Frame) (is : IsFrame frame) (first free : �
     calls_kept c s w =
         elim (k.backlog c s w) [
           | inl h ↦ held_after c s h
-          | inr told ↦ inr (record { number = told.number; answer = told.answer; later = told.later; owes = told.owes; told = kept_mail _ told.told })
+          | inr taught_slots ↦ inr (record { number = taught_slots.number; answer = taught_slots.answer; later = taught_slots.later; owes = taught_slots.owes; taught_slots = kept_mail _ taught_slots.taught_slots })
         ]
 
     after_leads : L taken (after, said_mails)

@@ -1,12 +1,15 @@
 -- A client never has fewer requests begun.
-use Rattle.std.proofs.Common.{◌≡◌, ℕ, ◌+◌, ◌≤◌, true, cond, [], ◌∷◌, ◌++◌, length, Option, Some, None, refl, arith}
-use Rattle.std.specs.Prelude.{nat_le}
+use Rattle.std.proofs.Common.{◌≡◌, ℕ, ◌+◌, ◌-◌, ◌≤◌, true, cond, List, [], ◌∷◌, ◌++◌, length, Option, Some, None, refl, sym, ◌∙◌, ap, arith}
+use Rattle.std.specs.Prelude.{nat_le, slice_get}
 use Rattle.std.proofs.lemmas.Bool.{cond_both}
 use Rattle.std.proofs.lemmas.List.{length_push}
-use Rattle.sc_node_table.specs.Values.{Draw, Op, AnswerBody, Value, NotLeader, NotMine, Gone, Stale, MailBody, Request, Answer}
+use Rattle.sc_base.specs.Definitions.{Among}
+use Rattle.sc_node_table.specs.Values.{Draw, Op, OrderLine, Mail, Row, AnswerBody, Value, NotLeader, NotMine, Gone, Stale, MailBody, Request, Answer}
 use Rattle.sc_client_table.specs.lookup.Definitions.{target_in, preferring, passed_on, learnt_from_not_mine, learnt_from_gone}
 use Rattle.sc_client_table.specs.table.Definitions.{Client, waiting_request, asked_of, sent_where, chosen_for, request_sent, started, waits_for, was_asked, redirected, answer_taken, got}
-use Rattle.sc_live_plain.specs.Definitions.{waiting_ones, begun_ones}
+use Rattle.sc_scenario.specs.declared.scenario.scenarios.Asks.{Asks}
+use Rattle.sc_scenario.specs.declared.scenario.scenarios.Scenario.{Scenario}
+use Rattle.sc_live_plain.specs.Definitions.{waiting_ones, begun_ones, IsBegun}
 
 pub asked_same : (client : Client) (group : Draw) (target : Option ℕ) (request : Option (ℕ × Op)) → begun_ones (asked_of client group target request).0 ≡ begun_ones client
 asked_same client group (Some target) (Some request) = refl
@@ -61,3 +64,10 @@ got_grows from (Answer group seq answer) client =
     cond_both (waits_for client.waiting seq) (answer_taken from group seq answer client) (client, []) (λ p. begun_ones client ≤ begun_ones p.0) (λ t. answer_grows from group seq answer client t) (λ _. omega arith)
 got_grows from (Request group to seq op) client = omega arith
 got_grows from _ client = omega arith
+
+-- what is begun of a client is its request
+pub begun_right : (scenario : Scenario) (rows : List (Row Mail OrderLine)) → ((one other : Asks) → Among one scenario.clients → Among other scenario.clients → one.client ≡ other.client → one ≡ other)
+    → (asks : Asks) → Among asks scenario.clients → (client : Client) → client.me ≡ asks.client → client.requests ≡ asks.ops → (seq : ℕ) (op : Op) → IsBegun scenario rows client.me seq op → slice_get client.requests (seq - 1) ≡ Some op
+begun_right scenario rows once asks a client me_is requests_are seq op b =
+    let same : b.asks ≡ asks = once b.asks asks b.is_asks a (b.client_is ∙ me_is) in
+    ap (λ (ops : List Op). slice_get ops (seq - 1)) (requests_are ∙ sym (ap (λ (x : Asks). x.ops) same)) ∙ b.op_is

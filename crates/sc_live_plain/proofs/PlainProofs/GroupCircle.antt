@@ -11,7 +11,7 @@ use Rattle.sc_scenario.specs.declared.scenario.scenarios.Scenario.{Scenario}
 use Rattle.sc_live_plain.specs.Definitions.{Frame, frame_of}
 use Rattle.sc_live_plain.proofs.PlainProofs.PlainBeginnings.{frames_of, stage, frame_is}
 use Rattle.sc_live_plain.proofs.PlainProofs.PlainKnownGroups.{IsBefore, IsRound}
-use Rattle.sc_live_plain.proofs.RowsProofs.Lists.{some_is}
+use Rattle.sc_live_plain.proofs.PlainRowsProofs.Lists.{some_is}
 
 -- ---- places of a list
 
@@ -166,8 +166,8 @@ module _ (scenario : Scenario) (bounded : IsBounded scenario) where
     distinct = λ a b f e. each_place (λ (other : Frame). other.core.id ≡ f.core.id → ⊥) a (λ k x low at same. (
         let p = placed a b f e in
         let here = p.0 in
-        let is = at_place k x (ap (λ l. slice_get l k) e ∙ get_left a (f ∷ b) k low ∙ at) (omega (arith, low, here)) in
-        let names : k + 1 ≡ length a + 1 = ap (λ (y : Frame). y.core.id.count) is ∙ ap (λ (d : Draw). d.count) same ∙ sym (ap (λ (y : Frame). y.core.id.count) p.1) in
+        let fact = at_place k x (ap (λ l. slice_get l k) e ∙ get_left a (f ∷ b) k low ∙ at) (omega (arith, low, here)) in
+        let names : k + 1 ≡ length a + 1 = ap (λ (y : Frame). y.core.id.count) fact ∙ ap (λ (d : Draw). d.count) same ∙ sym (ap (λ (y : Frame). y.core.id.count) p.1) in
         omega (arith, names, low)));
     apart = (stage scenario bounded).apart;
     leads = λ f a. (let k = frame_is scenario bounded f a in subst (λ (x : Frame). x.lead ≡ least_of x.core.members) k.2 refl);

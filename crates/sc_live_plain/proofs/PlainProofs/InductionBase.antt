@@ -25,11 +25,11 @@ use Rattle.sc_paxos_law.proofs.Lemmas.{from_map}
 use Rattle.sc_live_plain.specs.Definitions.{requests_of, budget_of, Frame, frame_of, replica_owes, player_owes, way_of, IsBegun, IsPlainClient, Requests, AreTaken, IsPlainReplica, IsSettled, IsPlainAt, IsPlainNode, replica_at, next_in, votes_in, IsGroupAt}
 use Rattle.sc_live_plain.proofs.PlainProofs.PlainBeginnings.{frames_of, stage}
 use Rattle.sc_law_groups.proofs.WholeProofs.Lemmas.{group_place}
-use Rattle.sc_live_plain.proofs.RowsProofs.Sums.{shares, sum_mapped, none_together}
+use Rattle.sc_live_plain.proofs.PlainRowsProofs.Sums.{shares, sum_mapped, none_together}
 use Rattle.sc_live_plain.proofs.PlainProofs.PlainInduction.{owing_of, IsPlainJournal}
 use Rattle.sc_live_plain.proofs.LeadersProofs.LeadingReplicas.{in_range, range_before, range_behind}
-use Rattle.sc_live_plain.proofs.RowsProofs.SlotCounts.{one_if, one_no}
-use Rattle.sc_live_plain.proofs.RowsProofs.Lists.{map_among}
+use Rattle.sc_live_plain.proofs.PlainRowsProofs.SlotCounts.{one_if, one_no}
+use Rattle.sc_live_plain.proofs.PlainRowsProofs.Lists.{map_among}
 
 -- ---- a replica at birth
 
@@ -257,9 +257,9 @@ module _ (scenario : Scenario) (bounded : IsBounded scenario) where
   first_found frame a slot me m =
       let b = from_map frame_of scenario.groups frame a in
       let found = born_found me scenario.groups b.0 b.1 (ap (λ (f : Frame). is_member (f.at slot) me) b.2 ∙ m) in
-      let is = (stage scenario bounded).are frame a in (
+      let fact = (stage scenario bounded).are frame a in (
         found.0,
-        cond-true (is_node me) (replica_of frame.core.id (born_replicas slots_ahead me scenario.groups)) None (is.nodes slot me m)
+        cond-true (is_node me) (replica_of frame.core.id (born_replicas slots_ahead me scenario.groups)) None (fact.nodes slot me m)
             ∙ ap (λ (f : Frame). replica_of f.core.id (born_replicas slots_ahead me scenario.groups)) (sym b.2) ∙ found.1,
       )
 
@@ -276,10 +276,10 @@ module _ (scenario : Scenario) (bounded : IsBounded scenario) where
 
   pub group_at_birth : (words : ℕ → ℕ → ℕ × ℕ) (frame : Frame) → Among frame (frames_of scenario) → IsGroupAt words scenario [] frame
   group_at_birth words frame a =
-      let is = (stage scenario bounded).are frame a in
+      let fact = (stage scenario bounded).are frame a in
       let slot = frame.from + slots_ahead in
-      let members : frame.at slot ≡ frame.core.members = is.later slot (omega arith) in
-      let lead = first_found frame a slot frame.lead (ap (λ ms. is_member ms frame.lead) members ∙ is.leads) in
+      let members : frame.at slot ≡ frame.core.members = fact.later slot (omega arith) in
+      let lead = first_found frame a slot frame.lead (ap (λ ms. is_member ms frame.lead) members ∙ fact.leads) in
       let lead_next : next_in (replica_at scenario [] frame.core.id frame.lead) ≡ 1 = ap next_in lead.1 in
       record {
         taken = 0;
@@ -303,8 +303,8 @@ module _ (scenario : Scenario) (bounded : IsBounded scenario) where
 
   pub journal_at_birth : (words : ℕ → ℕ → ℕ × ℕ) → IsPlainJournal words scenario (stage scenario bounded) []
   journal_at_birth words = record {
-    nodes = λ me one most. record { node = born_node slots_ahead me scenario.groups scenario.policy; is = refl; me_is = refl; plain = node_at_birth (IsBegun scenario []) me };
-    clients = λ asks a. record { client = born_client asks.client asks.ops (route_of (stage scenario bounded).first); is = refl; plain = client_at_birth asks };
+    nodes = λ me one most. record { node = born_node slots_ahead me scenario.groups scenario.policy; fact = refl; me_is = refl; plain = node_at_birth (IsBegun scenario []) me };
+    clients = λ asks a. record { client = born_client asks.client asks.ops (route_of (stage scenario bounded).first); fact = refl; plain = client_at_birth asks };
     sent = tt;
     groups = group_at_birth words;
     owes = omega arith;

@@ -14,6 +14,7 @@ use Rattle.sc_law_groups.proofs.WholeProofs.Lemmas.{all_apart, bases_from, first
 use Rattle.sc_paxos_law.proofs.Lemmas.{from_map, member-among}
 use Rattle.sc_live_plain.specs.Definitions.{Frame, frame_of, IsFrame, AreNamedApart}
 use Rattle.sc_live_steps.proofs.FollowingProofs.Lemmas.{least_in}
+use Rattle.sc_law_groups.proofs.GroupProofs.Lemmas.{EachClient, HaveOneSection}
 
 -- the frames of the groups of a scenario
 abbrev pub frames_of : Scenario → List Frame
@@ -29,8 +30,8 @@ pub record IsStage (scenario : Scenario) : Type 0 where
   pub fit : (frame : Frame) → Among frame (frames_of scenario) → (slot node : ℕ) → is_member (frame.at slot) node ≡ true → (1 ≤ node) × (node ≤ scenario.nodes)
   pub seats : births as_nodes scenario ≡ map (node_seat as_nodes scenario.groups scenario.policy) (numbers_from 1 scenario.nodes) ++ map (client_seat (route_of first)) scenario.clients
   pub nodes : scenario.nodes ≤ most_nodes
-  pub numbered : (asks : Asks) → Among asks scenario.clients → 1 ≤ asks.client
-  pub once : (one other : Asks) → Among one scenario.clients → Among other scenario.clients → one.client ≡ other.client → one ≡ other
+  pub numbered : EachClient scenario (λ asks. 1 ≤ asks.client)
+  pub once : HaveOneSection scenario
   pub seats_apart : are_apart (births as_nodes scenario) ≡ true
 
 module _ (scenario : Scenario) (bounded : IsBounded scenario) where
@@ -40,11 +41,11 @@ module _ (scenario : Scenario) (bounded : IsBounded scenario) where
   within : (k : ℕ) → k < length bounded.starts → (node : ℕ) → is_member (group_at bounded.starts k).members node ≡ true → (1 ≤ node) × (node ≤ scenario.nodes)
   within k low node m =
       let members = (group_at bounded.starts k).members in
-      Each-among (IsUpTo scenario.nodes) members node (Each-from_All (IsUpTo scenario.nodes) members (line_bounded k low).members_in) (member-among members node m)
+      Each-among (IsUpTo scenario.nodes) members node (Each-from_All (IsUpTo scenario.nodes) members (bounded.each k (record { lo = 0; members = [] }) low).members_in) (member-among members node m)
 
   frame_at : (k : ℕ) → k < length bounded.starts → IsFrame (frame_of (base_at bounded.starts k))
   frame_at k low =
-      let roster = (line_bounded k low).roster in
+      let roster = (bounded.each k (record { lo = 0; members = [] }) low).roster in
       record {
         free = refl;
         stands = refl;

@@ -19,24 +19,24 @@ use Rattle.sc_live_orderly.proofs.Lemmas.{IsPaid, pays, TakesFirst, takes_first,
 use Rattle.sc_live_plain.specs.Definitions.{Frame, IsFrame, Mark, Other, mark, mark_of, marks_for, marks_at, IsOther, IsTaken, player_owes, mail_owes, begun_ones, waiting_ones, begun_of, IsBegun, IsPlainClient, Requests, IsPlainBody, IsPlainMail}
 use Rattle.sc_live_plain.proofs.PlainProofs.PlainInduction.{owing_of, IsClientAt, IsPlainJournal}
 use Rattle.sc_live_plain.proofs.PlainProofs.MorePlainRequests.{IsMore}
-use Rattle.sc_live_plain.proofs.RowsProofs.LeaderMailOfGroups.{group_idle}
-use Rattle.sc_live_plain.proofs.PlainProofs.BegunRequestCounts.{got_grows}
-use Rattle.sc_live_plain.proofs.RowsProofs.LeaderMarks.{each_mark}
+use Rattle.sc_live_plain.proofs.PlainRowsProofs.LeaderMailOfGroups.{group_idle}
+use Rattle.sc_live_plain.proofs.PlainProofs.BegunRequestCounts.{begun_right, got_grows}
+use Rattle.sc_live_plain.proofs.PlainRowsProofs.LeaderMarks.{each_mark}
 use Rattle.sc_live_plain.proofs.PlainProofs.PlainBeginnings.{frames_of, IsStage}
 use Rattle.sc_live_plain.proofs.PlainProofs.PlainSteps.{client_number, each_numbered, value_others, started_still, node_stays, client_stays, sent_more, begun_more, same_client, node_away}
-use Rattle.sc_live_plain.proofs.RowsProofs.RowViews.{Journal, replica_others, replica_none}
+use Rattle.sc_live_plain.proofs.PlainRowsProofs.RowViews.{Journal, replica_others, replica_none}
 use Rattle.sc_live_plain.proofs.PlainProofs.PlainClients.{asking, DidAsk, DidEnd, ClientRow, TakesMail, Goes, client_row, go_row, unasked}
 use Rattle.sc_live_plain.proofs.PlainProofs.PlainKnownGroups.{IsRound}
 
 -- a mail for one who is no node is nothing to a group
-pub client_mark : (begun : Requests) (frame : Frame) (name : Draw) (is : IsFrame frame) (from to : ℕ) (body : MailBody) → is_node to ≡ false → IsPlainBody begun frame from to body → mark_of name from body ≡ Other
-client_mark begun frame name is from to (Accept group ballot slot command) no_node b = absurd (both_ways (is_node to) no_node (is.nodes slot to b.2.to_in))
-client_mark begun frame name is from to (Accepted group ballot slot) no_node b =
-    absurd (both_ways (is_node to) no_node (is.nodes (frame.from + slots_ahead) to (ap (λ ms. is_member ms to) (is.later (frame.from + slots_ahead) (omega arith)) ∙ (ap (is_member frame.core.members) b.2 ∙ is.leads))))
-client_mark begun frame name is from to (Learn group slot command) no_node b =
-    absurd (both_ways (is_node to) no_node (is.nodes (frame.from + slots_ahead) to (ap (λ ms. is_member ms to) (is.later (frame.from + slots_ahead) (omega arith)) ∙ b.1.to_in)))
-client_mark begun frame name is from to (Request group client seq op) no_node b = refl
-client_mark begun frame name is from to _ no_node b = refl
+pub client_mark : (begun : Requests) (frame : Frame) (name : Draw) (fact : IsFrame frame) (from to : ℕ) (body : MailBody) → is_node to ≡ false → IsPlainBody begun frame from to body → mark_of name from body ≡ Other
+client_mark begun frame name fact from to (Accept group ballot slot command) no_node b = absurd (both_ways (is_node to) no_node (fact.nodes slot to b.2.to_in))
+client_mark begun frame name fact from to (Accepted group ballot slot) no_node b =
+    absurd (both_ways (is_node to) no_node (fact.nodes (frame.from + slots_ahead) to (ap (λ ms. is_member ms to) (fact.later (frame.from + slots_ahead) (omega arith)) ∙ (ap (is_member frame.core.members) b.2 ∙ fact.leads))))
+client_mark begun frame name fact from to (Learn group slot command) no_node b =
+    absurd (both_ways (is_node to) no_node (fact.nodes (frame.from + slots_ahead) to (ap (λ ms. is_member ms to) (fact.later (frame.from + slots_ahead) (omega arith)) ∙ b.1.to_in)))
+client_mark begun frame name fact from to (Request group client seq op) no_node b = refl
+client_mark begun frame name fact from to _ no_node b = refl
 
 -- what a client sends is nothing to a group
 asked_others : (name : Draw) (who : ℕ) (after : ClientStep) → DidAsk after → Each IsOther (marks_for name who after.1)
@@ -45,6 +45,13 @@ asked_others name who after d =
 
 ended_others : (name : Draw) (who : ℕ) (after : ClientStep) → DidEnd after → Each IsOther (marks_for name who after.1)
 ended_others name who after d = subst (λ l. Each IsOther (marks_for name who l)) (sym d.sends) tt
+
+-- a mail that a client takes is of no mark of a group
+pub taken_other : (words : ℕ → ℕ → ℕ × ℕ) (scenario : Scenario) (rows : Journal) (who number : ℕ) (first : TakesFirst (system_of as_nodes words scenario) rows who number) (name : Draw) → mark name first.mail ≡ Other
+    → IsTaken Other (marks_at words scenario rows name who) (drop 1 (marks_at words scenario rows name who))
+taken_other words scenario rows who number first name other =
+    let all : marks_at words scenario rows name who ≡ mark name first.mail ∷ map (mark name) first.behind = ap (map (mark name)) first.first in
+    inl (all ∙ (ap (λ m. m ∷ map (mark name) first.behind) other ∙ ap (λ l. Other ∷ l) (sym (ap (drop 1) all))))
 
 module _ (words : ℕ → ℕ → ℕ × ℕ) (scenario : Scenario) (stage : IsStage scenario) (round : IsRound (frames_of scenario))
     (rows : Journal) (t : IsTidy rows) (j : IsPlainJournal words scenario stage rows) (asks : Asks) (a : Among asks scenario.clients)
@@ -82,9 +89,9 @@ module _ (words : ℕ → ℕ → ℕ × ℕ) (scenario : Scenario) (stage : IsS
 
     pub more : IsMore (IsBegun scenario rows) (IsBegun scenario (rows ++ row_of player_table (client_seat (route_of stage.first) asks) rows event ∷ []))
     more = begun_more words scenario stage rows (row_of player_table (cseat asks) rows event) (λ other b. elim (cases_eq (client_actor other.client) (client_actor asks.client)) [
-      | inl is ↦ (let same : other ≡ asks = same_client scenario stage asks other a b is in
+      | inl fact ↦ (let same : other ≡ asks = same_client scenario stage asks other a b fact in
           subst (λ (x : Asks). begun_of (value player_table (cseat x) rows) ≤ begun_of (value player_table (cseat x) (rows ++ row_of player_table (cseat asks) rows event ∷ []))) (sym same)
-          (let before = ap begun_of c.is in let now_ = ap begun_of became in omega (arith, before, now_, grows)))
+          (let before = ap begun_of c.fact in let now_ = ap begun_of became in omega (arith, before, now_, grows)))
       | inr ne ↦ (let same = ap begun_of (value_others words scenario stage rows (row_of player_table (cseat asks) rows event) (cseat other) ne) in omega (arith, same))
     ])
 
@@ -99,7 +106,7 @@ module _ (words : ℕ → ℕ → ℕ × ℕ) (scenario : Scenario) (stage : IsS
       client_is = sym c.plain.me_is;
       from_one = one;
       op_is = ap (λ (ops : List Op). slice_get ops (n - 1)) (sym c.plain.requests_are) ∙ at;
-      low = (let is = ap begun_of became in omega (arith, is, low));
+      low = (let fact = ap begun_of became in omega (arith, fact, low));
     }
 
     -- the journal after it
@@ -116,15 +123,15 @@ module _ (words : ℕ → ℕ → ℕ × ℕ) (scenario : Scenario) (stage : IsS
         record {
           nodes = λ node low high. node_stays words scenario stage rows j r more node (node_away words scenario stage asks no_node node low high) (j.nodes node low high);
           clients = λ other b. elim (cases_eq (client_actor other.client) (client_actor asks.client)) [
-            | inl is ↦ subst (IsClientAt words scenario stage (rows ++ r ∷ [])) (sym (same_client scenario stage asks other a b is))
-                (record { client = after.0; is = became; plain = subst (λ g. IsPlainClient (frames_of scenario) asks g after.0) (sym is_gone) out.plain })
+            | inl fact ↦ subst (IsClientAt words scenario stage (rows ++ r ∷ [])) (sym (same_client scenario stage asks other a b fact))
+                (record { client = after.0; fact = became; plain = subst (λ g. IsPlainClient (frames_of scenario) asks g after.0) (sym is_gone) out.plain })
             | inr ne ↦ client_stays words scenario stage rows j r other ne (j.clients other b)
           ];
           sent = sent_more words scenario stage rows j r more (subst (Each (IsPlainMail (IsBegun scenario (rows ++ r ∷ [])) (frames_of scenario))) (sym sent_is) out.said);
           groups = λ frame b.
               group_idle words scenario rows r rest_after frame (j.groups frame b)
               (λ node. elim (cases_eq node (client_actor asks.client)) [
-                | inl is ↦ (let none : is_node node ≡ false = ap is_node is ∙ no_node in replica_none words scenario (rows ++ r ∷ []) frame.core.id node none ∙ sym (replica_none words scenario rows frame.core.id node none))
+                | inl fact ↦ (let none : is_node node ≡ false = ap is_node fact ∙ no_node in replica_none words scenario (rows ++ r ∷ []) frame.core.id node none ∙ sym (replica_none words scenario rows frame.core.id node none))
                 | inr ne ↦ replica_others words scenario rows r frame.core.id node ne
               ])
               (takes frame.core.id) (λ who. subst (λ l. Each IsOther (marks_for frame.core.id who l)) (sym sent_is) (sends frame.core.id who));
@@ -143,30 +150,20 @@ module _ (words : ℕ → ℕ → ℕ × ℕ) (scenario : Scenario) (stage : IsS
     pub got_is : acted player_table (value player_table (client_seat (route_of stage.first) asks) rows) (input_of {O = OrderLine} (mails rows) (Deliver number)) ≡ (Client (table c.client (Got first.mail)).0, (table c.client (Got first.mail)).1)
     got_is =
         ap (λ o. acted player_table (value player_table (cseat asks) rows) (option_map Got o)) first.sent
-        ∙ ap (λ p. acted player_table p (Some (Got first.mail))) c.is
+        ∙ ap (λ p. acted player_table p (Some (Got first.mail))) c.fact
 
     pub got_more : begun_ones c.client ≤ begun_ones (table c.client (Got first.mail)).0
     got_more = got_grows first.mail.from first.mail.body c.client
 
-    -- what is begun of a client is its request
-    pub asked_right : (seq : ℕ) (op : Op) → IsBegun scenario rows c.client.me seq op → slice_get c.client.requests (seq - 1) ≡ Some op
-    asked_right seq op b =
-        let same : b.asks ≡ asks = stage.once b.asks asks b.is_asks a (b.client_is ∙ c.plain.me_is) in
-        ap (λ (ops : List Op). slice_get ops (seq - 1)) (c.plain.requests_are ∙ sym (ap (λ (x : Asks). x.ops) same)) ∙ b.op_is
-
     pub takes : TakesMail (frames_of scenario) round asks (IsBegun scenario rows) (IsBegun scenario (rows ++ row_of player_table (client_seat (route_of stage.first) asks) rows (Deliver number) ∷ [])) (has_started rows (client_actor asks.client)) c.client first.mail c.plain is_plain
-        (first.receiver ∙ ap client_actor (sym c.plain.me_is)) asked_right (more (Deliver number) fine (table c.client (Got first.mail)) got_is got_more) (now (Deliver number) fine (table c.client (Got first.mail)) got_is got_more) (table c.client (Got first.mail))
+        (first.receiver ∙ ap client_actor (sym c.plain.me_is)) (begun_right scenario rows stage.once asks a c.client c.plain.me_is c.plain.requests_are) (more (Deliver number) fine (table c.client (Got first.mail)) got_is got_more) (now (Deliver number) fine (table c.client (Got first.mail)) got_is got_more) (table c.client (Got first.mail))
     takes = client_row (frames_of scenario) round asks (IsBegun scenario rows) (IsBegun scenario (rows ++ row_of player_table (client_seat (route_of stage.first) asks) rows (Deliver number) ∷ [])) (has_started rows (client_actor asks.client)) c.client first.mail c.plain is_plain
-        (first.receiver ∙ ap client_actor (sym c.plain.me_is)) asked_right (more (Deliver number) fine (table c.client (Got first.mail)) got_is got_more) (now (Deliver number) fine (table c.client (Got first.mail)) got_is got_more)
+        (first.receiver ∙ ap client_actor (sym c.plain.me_is)) (begun_right scenario rows stage.once asks a c.client c.plain.me_is c.plain.requests_are) (more (Deliver number) fine (table c.client (Got first.mail)) got_is got_more) (now (Deliver number) fine (table c.client (Got first.mail)) got_is got_more)
 
     marks_taken : (name : Draw) → IsTaken Other (marks_at words scenario rows name (client_actor asks.client)) (drop 1 (marks_at words scenario rows name (client_actor asks.client)))
     marks_taken name =
-        let all : marks_at words scenario rows name (client_actor asks.client) ≡ mark name first.mail ∷ map (mark name) first.behind = ap (map (mark name)) first.first in
-        let none : mark name first.mail ≡ Other = mark_none name in
-        inl (all ∙ (ap (λ m. m ∷ map (mark name) first.behind) none ∙ ap (λ l. Other ∷ l) (sym (ap (drop 1) all))))
-      where
-        mark_none : (name : Draw) → mark name first.mail ≡ Other
-        mark_none name = client_mark (IsBegun scenario rows) is_plain.frame name (stage.are is_plain.frame is_plain.is_frame) first.mail.from first.mail.to first.mail.body (ap is_node first.receiver ∙ no_node) is_plain.says
+        taken_other words scenario rows (client_actor asks.client) number first name
+        (client_mark (IsBegun scenario rows) is_plain.frame name (stage.are is_plain.frame is_plain.is_frame) first.mail.from first.mail.to first.mail.body (ap is_node first.receiver ∙ no_node) is_plain.says)
 
     others_sent : (name : Draw) (who : ℕ) → Each IsOther (marks_for name who (table c.client (Got first.mail)).1)
     others_sent name who = elim (takes.response) [
@@ -182,20 +179,20 @@ module _ (words : ℕ → ℕ → ℕ × ℕ) (scenario : Scenario) (stage : IsS
         (λ mail sent. (
         let same : first.mail ≡ mail = (let e : Some first.mail ≡ Some mail = sym first.sent ∙ sent in cc) in
         subst (λ m. 1 + owed_by (owing_of scenario) (player_table (value player_table (cseat asks) rows) (Got m)) ≤ player_owes (length (frames_of scenario)) (value player_table (cseat asks) rows) + mail_owes m) same
-        (subst (λ p. 1 + owed_by (owing_of scenario) (player_table p (Got first.mail)) ≤ player_owes (length (frames_of scenario)) p + mail_owes first.mail) (sym c.is) takes.owed)))
+        (subst (λ p. 1 + owed_by (owing_of scenario) (player_table p (Got first.mail)) ≤ player_owes (length (frames_of scenario)) p + mail_owes first.mail) (sym c.fact) takes.owed)))
 
   -- ---- a client starts
 
   module _ (fine : has_started rows (client_actor asks.client) ≡ false) where
     pub go_is : acted player_table (value player_table (client_seat (route_of stage.first) asks) rows) (input_of {O = OrderLine} (mails rows) Go) ≡ (Client (table c.client GoInput).0, (table c.client GoInput).1)
-    go_is = ap (λ p. acted player_table p (Some GoInput)) c.is
+    go_is = ap (λ p. acted player_table p (Some GoInput)) c.fact
 
     pub fresh : IsPlainClient (frames_of scenario) asks false c.client
     fresh = subst (λ g. IsPlainClient (frames_of scenario) asks g c.client) fine c.plain
 
     pub go_more : begun_ones c.client ≤ begun_ones (table c.client GoInput).0
     go_more =
-        let none = unasked (frames_of scenario) round asks c.client fresh.state in
+        let none = unasked c.client fresh.state in
         let waits = ap waiting_ones none.0 in
         let replies = ap length none.1 in
         omega (arith, waits, replies)
@@ -212,7 +209,7 @@ module _ (words : ℕ → ℕ → ℕ × ℕ) (scenario : Scenario) (stage : IsS
     client_go =
         client_after Go fine (table c.client GoInput) go_is go_more true gone_now goes.row (λ name. inr (refl, sym (at_zero (marks_at words scenario rows name (client_actor asks.client)))))
         (λ name who. elim (goes.response) [ inl asked ↦ asked_others name who (table c.client GoInput) asked | inr ended ↦ ended_others name who (table c.client GoInput) ended ])
-        (subst (λ p. owed_by (owing_of scenario) (player_table p GoInput) ≤ player_owes (length (frames_of scenario)) p) (sym c.is) goes.owed)
+        (subst (λ p. owed_by (owing_of scenario) (player_table p GoInput) ≤ player_owes (length (frames_of scenario)) p) (sym c.fact) goes.owed)
       where
         at_zero : (xs : List Mark) → drop 0 xs ≡ xs
         at_zero [] = refl

@@ -14,9 +14,9 @@ use Rattle.sc_client_table.specs.lookup.Definitions.{KnownGroups, chosen, target
 use Rattle.sc_client_table.specs.table.Definitions.{Client, request_at, waiting_request, ClientStep, asked_of, sent_where, chosen_for, request_sent, started, waits_for, was_asked, answer_taken, got, table}
 use Rattle.sc_scenario.specs.declared.scenario.scenarios.Asks.{Asks}
 use Rattle.sc_live_plain.specs.Definitions.{Frame, body_owes, mail_owes, waiting_ones, begun_ones, client_owes, way_of, IsWaiting, IsResting, IsPlainClient, Requests, IsPlainBody, IsPlainMail}
-use Rattle.sc_live_plain.proofs.PlainProofs.PlainKnownGroups.{IsRound, chosen_frame, target_leads, one_chosen, known_grows, prefix_frames}
-use Rattle.sc_live_plain.proofs.RowsProofs.RepeatedMail.{mail_of}
-use Rattle.sc_live_plain.proofs.RowsProofs.Lists.{some_is}
+use Rattle.sc_live_plain.proofs.PlainProofs.PlainKnownGroups.{IsRound, chosen_frame, target_leads, one_chosen, known_grows, among_first}
+use Rattle.sc_live_plain.proofs.PlainRowsProofs.RepeatedMail.{mail_of}
+use Rattle.sc_live_plain.proofs.PlainRowsProofs.Lists.{some_is}
 
 -- the mail of a client's request
 abbrev pub asking : ℕ → ℕ → Draw → ℕ → Op → Mail
@@ -42,6 +42,11 @@ pub record DidIgnore (before : Client) (mail : Mail) (after : ClientStep) : Type
   pub after_is : after ≡ (before, [])
   pub no_reply : (seq : ℕ) → before.waiting ≡ Some seq → (group : Draw) (reply : Reply) → mail.body ≡ Answer group seq (Value reply) → ⊥
   pub not_sent : (seq target : ℕ) (group : Draw) → before.waiting ≡ Some seq → before.asked ≡ Some (group, target) → (arc : Arc) (succ : Link) → mail.from ≡ target → mail.body ≡ Answer group seq (NotMine arc succ) → ⊥
+
+-- a client that has not started has asked nothing
+pub unasked : (client : Client) → IsResting false client ⊎ ((false ≡ true) × IsWaiting client) → (client.waiting ≡ None) × (client.replies ≡ [])
+unasked client (inl rests) = elim (rests.replies) [ inl fact ↦ (rests.waits, fact.1) | inr fact ↦ (let bad : false ≡ true = fact.0 in cc) ]
+unasked client (inr fact) = (let bad : false ≡ true = fact.0 in cc)
 
 module _ (frames : List Frame) (round : IsRound frames) (asks : Asks) where
   abbrev groups : ℕ
@@ -80,7 +85,7 @@ module _ (frames : List Frame) (round : IsRound frames) (asks : Asks) where
       let request_ : waiting_request client ≡ Some (seq, op) = ap (request_at client.requests) k.waits ∙ ap (λ (o : Option Op). option_map (λ x. (seq, x)) o) k.op_is in
       record {
         frame = c.frame;
-        is_frame = prefix_frames frames round reached k.low c.frame c.is_frame;
+        is_frame = among_first reached frames c.frame c.is_frame;
         after_is =
             ap (λ (o : Option (ℕ × Op)). sent_where client (chosen_for client o)) request_
             ∙ ap (sent_where client) chosen_
@@ -366,11 +371,6 @@ module _ (frames : List Frame) (round : IsRound frames) (asks : Asks) where
     pub row : ClientRow begun true after
     pub owed : client_owes groups after.0 + sum_by mail_owes after.1 ≤ client_owes groups client
     pub response : DidAsk after ⊎ DidEnd after
-
-  -- a client that has not started has asked nothing
-  pub unasked : (client : Client) → IsResting false client ⊎ ((false ≡ true) × IsWaiting client) → (client.waiting ≡ None) × (client.replies ≡ [])
-  unasked client (inl rests) = elim (rests.replies) [ inl is ↦ (rests.waits, is.1) | inr is ↦ (let bad : false ≡ true = is.0 in cc) ]
-  unasked client (inr is) = (let bad : false ≡ true = is.0 in cc)
 
   pub go_row : (begun' : Requests) (client : Client) → IsPlainClient frames asks false client
       → ((n : ℕ) (op : Op) → 1 ≤ n → slice_get client.requests (n - 1) ≡ Some op → n ≤ begun_ones (table client Go).0 → begun' client.me n op) → Goes begun' client (table client Go)

@@ -11,7 +11,8 @@ use Rattle.sc_meaning.specs.sound.Definitions.{Player, player_table, node_seat, 
 use Rattle.sc_live_orderly.specs.Definitions.{deliveries, Owing, owed, owed_at_birth}
 use Rattle.sc_live_plain.specs.Definitions.{IsGroupAt, Frame, player_owes, mail_owes, IsBegun, IsPlainClient, IsPlainMail, IsPlainNode}
 use Rattle.sc_live_plain.proofs.PlainProofs.PlainBeginnings.{frames_of, IsStage}
-use Rattle.sc_live_plain.proofs.RowsProofs.RowViews.{Journal}
+use Rattle.sc_live_plain.proofs.PlainRowsProofs.RowViews.{Journal}
+use Rattle.sc_law_groups.proofs.GroupProofs.Lemmas.{EachClient}
 
 -- what players and mail owe, by the number of groups
 abbrev pub owing_of : Scenario → Owing Player Mail
@@ -21,20 +22,20 @@ module _ (words : ℕ → ℕ → ℕ × ℕ) (scenario : Scenario) (stage : IsS
   -- a node after some rows
   pub record IsNodeAt (rows : Journal) (me : ℕ) : Type 0 where
     pub node : NodeState
-    pub is : value player_table (node_seat as_nodes scenario.groups scenario.policy me) rows ≡ Node node
+    pub fact : value player_table (node_seat as_nodes scenario.groups scenario.policy me) rows ≡ Node node
     pub me_is : node.me ≡ me
     pub plain : IsPlainNode (IsBegun scenario rows) (frames_of scenario) node
 
   -- a client after some rows
   pub record IsClientAt (rows : Journal) (asks : Asks) : Type 0 where
     pub client : ClientState
-    pub is : value player_table (client_seat (route_of stage.first) asks) rows ≡ Client client
+    pub fact : value player_table (client_seat (route_of stage.first) asks) rows ≡ Client client
     pub plain : IsPlainClient (frames_of scenario) asks (has_started rows (client_actor asks.client)) client
 
   -- all players, all mail and all groups after some rows, and what is owed still
   pub record IsPlainJournal (rows : Journal) : Type 0 where
     pub nodes : (me : ℕ) → 1 ≤ me → me ≤ scenario.nodes → IsNodeAt rows me
-    pub clients : (asks : Asks) → Among asks scenario.clients → IsClientAt rows asks
+    pub clients : EachClient scenario (IsClientAt rows)
     pub sent : Each (IsPlainMail (IsBegun scenario rows) (frames_of scenario)) (mails rows)
     pub groups : (frame : Frame) → Among frame (frames_of scenario) → IsGroupAt words scenario rows frame
     pub owes : deliveries rows + owed (system_of as_nodes words scenario) (owing_of scenario) rows ≤ owed_at_birth (system_of as_nodes words scenario) (owing_of scenario)

@@ -17,7 +17,7 @@ use Rattle.sc_live_plain.proofs.PlainProofs.PlainClientRows.{client_event}
 use Rattle.sc_live_plain.proofs.PlainProofs.PlainBeginnings.{frames_of, IsStage}
 use Rattle.sc_live_plain.proofs.PlainProofs.PlainSteps.{in_numbers}
 use Rattle.sc_live_plain.proofs.PlainProofs.PlainRows.{node_event}
-use Rattle.sc_live_plain.proofs.RowsProofs.RowViews.{Journal}
+use Rattle.sc_live_plain.proofs.PlainRowsProofs.RowViews.{Journal}
 use Rattle.sc_live_plain.proofs.PlainProofs.PlainKnownGroups.{IsRound}
 
 module _ (words : ℕ → ℕ → ℕ × ℕ) (scenario : Scenario) (stage : IsStage scenario) where
@@ -61,14 +61,14 @@ module _ (words : ℕ → ℕ → ℕ × ℕ) (scenario : Scenario) (stage : IsS
     pub plain_row : (rows : Journal) (row : Row Mail OrderLine) → IsTidy rows → IsPlainJournal words scenario stage rows → IsOrderly (system_of as_nodes words scenario) rows row → IsPlainJournal words scenario stage (rows ++ row ∷ [])
     plain_row rows row t j o = elim (of_player rows row o) [
       | inl n ↦ (
-          let is : row ≡ row_of player_table (nseat n.me) rows o.event = o.row_is ∙ ap (λ (seat : Seat Player). row_of player_table seat rows o.event) n.seat_is in
+          let fact : row ≡ row_of player_table (nseat n.me) rows o.event = o.row_is ∙ ap (λ (seat : Seat Player). row_of player_table seat rows o.event) n.seat_is in
           let born = subst (λ (seat : Seat Player). find (λ (other : Seat Player). eqb other.who seat.who) (births as_nodes scenario) ≡ Some seat) n.seat_is o.born in
-          subst (λ r. IsPlainJournal words scenario stage (rows ++ r ∷ [])) (sym is)
+          subst (λ r. IsPlainJournal words scenario stage (rows ++ r ∷ [])) (sym fact)
           (node_event words scenario stage few rows t j n.me n.one n.most born o.event (subst (λ (seat : Seat Player). IsInOrder sys rows seat.who o.event) n.seat_is o.in_order)))
       | inr c ↦ (
-          let is : row ≡ row_of player_table (cseat c.asks) rows o.event = o.row_is ∙ ap (λ (seat : Seat Player). row_of player_table seat rows o.event) c.seat_is in
+          let fact : row ≡ row_of player_table (cseat c.asks) rows o.event = o.row_is ∙ ap (λ (seat : Seat Player). row_of player_table seat rows o.event) c.seat_is in
           let born = subst (λ (seat : Seat Player). find (λ (other : Seat Player). eqb other.who seat.who) (births as_nodes scenario) ≡ Some seat) c.seat_is o.born in
-          subst (λ r. IsPlainJournal words scenario stage (rows ++ r ∷ [])) (sym is)
+          subst (λ r. IsPlainJournal words scenario stage (rows ++ r ∷ [])) (sym fact)
           (client_event words scenario stage round rows t j c.asks c.is_asks born o.event (subst (λ (seat : Seat Player). IsInOrder sys rows seat.who o.event) c.seat_is o.in_order)))
     ]
 

@@ -12,8 +12,9 @@ use Rattle.sc_words.proofs.PaxosProofs.Lemmas.{Each-among}
 use Rattle.sc_client_table.specs.declared.lookup.ways.Way.{Way}
 use Rattle.sc_client_table.specs.lookup.Definitions.{far, target_of, KnownGroups, way_to, nearer, better, chosen, target_in, changed, starting, group_learnt, learnt_from_not_mine}
 use Rattle.sc_paxos_law.proofs.Lemmas.{from_map}
+use Rattle.sc_paxos_law.proofs.Lemmas.{Among-left}
 use Rattle.sc_live_plain.specs.Definitions.{Frame, AreNamedApart, way_of}
-use Rattle.sc_live_plain.proofs.RowsProofs.Lists.{map_among}
+use Rattle.sc_live_plain.proofs.PlainRowsProofs.Lists.{map_among}
 
 -- ---- the nearest
 
@@ -86,10 +87,8 @@ parts_of [] x e = absurd e
 parts_of {X} (y ∷ xs) x (inl same) = ([], xs, ap (λ (z : X). z ∷ xs) same)
 parts_of {X} (y ∷ xs) x (inr e) = (let r = parts_of xs x e in (y ∷ r.0, r.1, ap (λ (l : List X). y ∷ l) r.2))
 
-pub among_first : {X : Type 0} (xs ys : List X) (x : X) → Among x xs → Among x (xs ++ ys)
-among_first [] ys x a = absurd a
-among_first (y ∷ xs) ys x (inl same) = inl same
-among_first (y ∷ xs) ys x (inr a) = inr (among_first xs ys x a)
+pub among_first : {X : Type 0} (reached : ℕ) (xs : List X) (x : X) → Among x (take reached xs) → Among x xs
+among_first reached xs x a = subst (Among x) (take-append-drop reached xs) (Among-left x (take reached xs) (drop reached xs) a)
 
 pub among_last : {X : Type 0} (xs ys : List X) (x : X) → Among x ys → Among x (xs ++ ys)
 among_last [] ys x a = a
@@ -138,9 +137,6 @@ module _ (frames : List Frame) (round : IsRound frames) (reached : ℕ) (low : r
   known_prefix : take reached (map way_of frames) ≡ map way_of prefix
   known_prefix = take-map way_of reached frames
 
-  pub prefix_frames : (frame : Frame) → Among frame prefix → Among frame frames
-  prefix_frames frame a = subst (Among frame) (sym parts) (among_first prefix back frame a)
-
   -- the group of a name that is chosen
   pub record IsChosenFrame (p : ℕ) (group : Draw) : Type 0 where
     pub frame : Frame
@@ -161,11 +157,11 @@ module _ (frames : List Frame) (round : IsRound frames) (reached : ℕ) (low : r
       }
 
   pub way_in : (frame : Frame) → Among frame prefix → way_to frame.core.id (map way_of prefix) ≡ Some (way_of frame).1
-  way_in frame a = way_known prefix frame (λ o b e. round.apart o frame (prefix_frames o b) (prefix_frames frame a) e) a
+  way_in frame a = way_known prefix frame (λ o b e. round.apart o frame (among_first reached frames o b) (among_first reached frames frame a) e) a
 
   -- the node that is asked leads
   pub target_leads : (frame : Frame) → Among frame prefix → target_in frame.core.id (map way_of prefix) ≡ Some frame.lead
-  target_leads frame a = ap (λ (o : Option Way). option_map target_of o) (way_in frame a) ∙ ap Some (sym (round.leads frame (prefix_frames frame a)))
+  target_leads frame a = ap (λ (o : Option Way). option_map target_of o) (way_in frame a) ∙ ap Some (sym (round.leads frame (among_first reached frames frame a)))
 
   -- ---- the one behind the chosen one
 
@@ -226,8 +222,8 @@ module _ (frames : List Frame) (round : IsRound frames) (reached : ℕ) (low : r
   pub known_grows : (p : ℕ) (frame : Frame) (group : Draw) → Among frame frames → frame.core.id ≡ group → chosen p (take reached (map way_of frames)) ≡ Some group → holds frame.core.arc p ≡ false → Grows frame
   known_grows p frame group a name e lacks =
       let c = chosen_frame p group (ap (chosen p) (sym known_prefix) ∙ e) in
-      let same : c.frame ≡ frame = round.apart c.frame frame (prefix_frames c.frame c.is_frame) a (c.name ∙ sym name) in
+      let same : c.frame ≡ frame = round.apart c.frame frame (among_first reached frames c.frame c.is_frame) a (c.name ∙ sym name) in
       let in_prefix : Among frame prefix = subst (λ (f : Frame). Among f prefix) same c.is_frame in
       let split = parts_of prefix frame in_prefix in
       let whole : frames ≡ split.0 ++ frame ∷ (split.1 ++ back) = parts ∙ ap (λ (l : List Frame). l ++ back) split.2 ∙ append_assoc split.0 (frame ∷ split.1) back in
-      behind p frame in_prefix (λ other b. (let le = c.each other b in let is = ap (λ (f : Frame). far p (way_of f).1) same in omega (arith, le, is))) lacks split.0 split.1 back refl split.2 whole
+      behind p frame in_prefix (λ other b. (let le = c.each other b in let fact = ap (λ (f : Frame). far p (way_of f).1) same in omega (arith, le, fact))) lacks split.0 split.1 back refl split.2 whole

@@ -16,11 +16,11 @@ use Rattle.sc_live_orderly.proofs.Lemmas.{IsPaid, pays, TakesFirst, takes_first,
 use Rattle.sc_live_plain.specs.Definitions.{mark, marks_for, marks_at, next_in, replica_at, IsOther, player_owes, mail_owes, IsBegun, IsPlainMail}
 use Rattle.sc_live_plain.proofs.PlainProofs.PlainInduction.{owing_of, IsNodeAt, IsPlainJournal}
 use Rattle.sc_live_plain.proofs.PlainProofs.MorePlainRequests.{mail_more, node_more}
-use Rattle.sc_live_plain.proofs.RowsProofs.LeaderMailOfGroups.{due, group_idle, group_after}
+use Rattle.sc_live_plain.proofs.PlainRowsProofs.LeaderMailOfGroups.{due, group_idle, group_after}
 use Rattle.sc_live_plain.proofs.PlainProofs.PlainBeginnings.{frames_of, IsStage}
 use Rattle.sc_live_plain.proofs.PlainProofs.PlainSteps.{node_number, each_numbered, has_room_at, node_stays, client_stays, sent_more, begun_still, client_away}
-use Rattle.sc_live_plain.proofs.RowsProofs.RowViews.{Journal, replica_is, replica_others}
-use Rattle.sc_live_plain.proofs.RowsProofs.NodeRows.{NodeRow, node_row, node_plain, node_said, node_owed, me_after}
+use Rattle.sc_live_plain.proofs.PlainRowsProofs.RowViews.{Journal, replica_is, replica_others}
+use Rattle.sc_live_plain.proofs.PlainRowsProofs.NodeRows.{NodeRow, node_row, node_plain, node_said, node_owed, me_after}
 
 module _ (words : ℕ → ℕ → ℕ × ℕ) (scenario : Scenario) (stage : IsStage scenario) (few : owed_at_birth (system_of as_nodes words scenario) (owing_of scenario) + 16 ≤ last_slot) where
   abbrev sys : System Player Mail OrderLine
@@ -67,7 +67,7 @@ module _ (words : ℕ → ℕ → ℕ × ℕ) (scenario : Scenario) (stage : IsS
       k = node_row (IsBegun scenario rows) (frames_of scenario) stage.are stage.apart n.node first.mail n.plain is_plain (first.receiver ∙ sym n.me_is)
           (λ client seq op b e. not_client client seq op b (sym n.me_is ∙ e))
           (λ frame r a says found. (
-          let here : replica_at scenario rows frame.core.id me ≡ Some r = replica_is words scenario rows frame.core.id me (Node n.node) (node_number words scenario stage me one most) n.is ∙ found in
+          let here : replica_at scenario rows frame.core.id me ≡ Some r = replica_is words scenario rows frame.core.id me (Node n.node) (node_number words scenario stage me one most) n.fact ∙ found in
           let room = has_room_at words scenario stage rows j few frame a me in
           let at = ap next_in here in (
             due words scenario (IsBegun scenario rows) rows frame (j.groups frame a) me r here first.mail.from (map (mark frame.core.id) first.behind) first.mail.to first.mail.body first.receiver (ap (map (mark frame.core.id)) first.first) says,
@@ -78,14 +78,14 @@ module _ (words : ℕ → ℕ → ℕ × ℕ) (scenario : Scenario) (stage : IsS
       pub acted_is : acted player_table (value player_table (nseat me) rows) (input_of {O = OrderLine} (mails rows) (Deliver number)) ≡ (Node (node_table n.node (Got first.mail)).0, (node_table n.node (Got first.mail)).1)
       acted_is =
           ap (λ o. acted player_table (value player_table (nseat me) rows) (option_map Got o)) first.sent
-          ∙ ap (λ p. acted player_table p (Some (Got first.mail))) n.is
+          ∙ ap (λ p. acted player_table p (Some (Got first.mail))) n.fact
 
       -- it pays
       pub node_paid : IsPaid (system_of as_nodes words scenario) stage.seats_apart (owing_of scenario) rows (node_seat as_nodes scenario.groups scenario.policy me) (Deliver number)
       node_paid mail sent =
           let same : first.mail ≡ mail = (let e : Some first.mail ≡ Some mail = sym first.sent ∙ sent in cc) in
           subst (λ m. 1 + owed_by (owing_of scenario) (player_table (value player_table (nseat me) rows) (Got m)) ≤ player_owes (length (frames_of scenario)) (value player_table (nseat me) rows) + mail_owes m) same
-          (subst (λ p. 1 + owed_by (owing_of scenario) (player_table p (Got first.mail)) ≤ player_owes (length (frames_of scenario)) p + mail_owes first.mail) (sym n.is)
+          (subst (λ p. 1 + owed_by (owing_of scenario) (player_table p (Got first.mail)) ≤ player_owes (length (frames_of scenario)) p + mail_owes first.mail) (sym n.fact)
           (node_owed (IsBegun scenario rows) (frames_of scenario) stage.are stage.apart n.node first.mail (node_table n.node (Got first.mail)) n.plain k))
 
       node_turn : J (rows ++ row_of player_table (nseat me) rows (Deliver number) ∷ [])
@@ -100,9 +100,9 @@ module _ (words : ℕ → ℕ → ℕ × ℕ) (scenario : Scenario) (stage : IsS
           let plain_after = node_plain (IsBegun scenario rows) (frames_of scenario) stage.are stage.apart n.node first.mail after n.plain k in
           record {
             nodes = λ other low high. elim (cases_eq other me) [
-              | inl is ↦ subst (IsNodeAt words scenario stage (rows ++ r ∷ [])) (sym is) (record {
+              | inl fact ↦ subst (IsNodeAt words scenario stage (rows ++ r ∷ [])) (sym fact) (record {
                 node = after.0;
-                is = became;
+                fact = became;
                 me_is = me_after (IsBegun scenario rows) (frames_of scenario) stage.are stage.apart n.node first.mail after n.plain k ∙ n.me_is;
                 plain = node_more (IsBegun scenario rows) (IsBegun scenario (rows ++ r ∷ [])) more (frames_of scenario) after.0 plain_after;
               })
@@ -116,17 +116,17 @@ module _ (words : ℕ → ℕ → ℕ × ℕ) (scenario : Scenario) (stage : IsS
             groups = λ frame a.
                 group_after words scenario rows r rest_after (IsBegun scenario rows) (frames_of scenario) stage.are stage.apart n.node first.mail after n.plain k (sym n.me_is) refl sends (first.receiver ∙ sym n.me_is) first.behind
                 (ap (rest sys rows) n.me_is ∙ first.first) (ap is_node n.me_is ∙ node_number words scenario stage me one most)
-                (ap (λ m. value player_table (nseat m) rows) n.me_is ∙ n.is) (ap (λ m. value player_table (nseat m) (rows ++ r ∷ [])) n.me_is ∙ became) frame a (j.groups frame a);
+                (ap (λ m. value player_table (nseat m) rows) n.me_is ∙ n.fact) (ap (λ m. value player_table (nseat m) (rows ++ r ∷ [])) n.me_is ∙ became) frame a (j.groups frame a);
             owes = owes_after rows (nseat me) (Deliver number) j born fine node_paid;
           }
 
     -- ---- a `go` event at a node does nothing
 
     pub acted_go : acted player_table (value player_table (nseat me) rows) (input_of {O = OrderLine} (mails rows) Go) ≡ (Node n.node, [])
-    acted_go = ap (λ p. acted player_table p (Some GoInput)) n.is
+    acted_go = ap (λ p. acted player_table p (Some GoInput)) n.fact
 
     pub node_go_paid : IsPaid (system_of as_nodes words scenario) stage.seats_apart (owing_of scenario) rows (node_seat as_nodes scenario.groups scenario.policy me) Go
-    node_go_paid = subst (λ p. owed_by (owing_of scenario) (player_table p GoInput) ≤ player_owes (length (frames_of scenario)) p) (sym n.is) (omega arith)
+    node_go_paid = subst (λ p. owed_by (owing_of scenario) (player_table p GoInput) ≤ player_owes (length (frames_of scenario)) p) (sym n.fact) (omega arith)
 
     node_go : has_started rows me ≡ false → J (rows ++ row_of player_table (nseat me) rows Go ∷ [])
     node_go fine =
@@ -134,12 +134,12 @@ module _ (words : ℕ → ℕ → ℕ × ℕ) (scenario : Scenario) (stage : IsS
         let orderly : IsOrderly sys rows r = record { seat = nseat me; born = born; event = Go; row_is = refl; in_order = fine } in
         let rest_after : (who : ℕ) → rest sys (rows ++ r ∷ []) who ≡ drop (taken who r) (rest sys rows who) ++ mail_for sys who r.sent = λ who. rest-row sys rows r who t orderly in
         let more = begun_still words scenario stage rows r (λ asks a e. client_away words scenario stage me (node_number words scenario stage me one most) asks a e) in
-        let same : value player_table (nseat me) (rows ++ r ∷ []) ≡ value player_table (nseat me) rows = value_own rows (nseat me) Go ∙ (ap (λ (p : Player × List Mail). p.0) acted_go ∙ sym n.is) in
+        let same : value player_table (nseat me) (rows ++ r ∷ []) ≡ value player_table (nseat me) rows = value_own rows (nseat me) Go ∙ (ap (λ (p : Player × List Mail). p.0) acted_go ∙ sym n.fact) in
         let none : r.sent ≡ [] = ap (λ (p : Player × List Mail). p.1) acted_go in
         record {
           nodes = λ other low high. elim (cases_eq other me) [
-            | inl is ↦ subst (IsNodeAt words scenario stage (rows ++ r ∷ [])) (sym is)
-                (record { node = n.node; is = same ∙ n.is; me_is = n.me_is; plain = node_more (IsBegun scenario rows) (IsBegun scenario (rows ++ r ∷ [])) more (frames_of scenario) n.node n.plain })
+            | inl fact ↦ subst (IsNodeAt words scenario stage (rows ++ r ∷ [])) (sym fact)
+                (record { node = n.node; fact = same ∙ n.fact; me_is = n.me_is; plain = node_more (IsBegun scenario rows) (IsBegun scenario (rows ++ r ∷ [])) more (frames_of scenario) n.node n.plain })
             | inr ne ↦ node_stays words scenario stage rows j r more other ne (j.nodes other low high)
           ];
           clients = λ asks a. client_stays words scenario stage rows j r asks (λ e. client_away words scenario stage me (node_number words scenario stage me one most) asks a e) (j.clients asks a);
@@ -147,9 +147,9 @@ module _ (words : ℕ → ℕ → ℕ × ℕ) (scenario : Scenario) (stage : IsS
           groups = λ frame a.
               group_idle words scenario rows r rest_after frame (j.groups frame a)
               (λ node. elim (cases_eq node me) [
-                | inl is ↦ ap (replica_at scenario (rows ++ r ∷ []) frame.core.id) is
-                    ∙ (replica_is words scenario (rows ++ r ∷ []) frame.core.id me (Node n.node) (node_number words scenario stage me one most) (same ∙ n.is)
-                    ∙ (sym (replica_is words scenario rows frame.core.id me (Node n.node) (node_number words scenario stage me one most) n.is) ∙ ap (replica_at scenario rows frame.core.id) (sym is)))
+                | inl fact ↦ ap (replica_at scenario (rows ++ r ∷ []) frame.core.id) fact
+                    ∙ (replica_is words scenario (rows ++ r ∷ []) frame.core.id me (Node n.node) (node_number words scenario stage me one most) (same ∙ n.fact)
+                    ∙ (sym (replica_is words scenario rows frame.core.id me (Node n.node) (node_number words scenario stage me one most) n.fact) ∙ ap (replica_at scenario rows frame.core.id) (sym fact)))
                 | inr ne ↦ replica_others words scenario rows r frame.core.id node ne
               ])
               (inr (refl, sym (at_zero (marks_at words scenario rows frame.core.id me))))

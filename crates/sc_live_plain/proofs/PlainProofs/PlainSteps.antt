@@ -20,9 +20,9 @@ use Rattle.sc_live_plain.specs.Definitions.{replica_at, next_in, Frame, replica_
 use Rattle.sc_live_plain.proofs.PlainProofs.PlainInduction.{owing_of, IsNodeAt, IsClientAt, IsPlainJournal}
 use Rattle.sc_live_plain.proofs.PlainProofs.MorePlainRequests.{IsMore, mail_more, node_more}
 use Rattle.sc_live_plain.proofs.PlainProofs.PlainBeginnings.{frames_of, IsStage}
-use Rattle.sc_live_plain.proofs.RowsProofs.RowViews.{Journal, replica_is}
-use Rattle.sc_live_plain.proofs.RowsProofs.ReplicaRows.{leading_at}
-use Rattle.sc_live_plain.proofs.RowsProofs.Lists.{map_among}
+use Rattle.sc_live_plain.proofs.PlainRowsProofs.RowViews.{Journal, replica_is}
+use Rattle.sc_live_plain.proofs.PlainRowsProofs.ReplicaRows.{leading_at}
+use Rattle.sc_live_plain.proofs.PlainRowsProofs.Lists.{map_among}
 pub use Rattle.sc_law_groups.proofs.GroupProofs.RowSteps.{among_numbers as in_numbers}
 
 -- ---- lists
@@ -30,7 +30,7 @@ pub use Rattle.sc_law_groups.proofs.GroupProofs.RowSteps.{among_numbers as in_nu
 pub to_numbers : (from count n : ℕ) → from ≤ n → n < from + count → Among n (numbers_from from count)
 to_numbers from zero n low high = absurd (omega (arith, low, high))
 to_numbers from (suc count) n low high = elim (cases_eq from n) [
-  | inl is ↦ inl is
+  | inl fact ↦ inl fact
   | inr ne ↦ inr (to_numbers (from + 1) count n (elim (cases_lt from n) [ inl lt ↦ omega (arith, lt) | inr ge ↦ absurd (ne (omega (arith, low, ge))) ]) (omega (arith, high)))
 ]
 
@@ -53,6 +53,10 @@ each_numbered P sent (suc place) mail all e = at sent place all e
 pub same_client : (scenario : Scenario) (stage : IsStage scenario) (asks other : Asks) → Among asks scenario.clients → Among other scenario.clients → client_actor other.client ≡ client_actor asks.client → other ≡ asks
 same_client scenario stage asks other a b e = stage.once other asks b a (omega (arith, e))
 
+-- the number of a node that there is
+pub node_in : (nodes me : ℕ) → nodes ≤ most_nodes → 1 ≤ me → me ≤ nodes → is_node me ≡ true
+node_in nodes me all one most = and_from (leb 1 me) (leb me most_nodes) (le-leb 1 me one) (le-leb me most_nodes (omega (arith, most, all)))
+
 module _ (words : ℕ → ℕ → ℕ × ℕ) (scenario : Scenario) (stage : IsStage scenario) where
   abbrev nseat : ℕ → Seat Player
   nseat me = node_seat as_nodes scenario.groups scenario.policy me
@@ -70,7 +74,7 @@ module _ (words : ℕ → ℕ → ℕ × ℕ) (scenario : Scenario) (stage : IsS
       (Among-left (nseat me) (map nseat (numbers_from 1 scenario.nodes)) (map cseat scenario.clients) (map_among nseat (numbers_from 1 scenario.nodes) me (to_numbers 1 scenario.nodes me one (omega (arith, most)))))
 
   pub node_number : (me : ℕ) → 1 ≤ me → me ≤ scenario.nodes → is_node me ≡ true
-  node_number me one most = (let all = stage.nodes in and_from (leb 1 me) (leb me most_nodes) (le-leb 1 me one) (le-leb me most_nodes (omega (arith, most, all))))
+  node_number me = node_in scenario.nodes me stage.nodes
 
   -- a client's number is that of no node
   pub client_number : (asks : Asks) → Among asks scenario.clients → is_node (client_actor asks.client) ≡ false
@@ -112,8 +116,8 @@ module _ (words : ℕ → ℕ → ℕ × ℕ) (scenario : Scenario) (stage : IsS
   module _ (rows : Journal) (j : IsPlainJournal words scenario stage rows) where
     lead_fits : (frame : Frame) → Among frame (frames_of scenario) → (1 ≤ frame.lead) × (frame.lead ≤ scenario.nodes)
     lead_fits frame a =
-        let is = stage.are frame a in
-        stage.fit frame a (frame.from + slots_ahead) frame.lead (ap (λ ms. is_member ms frame.lead) (is.later (frame.from + slots_ahead) (omega arith)) ∙ is.leads)
+        let fact = stage.are frame a in
+        stage.fit frame a (frame.from + slots_ahead) frame.lead (ap (λ ms. is_member ms frame.lead) (fact.later (frame.from + slots_ahead) (omega arith)) ∙ fact.leads)
 
     -- a leader has executed no more than is owed
     pub lead_owes : (frame : Frame) (a : Among frame (frames_of scenario)) → next (j.groups frame a).r ≤ owed sys (owing_of scenario) rows + 1
@@ -121,15 +125,15 @@ module _ (words : ℕ → ℕ → ℕ × ℕ) (scenario : Scenario) (stage : IsS
         let g = j.groups frame a in
         let fits = lead_fits frame a in
         let n = j.nodes frame.lead fits.0 fits.1 in
-        let here : replica_of frame.core.id n.node.replicas ≡ Some g.r = sym (replica_is words scenario rows frame.core.id frame.lead (Node n.node) (node_number frame.lead fits.0 fits.1) n.is) ∙ g.there in
+        let here : replica_of frame.core.id n.node.replicas ≡ Some g.r = sym (replica_is words scenario rows frame.core.id frame.lead (Node n.node) (node_number frame.lead fits.0 fits.1) n.fact) ∙ g.there in
         let leads = leading_at (IsBegun scenario rows) frame (stage.are frame a) n.node.me g.r n.me_is (n.plain.replicas frame g.r a here) in
         let runs = leads.1.leader.running in
         let found = find_found (λ (r : ReplicaState). same_draw (name_of r) frame.core.id) n.node.replicas g.r here in
         let one = one_of_sum replica_owes n.node.replicas g.r found.0 in
         let all = one_of_sum (λ (seat : Seat Player). player_owes (length (frames_of scenario)) (value player_table seat rows)) (births as_nodes scenario) (nseat frame.lead) (node_born frame.lead fits.0 fits.1) in
-        let is = ap (player_owes (length (frames_of scenario))) n.is in
+        let fact = ap (player_owes (length (frames_of scenario))) n.fact in
         let mine = cond-true g.r.running (next g.r - 1) 0 runs in
-        omega (arith, one, all, is, mine)
+        omega (arith, one, all, fact, mine)
 
     -- no replica is near the last slot
     pub has_room_at : owed_at_birth sys (owing_of scenario) + 16 ≤ last_slot → (frame : Frame) → Among frame (frames_of scenario) → (me : ℕ) → next_in (replica_at scenario rows frame.core.id me) + slots_ahead ≤ last_slot
@@ -148,7 +152,7 @@ module _ (words : ℕ → ℕ → ℕ × ℕ) (scenario : Scenario) (stage : IsS
       pub node_stays : IsMore (IsBegun scenario rows) (IsBegun scenario (rows ++ row ∷ [])) → (me : ℕ) → (me ≡ row.who → ⊥) → IsNodeAt words scenario stage rows me → IsNodeAt words scenario stage (rows ++ row ∷ []) me
       node_stays more me ne n = record {
         node = n.node;
-        is = value_others rows row (nseat me) ne ∙ n.is;
+        fact = value_others rows row (nseat me) ne ∙ n.fact;
         me_is = n.me_is;
         plain = node_more (IsBegun scenario rows) (IsBegun scenario (rows ++ row ∷ [])) more (frames_of scenario) n.node n.plain;
       }
@@ -156,7 +160,7 @@ module _ (words : ℕ → ℕ → ℕ × ℕ) (scenario : Scenario) (stage : IsS
       pub client_stays : (asks : Asks) → (client_actor asks.client ≡ row.who → ⊥) → IsClientAt words scenario stage rows asks → IsClientAt words scenario stage (rows ++ row ∷ []) asks
       client_stays asks ne c = record {
         client = c.client;
-        is = value_others rows row (cseat asks) ne ∙ c.is;
+        fact = value_others rows row (cseat asks) ne ∙ c.fact;
         plain = subst (λ b. IsPlainClient (frames_of scenario) asks b c.client) (sym (gone_others rows row (client_actor asks.client) ne)) c.plain;
       }
 

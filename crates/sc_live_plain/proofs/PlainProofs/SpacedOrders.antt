@@ -53,7 +53,7 @@ may_give AnOrder node order lines barred = absurd (true≢false (sym (barred [] 
 
 -- what is barred is so behind a delivery to one actor
 barred_behind : (said : Said) (who k : ℕ) (lines : List SchedLine) → AreBarred said (Deliver who k ∷ lines) → AreBarred said lines
-barred_behind said who k lines barred = λ between after other e is. barred (Deliver who k ∷ between) after other (ap (λ l. Deliver who k ∷ l) e) is
+barred_behind said who k lines barred = λ between after other e fact. barred (Deliver who k ∷ between) after other (ap (λ l. Deliver who k ∷ l) e) fact
 
 lines_spaced : (budget : ℕ) (said : Said) (lines : List SchedLine) → Each (AllowsCalmly budget) lines → AreParted lines → AreBarred said lines → AreSpaced said (map line_of lines)
 lines_spaced budget said [] calm parted barred = tt

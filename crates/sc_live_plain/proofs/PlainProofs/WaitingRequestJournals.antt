@@ -14,7 +14,7 @@ use Rattle.sc_live_plain.specs.Definitions.{IsWaiting}
 use Rattle.sc_live_plain.proofs.PlainProofs.PlainInduction.{owing_of, IsClientAt, IsPlainJournal}
 use Rattle.sc_live_plain.proofs.PlainProofs.PlainClientRows as client_rows
 use Rattle.sc_live_plain.proofs.PlainProofs.PlainBeginnings.{frames_of, IsStage}
-use Rattle.sc_live_plain.proofs.RowsProofs.RowViews.{Journal}
+use Rattle.sc_live_plain.proofs.PlainRowsProofs.RowViews.{Journal}
 use Rattle.sc_live_plain.proofs.PlainProofs.PlainKnownGroups.{IsRound}
 use Rattle.sc_live_plain.proofs.PlainProofs.WaitingRequestPlaces.{IsSought}
 

@@ -15,11 +15,11 @@ use Rattle.sc_live_orderly.specs.Definitions.{rest, mail_for, taken}
 use Rattle.sc_paxos_law.proofs.Lemmas.{Among-left, Among-right}
 use Rattle.sc_live_plain.specs.Definitions.{replica_at, Frame, IsFrame, answer_owes, waiting_ones, IsBegun, IsWaiting, begun_of, Requests, IsPlainAnswer, IsPlainBody}
 use Rattle.sc_live_plain.proofs.PlainProofs.PlainBeginnings.{frames_of, IsStage}
-use Rattle.sc_live_plain.proofs.RowsProofs.RowViews.{Journal}
+use Rattle.sc_live_plain.proofs.PlainRowsProofs.RowViews.{Journal}
 use Rattle.sc_live_plain.proofs.PlainProofs.PlainClients.{asking}
 use Rattle.sc_live_plain.proofs.LeadersProofs.LeadingReplicas.{IsHeld, IsReportedOf}
-use Rattle.sc_live_plain.proofs.RowsProofs.ReplicaRows.{Does}
-use Rattle.sc_live_plain.proofs.RowsProofs.RepeatedMail.{mail_of}
+use Rattle.sc_live_plain.proofs.PlainRowsProofs.ReplicaRows.{Does}
+use Rattle.sc_live_plain.proofs.PlainRowsProofs.RepeatedMail.{mail_of}
 
 -- an answer that ends a request, or sends its client on
 abbrev pub IsFinal : AnswerBody → Type 0
@@ -38,15 +38,15 @@ filter_among who (m ∷ sent) mail to (inr a) =
     cond_both (eqb m.to who) (m ∷ filter (λ (x : Mail). eqb x.to who) sent) (filter (λ (x : Mail). eqb x.to who) sent) (Among mail) (λ _. inr (filter_among who sent mail to a)) (λ _. filter_among who sent mail to a)
 
 -- what a leader does with a queued request: the request stays queued, or its client is answered
-pub does_holds : (begun : Requests) (frame : Frame) (is : IsFrame frame) (me : ℕ) (r : ReplicaState) (from : ℕ) (body : MailBody) (place : Place) → me ≡ frame.lead → Does begun frame is me r from body place → (c n : ℕ) → IsHeld r c n → IsHeld place.0 c n ⊎ IsReportedOf frame place.1 c n
-does_holds begun frame is me r from (Request group client seq op) place lead response c n h = elim (response.1) [
+pub does_holds : (begun : Requests) (frame : Frame) (fact : IsFrame frame) (me : ℕ) (r : ReplicaState) (from : ℕ) (body : MailBody) (place : Place) → me ≡ frame.lead → Does begun frame fact me r from body place → (c n : ℕ) → IsHeld r c n → IsHeld place.0 c n ⊎ IsReportedOf frame place.1 c n
+does_holds begun frame fact me r from (Request group client seq op) place lead response c n h = elim (response.1) [
   | inl refused ↦ inl (subst (λ (p : Place). IsHeld p.0 c n) (sym refused.place_is) h)
   | inr queued ↦ queued.run.leads.backlog c n (inl h)
 ]
-does_holds begun frame is me r from (Accept group ballot slot command) place lead response c n h = inl (response.held c n h)
-does_holds begun frame is me r from (Accepted group ballot slot) place lead response c n h = response.1.counted.run.leads.backlog c n h
-does_holds begun frame is me r from (Learn group slot command) place lead response c n h = absurd (response.follows lead)
-does_holds begun frame is me r from _ place lead response c n h = absurd response
+does_holds begun frame fact me r from (Accept group ballot slot command) place lead response c n h = inl (response.held c n h)
+does_holds begun frame fact me r from (Accepted group ballot slot) place lead response c n h = response.1.counted.run.leads.backlog c n h
+does_holds begun frame fact me r from (Learn group slot command) place lead response c n h = absurd (response.follows lead)
+does_holds begun frame fact me r from _ place lead response c n h = absurd response
 
 module _ (words : ℕ → ℕ → ℕ × ℕ) (scenario : Scenario) where
   abbrev left : Journal → ℕ → List Mail
@@ -90,10 +90,10 @@ module _ (words : ℕ → ℕ → ℕ × ℕ) (scenario : Scenario) where
 
     -- what is left of the mail of one who takes its first stays, but for that
     pub behind_left : (first : Mail) (behind : List Mail) → left rows row.who ≡ first ∷ behind → is_delivery row.event ≡ true → (mail : Mail) → Among mail (left rows row.who) → (first ≡ mail) ⊎ Among mail (left (rows ++ row ∷ []) row.who)
-    behind_left first behind is delivers mail a =
+    behind_left first behind fact delivers mail a =
         let one : drop (taken row.who row) (left rows row.who) ≡ behind =
-        ap (λ b. drop (cond (b && is_delivery row.event) 1 0) (left rows row.who)) (eq-eqb row.who row.who refl) ∙ (ap (λ b. drop (cond b 1 0) (left rows row.who)) delivers ∙ ap (drop 1) is) in
-        elim (subst (Among mail) is a) [
+        ap (λ b. drop (cond (b && is_delivery row.event) 1 0) (left rows row.who)) (eq-eqb row.who row.who refl) ∙ (ap (λ b. drop (cond b 1 0) (left rows row.who)) delivers ∙ ap (drop 1) fact) in
+        elim (subst (Among mail) fact a) [
           | inl same ↦ inl same
           | inr b ↦ inr (subst (Among mail) (sym (after row.who)) (Among-left mail (drop (taken row.who row) (left rows row.who)) (mail_for (system_of as_nodes words scenario) row.who row.sent) (subst (Among mail) (sym one) b)))
         ]
@@ -111,14 +111,14 @@ module _ (words : ℕ → ℕ → ℕ × ℕ) (scenario : Scenario) where
 
   -- ---- an answer of the leader that a client waits for
 
-  module _ (stage : IsStage scenario) (rows : Journal) (asks : Asks) (a : Among asks scenario.clients) (client : ClientState) (is : value player_table (client_seat (route_of stage.first) asks) rows ≡ Client client) (me_is : client.me ≡ asks.client) (w : IsWaiting client) where
+  module _ (stage : IsStage scenario) (rows : Journal) (asks : Asks) (a : Among asks scenario.clients) (client : ClientState) (fact : value player_table (client_seat (route_of stage.first) asks) rows ≡ Client client) (me_is : client.me ≡ asks.client) (w : IsWaiting client) where
     -- no later request of it is begun
     begun_low : (seq : ℕ) (op : Op) → IsBegun scenario rows client.me seq op → seq ≤ w.seq
     begun_low seq op b =
         let first : b.first ≡ stage.first = (let e : b.first ∷ b.others ≡ stage.first ∷ stage.others = sym b.groups_are ∙ stage.groups_are in cc) in
         let same : b.asks ≡ asks = stage.once b.asks asks b.is_asks a (b.client_is ∙ me_is) in
         let low = b.low in
-        let at = ap (λ (f : Base). begun_of (value player_table (client_seat (route_of f) b.asks) rows)) first ∙ (ap (λ (x : Asks). begun_of (value player_table (client_seat (route_of stage.first) x) rows)) same ∙ ap begun_of is) in
+        let at = ap (λ (f : Base). begun_of (value player_table (client_seat (route_of f) b.asks) rows)) first ∙ (ap (λ (x : Asks). begun_of (value player_table (client_seat (route_of stage.first) x) rows)) same ∙ ap begun_of fact) in
         let one = ap waiting_ones w.waits in
         let number = w.number in
         omega (arith, low, at, one, number)
@@ -127,14 +127,14 @@ module _ (words : ℕ → ℕ → ℕ × ℕ) (scenario : Scenario) where
     pub told_final : (frame : Frame) (sent : List Mail) → Each (λ mail. IsPlainBody (IsBegun scenario rows) frame mail.from mail.to mail.body) sent → IsReportedOf frame sent client.me w.seq
         → (answer : AnswerBody) × IsFinal answer × Among (mail_of frame.lead (client_actor client.me) (Answer frame.core.id w.seq answer)) sent
     told_final frame sent said t =
-        let plain = Each-among (λ (mail : Mail). IsPlainBody (IsBegun scenario rows) frame mail.from mail.to mail.body) sent _ said t.told in
+        let plain = Each-among (λ (mail : Mail). IsPlainBody (IsBegun scenario rows) frame mail.from mail.to mail.body) sent _ said t.taught_slots in
         let reply = plain.1 in
         let who : client.me ≡ reply.client = (let to : client_actor client.me ≡ client_actor reply.client = reply.to_is in omega (arith, to)) in
         let mine : IsBegun scenario rows client.me t.number reply.op = subst (λ c. IsBegun scenario rows c t.number reply.op) (sym who) reply.is_begun in
         let low = begun_low t.number reply.op mine in
         let later = t.later in
         let number : t.number ≡ w.seq = omega (arith, low, later) in
-        (t.answer, final t.answer t.number reply.client reply.op number who t.owes reply.says, subst (λ n. Among (mail_of frame.lead (client_actor client.me) (Answer frame.core.id n t.answer)) sent) number t.told)
+        (t.answer, final t.answer t.number reply.client reply.op number who t.owes reply.says, subst (λ n. Among (mail_of frame.lead (client_actor client.me) (Answer frame.core.id n t.answer)) sent) number t.taught_slots)
       where
         final : (answer : AnswerBody) (number c : ℕ) (op : Op) → number ≡ w.seq → client.me ≡ c → answer_owes answer ≡ 1 → IsPlainAnswer (IsBegun scenario rows) frame c number op answer → IsFinal answer
         final (Value reply) number c op n e owes p = tt

@@ -9,7 +9,7 @@ use Rattle.sc_base.specs.Definitions.{is_member}
 use Rattle.sc_node_table.specs.Definitions.{entered, question, asked_link, ReplicaState, forgotten}
 use Rattle.sc_live_steps.specs.calm.Definitions.{IsCounting, LeadsOn, Ways, asked_owes, body_owes}
 use Rattle.sc_live_steps.specs.orders.Definitions.{is_watch, Asking, turn_of, bond_in}
-use Rattle.sc_live_steps.specs.entries.LoneEntries.{BondsAsk, KeepsMembers}
+use Rattle.sc_live_steps.specs.entries.StageEntries.{BondsAsk, KeepsMembers}
 
 -- ---- what a coordinator asks
 

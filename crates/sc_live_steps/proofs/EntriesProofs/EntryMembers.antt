@@ -48,7 +48,7 @@ module _ (group : Group) where
 
   -- where the members are as they were
   same_members : (c : Command) (made : Group × Effect) → StandsAs made → made.0.core.members ≡ group.core.members → Moves c made
-  same_members c made s m = record { stands = λ _. s; waits = λ _ _. m; keeps = λ _ me is. ap (λ l. is_member l me) m ∙ is }
+  same_members c made s m = record { stands = λ _. s; waits = λ _ _. m; keeps = λ _ me fact. ap (λ l. is_member l me) m ∙ fact }
 
   -- where another group is decided
   decided_so : (c : Command) (made : Group × Effect) → StandsAs made → is_changed made.1 ≡ false → (KeepsAll c → ⊥) → Moves c made
@@ -58,7 +58,7 @@ module _ (group : Group) where
   moves_walk = record {
     same = λ c effect none. same_members c _ refl refl;
     serves = λ client seq op. same_members _ _ refl refl;
-    joins = λ node order a. record { stands = λ _. refl; waits = λ v. absurd v; keeps = λ _ me is. with_kept group.core.members node me is };
+    joins = λ node order a. record { stands = λ _. refl; waits = λ v. absurd v; keeps = λ _ me fact. with_kept group.core.members node me fact };
     leaves = λ node order a. record { stands = λ _. refl; waits = λ v. absurd v; keeps = λ k. absurd k };
     splits = λ at child order a new alone. record { stands = λ _. refl; waits = λ v. absurd v; keeps = λ other. absurd (true≢false (sym alone ∙ other)) };
     begins_split = λ at child order a new other. same_members _ _ refl refl;
@@ -74,10 +74,10 @@ module _ (group : Group) where
     takes = λ tx at order lock frozen by there can. same_members _ _ refl refl;
     migrates = λ tx node order lock frozen by can. decided_so _ _ refl refl (λ k. k);
     stays = λ tx offer lock. same_members _ _ refl refl;
-    goes = λ tx offer lock into. record { stands = λ none. absurd (none tt); waits = λ v. absurd v; keeps = λ _ me is. is };
+    goes = λ tx offer lock into. record { stands = λ none. absurd (none tt); waits = λ v. absurd v; keeps = λ _ me fact. fact };
     gains = λ tx offer lock at gift can. same_members _ _ refl refl;
     loses = λ tx offer lock at can. same_members _ _ refl refl;
-    welcomes = λ tx offer lock node few. record { stands = λ _. refl; waits = λ v. absurd v; keeps = λ _ me is. any_kept group.core.members node me is };
+    welcomes = λ tx offer lock node few. record { stands = λ _. refl; waits = λ v. absurd v; keeps = λ _ me fact. any_kept group.core.members node me fact };
     sees_end = λ tx watch lock outcome. same_members _ _ refl refl;
   }
 

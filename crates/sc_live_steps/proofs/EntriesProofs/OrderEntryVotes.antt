@@ -9,7 +9,7 @@ use Rattle.sc_base.specs.Definitions.{is_member}
 use Rattle.sc_node_table.specs.Definitions.{entered, ReplicaState, next, members, forgotten, at_slot, with_slot, without_slot, before_of}
 use Rattle.sc_words.specs.paxos.Definitions.{without_flight}
 use Rattle.sc_live_steps.specs.calm.Definitions.{IsPaid, LeavesFew, EndsAfter, newcomers, IsCounting, LeadsOn, StopsAfter, readied_at}
-use Rattle.sc_live_steps.specs.entries.LoneEntries.{IsEntry, OrderEntriesCount}
+use Rattle.sc_live_steps.specs.entries.StageEntries.{IsEntry, OrderEntriesCount}
 use Rattle.sc_live_steps.proofs.EntriesProofs.EntryMembers.{join-stands, join-keeps, leave-stands, split-stands, split-keeps, vote-waits, watch-stands, finish-keeps}
 use Rattle.sc_live_steps.proofs.EntriesProofs.CoordinatorQuestions.{leads_on}
 

@@ -50,7 +50,7 @@ module _ (at : Sets) (now after : Progress) (node : ℕ) (taken : Option Dated) 
   -- what holds of the row's node and of each other
   each_node : AreLow (after.next node) (row.left ++ sent node) → ((who : ℕ) → (who ≡ node → ⊥) → AreLow (reached (now.next who) (marks_in (dated who))) (sent who)) → IsAskedLow after dated_after
   each_node own others who = elim (cases_eq who node) [
-    | inl is ↦ subst (λ n. AreLow (after.next n) (dated_after n)) (sym is) (subst (AreLow (after.next node)) (sym row.own) own)
+    | inl fact ↦ subst (λ n. AreLow (after.next n) (dated_after n)) (sym fact) (subst (AreLow (after.next node)) (sym row.own) own)
     | inr ne ↦ subst (λ n. AreLow n (dated_after who)) (sym (row.next who ne)) (subst (AreLow (now.next who)) (sym (row.others who ne)) (low-append (now.next who) (dated who) (sent who) (was who) (others who ne)))
   ]
 
@@ -78,7 +78,7 @@ module _ (at : Sets) (now after : Progress) (node : ℕ) (taken : Option Dated) 
     own_left : AreLow (after.next node) row.left
     own_left = elim (cases_lt 0 l.executed) [
       | inl some ↦ none_low (after.next node) row.left (left_none (asks.own (omega (arith, some))))
-      | inr none ↦ (let same : after.next node ≡ now.next node = (let up = l.newest in let next = l.next in let led = (following.leads l.runs).executed in let is = ap now.next l.mine in omega (arith, none, up, next, led, is)) in
+      | inr none ↦ (let same : after.next node ≡ now.next node = (let up = l.newest in let next = l.next in let led = (following.leads l.runs).executed in let fact = ap now.next l.mine in omega (arith, none, up, next, led, fact)) in
           subst (λ n. AreLow n row.left) (sym same) (left_low taken l.takes own_before))
     ]
 
@@ -106,9 +106,9 @@ slots_are_kept = record {
       (subst (λ n. AreLow n row.left) (reaches ∙ sym e.next) (own_before at now after node (Some taken) sent dated dated_after row was).1)
       (one_low now.course.newest _ (sent node)
       (let within = following.within node in
-      let is = ap (λ l. reached (now.next node) (marks_in l)) row.takes in
+      let fact = ap (λ l. reached (now.next node) (marks_in l)) row.takes in
       let there = ap (λ n. reached n (marks_in row.left)) (reaches ∙ sym e.next) in
-      omega (arith, within, is, there)) (asks node) (e.sends node)))
+      omega (arith, within, fact, there)) (asks node) (e.sends node)))
       (λ who ne. one_low now.course.newest _ (sent who) (following.within who) (asks who) (e.sends who)));
 }
   where
@@ -139,6 +139,6 @@ marks_all name (mail ∷ mails) = by (mark_of name mail.from mail.body) (marks_a
 -- So an acceptor that has forgotten nothing from its next slot on is asked from above what it has forgotten.
 pub prepares_are_known : PreparesAreKnown
 prepares_are_known = record {
-  above = λ now dated node ballot from_slot rest r was is same low. (let least = (subst (AreLow (now.next node)) is (was node)).0 in omega (arith, least, same, low));
+  above = λ now dated node ballot from_slot rest r was fact same low. (let least = (subst (AreLow (now.next node)) fact (was node)).0 in omega (arith, least, same, low));
   same = λ name who mails. marks_all name (filter (λ mail. eqb mail.to who) mails);
 }

@@ -97,7 +97,7 @@ module _ (at : Sets) (course : Course) (command : Command) (r : ReplicaState) (m
       mine = led.mine ∙ sym (entered_keeps command r).3;
       member = ap (is_member (members r)) (entered_keeps command r).3 ∙ led.member;
       was = led.was;
-      is = is_next.is;
+      fact = is_next.fact;
       rosters = (led.roster, is_next.roster);
     }
 
@@ -120,7 +120,7 @@ module _ (at : Sets) (course : Course) (command : Command) (r : ReplicaState) (m
     goes_on : (entered command r).group.core.gone ≡ None → is_member (members (entered command r)) (entered command r).me ≡ true → LeadsPast at course command (r, mails) (over, told.1)
     goes_on stands stays = record {
       sends = tells;
-      state = inl (record { stands = stands; stays = ap (is_member (members (entered command r))) (sym (entered_keeps command r).3) ∙ stays; acts = acts; backlog = backlog; is = over_is });
+      state = inl (record { stands = stands; stays = ap (is_member (members (entered command r))) (sym (entered_keeps command r).3) ∙ stays; acts = acts; backlog = backlog; fact = over_is });
     }
 
     off_is : (hint : Option ℕ) (answer : AnswerBody) → (ended hint answer (over, told.1)).0 ≡ led_off command hint r
@@ -131,7 +131,7 @@ module _ (at : Sets) (course : Course) (command : Command) (r : ReplicaState) (m
         → (hint : Option ℕ) (answer : AnswerBody) → LeadsPast at course command (r, mails) (ended hint answer (over, told.1))
     ends_off why hint answer = record {
       sends = λ who. ended_same (name_of r) who hint answer over told.1 ∙ tells who;
-      state = inr (record { over = own why; hint = hint; is = off_is hint answer });
+      state = inr (record { over = own why; hint = hint; fact = off_is hint answer });
     }
       where
         own : ((into : Route) × ((entered command r).group.core.gone ≡ Some into)) ⊎ (((entered command r).group.core.gone ≡ None) × (is_member (members (entered command r)) (entered command r).me ≡ false))

@@ -6,23 +6,27 @@ use Rattle.sc_node_table.specs.Values.{Ballot}
 use Rattle.sc_node_table.specs.Definitions.{listed}
 use Rattle.sc_words.specs.paxos.Definitions.{IsAtLeast}
 use Rattle.sc_words.proofs.PaxosProofs.Lemmas.{at_least_below, at_least_from_below, at_least_itself, not_both, Each-among, Each-weaker}
-use Rattle.sc_live_steps.specs.following.Definitions.{Mark, Asks, Votes, Tells, Installs, Prepares, Promises, next_by, promise_by, reached, pledged, AreFit, AreAskedFirst, Progress, Sets, members_at, IsOpen, IsKnown, IsFollowing, IsRow, IsLast, Elects}
-use Rattle.sc_live_steps.proofs.FollowingProofs.Marks.{reached-append, pledged-append, fit-append, fit-asks, pledged-most, IsLater}
-use Rattle.sc_live_steps.proofs.FollowingProofs.NodeMarks.{goes, each-row, asked-row}
+use Rattle.sc_live_steps.specs.following.Definitions.{Mark, Asks, Prepares, next_by, promise_by, reached, pledged, AreFit, AreAskedFirst, Progress, Sets, members_at, IsOpen, IsKnown, IsFollowing, IsRow, IsLast, Elects}
+use Rattle.sc_live_steps.proofs.FollowingProofs.Marks.{known_later, reached-append, pledged-append, fit-append, fit-asks, pledged-most, IsLater}
+use Rattle.sc_live_steps.proofs.FollowingProofs.NodeMarks.{GoAsFar, AreAllFit, goes, each-row, promise-row, asked-row}
 use Rattle.sc_live_steps.proofs.FollowingProofs.LeaderRows.{least_in}
 use Rattle.sc_live_steps.proofs.FollowingProofs.LeaderRows.{both_no as true_false}
 
 -- the last entry takes a node to the newest state, and promises nothing
 pub last_next : (newest next : ℕ) (mark : Mark) → IsLast newest mark → next_by next mark ≡ newest
-last_next newest next mark (slot, is, inl tells) = ap (next_by next) tells ∙ is
-last_next newest next mark (slot, is, inr installs) = ap (next_by next) installs ∙ is
+last_next newest next mark (slot, fact, inl tells) = ap (next_by next) tells ∙ fact
+last_next newest next mark (slot, fact, inr installs) = ap (next_by next) installs ∙ fact
 
 pub last_promise : (newest : ℕ) (promise : Ballot) (mark : Mark) → IsLast newest mark → promise_by promise mark ≡ promise
-last_promise newest promise mark (slot, is, inl tells) = ap (promise_by promise) tells
-last_promise newest promise mark (slot, is, inr installs) = ap (promise_by promise) installs
+last_promise newest promise mark (slot, fact, inl tells) = ap (promise_by promise) tells
+last_promise newest promise mark (slot, fact, inr installs) = ap (promise_by promise) installs
 
 none_some : {X : Type 0} {o : Option X} {x : X} → o ≡ None → o ≡ Some x → ⊥
 none_some e f = cc
+
+-- what is sent at an election is the ballot's Prepare, or nothing
+pub elects-each : (at : Sets) (now after : Progress) (node : ℕ) (taken : Option Mark) (sent : ℕ → List Mark) → Elects at now after node taken sent → (P : Mark → Type 0) → P (Prepares after.course.ballot) → (who : ℕ) → Each P (sent who)
+elects-each at now after node taken sent e P p who = elim (e.sends who) [ inl none ↦ subst (Each P) (sym none) tt | inr one ↦ subst (Each P) (sym one.1) (p, tt) ]
 
 module _ (at : Sets) (now after : Progress) (node : ℕ) (taken : Option Mark) (sent marks marks_after : ℕ → List Mark) (rosters : (slot : ℕ) → IsRoster (at slot))
     (row : IsRow now after node taken sent marks marks_after) (e : Elects at now after node taken sent) (was : IsFollowing at now marks) where
@@ -74,7 +78,7 @@ module _ (at : Sets) (now after : Progress) (node : ℕ) (taken : Option Mark) (
 
   left_of : (who : ℕ) → (left : List Mark) × IsLeft who left
   left_of who = elim (cases_eq who node) [
-    | inl is ↦ (row.left, subst (λ n. IsLeft n row.left) (sym is) (record { mail = row.own; in_time = own_fit; reaches = own_reached; pledges = own_pledged }))
+    | inl fact ↦ (row.left, subst (λ n. IsLeft n row.left) (sym fact) (record { mail = row.own; in_time = own_fit; reaches = own_reached; pledges = own_pledged }))
     | inr ne ↦ (
       marks who,
       record {
@@ -95,18 +99,15 @@ module _ (at : Sets) (now after : Progress) (node : ℕ) (taken : Option Mark) (
     | inr one ↦ subst (AreFit next promise) (sym one.1) ((some one.0, later promise least), tt)
   ]
 
-  sent_each : (P : Mark → Type 0) → P (Prepares ballot) → (who : ℕ) → Each P (sent who)
-  sent_each P p who = elim (e.sends who) [ inl none ↦ subst (Each P) (sym none) tt | inr one ↦ subst (Each P) (sym one.1) (p, tt) ]
-
   sent_first : (who : ℕ) → AreAskedFirst (sent who)
   sent_first who = elim (e.sends who) [ inl none ↦ subst AreAskedFirst (sym none) tt | inr one ↦ subst AreAskedFirst (sym one.1) tt ]
 
-  reached_after : (who : ℕ) → reached (after.next who) (marks_after who) ≡ reached (now.next who) (marks who)
+  reached_after : GoAsFar now.next after.next marks marks_after
   reached_after who =
       let left = left_of who in
       ap (reached (after.next who)) left.1.mail ∙ (reached-append (after.next who) left.0 (sent who) ∙ (sent_reached who (reached (after.next who) left.0) ∙ left.1.reaches))
 
-  fit_after : (who : ℕ) → AreFit (after.next who) (after.promise who) (marks_after who)
+  fit_after : AreAllFit after marks_after
   fit_after who =
       let left = left_of who in
       subst (AreFit (after.next who) (after.promise who)) (sym left.1.mail)
@@ -119,21 +120,10 @@ module _ (at : Sets) (now after : Progress) (node : ℕ) (taken : Option Mark) (
       let left = left_of who in
       ap (pledged (after.promise who)) left.1.mail ∙ (pledged-append (after.promise who) left.0 (sent who) ∙ ap (pledged (pledged (after.promise who) left.0)) (e.asks who o))
 
-  promise_same : (who : ℕ) → after.promise who ≡ now.promise who
-  promise_same who = elim (cases_eq who node) [ inl is ↦ ap after.promise is ∙ (e.promise ∙ ap now.promise (sym is)) | inr ne ↦ row.promise who ne ]
-
-  known_more : (mark : Mark) → IsKnown now.course mark → IsKnown after.course mark
-  known_more (Asks b slot) k = subst (λ n. slot < n) (sym e.bound) k
-  known_more (Votes n b slot) k = subst (λ n. slot < n) (sym e.bound) k
-  known_more (Tells slot) k = tt
-  known_more (Installs slot) k = tt
-  known_more (Prepares b) k = later b k
-  known_more (Promises n b) k = tt
-
   known_after : (who : ℕ) → Each (IsKnown after.course) (marks_after who)
   known_after who =
-      each-row now after node taken sent marks marks_after row (IsKnown after.course) who (Each-weaker (IsKnown now.course) (IsKnown after.course) known_more (marks who) (was.known who))
-      (sent_each (IsKnown after.course) (at_least_itself ballot) who)
+      each-row now after node taken sent marks marks_after row (IsKnown after.course) who (Each-weaker (IsKnown now.course) (IsKnown after.course) (known_later now.course after.course (λ slot low. subst (λ n. slot < n) (sym e.bound) low) later) (marks who) (was.known who))
+      (elects-each at now after node taken sent e (IsKnown after.course) (at_least_itself ballot) who)
 
   -- nothing is asked for that is not executed
   nothing_asked : (b : Ballot) (slot : ℕ) → Among (Asks b slot) (marks_after node) → ⊥
@@ -149,21 +139,21 @@ module _ (at : Sets) (now after : Progress) (node : ℕ) (taken : Option Mark) (
   self_election-keeps = record {
     fits = fit_after;
     within = λ who. subst (λ n. n ≤ after.course.newest) (sym (reached_after who)) (subst (λ n. reached (now.next who) (marks who) ≤ n) (sym e.newest) (was.within who));
-    members = λ who is. reached_after who ∙ (was.members who (subst (λ n. is_member (members_at at n) who ≡ true) e.newest is) ∙ sym e.newest);
+    members = λ who fact. reached_after who ∙ (was.members who (subst (λ n. is_member (members_at at n) who ≡ true) e.newest fact) ∙ sym e.newest);
     ready = λ who o. (let old = subst (λ n. IsOpen at n who) e.newest o in
         record { replica = subst (λ n. 1 ≤ n) (sym (reached_after who)) (was.ready who old).replica; promised = pledged_after who old });
     some = subst (λ n. 1 ≤ n) (sym e.newest) was.some;
     low = (let low = was.low in let n = e.newest in let b = e.bound in omega (arith, low, n, b));
     high = (let high = was.high in let n = e.newest in let b = e.bound in omega (arith, high, n, b));
     known = known_after;
-    promised = λ who. later (after.promise who) (subst (IsAtLeast now.course.ballot) (sym (promise_same who)) (was.promised who));
+    promised = λ who. later (after.promise who) (subst (IsAtLeast now.course.ballot) (sym (promise-row now after node taken sent marks marks_after row e.promise who)) (was.promised who));
     first = λ f who. absurd (true_false f e.first);
-    asked = λ who. asked-row now after node taken sent marks marks_after row who (was.asked who) (was.known who) (sent_each (IsLater now.course.bound) tt who) (sent_first who);
+    asked = λ who. asked-row now after node taken sent marks marks_after row who (was.asked who) (was.known who) (elects-each at now after node taken sent e (IsLater now.course.bound) tt who) (sent_first who);
     undone = λ r b slot a. absurd (nothing_asked b slot (subst (λ n. Among (Asks b slot) (marks_after n)) e.mine a));
     flying = λ slot voters v. absurd (none_some (e.voters slot) v);
-    votes = λ slot voters v who is. absurd (none_some (e.voters slot) v);
+    votes = λ slot voters v who fact. absurd (none_some (e.voters slot) v);
     promises = λ r f who o. inl (goes now after node taken sent marks marks_after row who (Prepares ballot) (subst (Among (Prepares ballot)) (sym (e.asks who (subst (λ n. IsOpen at n who) e.newest o))) (inl refl)));
-    pledges = λ r f who same. absurd (never (now.promise who) (was.promised who) (sym (promise_same who) ∙ same));
+    pledges = λ r f who same. absurd (never (now.promise who) (was.promised who) (sym (promise-row now after node taken sent marks marks_after row e.promise who) ∙ same));
     leads = λ r. record {
       executed = ap after.next e.mine ∙ (e.next ∙ sym e.newest);
       member = subst (λ n. is_member (members_at at after.course.newest) n ≡ true) (sym e.mine) (subst (λ n. is_member (members_at at n) node ≡ true) (sym e.newest) member);

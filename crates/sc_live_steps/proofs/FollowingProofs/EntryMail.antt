@@ -8,7 +8,7 @@ use Rattle.sc_group_table.specs.machine.Definitions.{base_of}
 use Rattle.sc_base.specs.Definitions.{is_member}
 use Rattle.sc_base.proofs.Lemmas.{AllPairs-head, AllPairs-tail}
 use Rattle.sc_node_table.specs.Definitions.{learnt_to, welcomed, install_to, welcomed_all, sent, sent_others, ReplicaState, Place, name_of, next, members}
-use Rattle.sc_live_steps.specs.following.Definitions.{Mark, Tells, Installs, Prepares, mark_of, Course, Sets, members_at, marks_for, IsLeader, EntriesReport, welcome, reported_of}
+use Rattle.sc_live_steps.specs.following.Definitions.{Mark, Teaches, Installs, Prepares, mark_of, Course, Sets, members_at, marks_for, IsLeader, EntriesReport, welcome, reported_of}
 use Rattle.sc_live_steps.proofs.FollowingProofs.LeastMembers.{append_one, pushed}
 use Rattle.sc_live_steps.proofs.FollowingProofs.MailTables.{same_mark}
 use Rattle.sc_law_walks.proofs.Lemmas.{none_below}
@@ -25,8 +25,8 @@ once marks who [] up = refl
 once marks who (node ∷ nodes) up =
     let rest = once marks who nodes (AllPairs-tail (λ x y. x < y) node nodes up) in
     elim (cases_eq node who) [
-      | inl is ↦ (let t = eq-eqb node who is in
-          let none : is_member nodes who ≡ false = ap (is_member nodes) (sym is) ∙ none_below node nodes (AllPairs-head (λ x y. x < y) node nodes up) in
+      | inl fact ↦ (let t = eq-eqb node who fact in
+          let none : is_member nodes who ≡ false = ap (is_member nodes) (sym fact) ∙ none_below node nodes (AllPairs-head (λ x y. x < y) node nodes up) in
           ap (λ b. cond b marks [] ++ blocks marks who nodes) t
           ∙ (ap (λ l. marks ++ l) (rest ∙ ap (λ b. cond b marks []) none)
           ∙ (append-nil marks ∙ sym (cond-true (eqb node who || is_member nodes who) marks [] (or_left (eqb node who) (is_member nodes who) t)))))
@@ -49,7 +49,7 @@ fails p who f (x ∷ xs) =
 
 -- ---- what is sent to all but the sender
 
-module _ (name : Draw) (who me : ℕ) (body : MailBody) (mark : Mark) (is : mark_of name me body ≡ Some mark) where
+module _ (name : Draw) (who me : ℕ) (body : MailBody) (mark : Mark) (fact : mark_of name me body ≡ Some mark) where
   others_marks : (who ≡ me → ⊥) → (nodes : List ℕ) (mails : List Mail) → marks_for name who (sent_others me nodes body mails) ≡ marks_for name who mails ++ blocks (mark ∷ []) who nodes
   unfolding sent_others
   others_marks apart [] mails = sym (append-nil (marks_for name who mails))
@@ -57,7 +57,7 @@ module _ (name : Draw) (who me : ℕ) (body : MailBody) (mark : Mark) (is : mark
       cond_both (eqb node me) mails (sent me node body mails) (λ l. marks_for name who (sent_others me nodes body l) ≡ marks_for name who mails ++ (cond (eqb node who) (mark ∷ []) [] ++ blocks (mark ∷ []) who nodes))
       (λ t. others_marks apart nodes mails ∙ ap (λ b. marks_for name who mails ++ (cond b (mark ∷ []) [] ++ blocks (mark ∷ []) who nodes)) (sym (ne_eqb node who (λ e. apart (sym e ∙ eqb-true node me t)))))
       (λ _. others_marks apart nodes (sent me node body mails)
-      ∙ (ap (λ l. l ++ blocks (mark ∷ []) who nodes) (pushed name who mails me node body mark is) ∙ append_one (marks_for name who mails) (cond (eqb node who) (mark ∷ []) []) (blocks (mark ∷ []) who nodes)))
+      ∙ (ap (λ l. l ++ blocks (mark ∷ []) who nodes) (pushed name who mails me node body mark fact) ∙ append_one (marks_for name who mails) (cond (eqb node who) (mark ∷ []) []) (blocks (mark ∷ []) who nodes)))
 
   own_marks : who ≡ me → (nodes : List ℕ) (mails : List Mail) → marks_for name who (sent_others me nodes body mails) ≡ marks_for name who mails
   unfolding sent_others
@@ -65,7 +65,7 @@ module _ (name : Draw) (who me : ℕ) (body : MailBody) (mark : Mark) (is : mark
   own_marks own (node ∷ nodes) mails =
       cond_both (eqb node me) mails (sent me node body mails) (λ l. marks_for name who (sent_others me nodes body l) ≡ marks_for name who mails) (λ _. own_marks own nodes mails)
       (λ f. own_marks own nodes (sent me node body mails)
-      ∙ (pushed name who mails me node body mark is
+      ∙ (pushed name who mails me node body mark fact
       ∙ (ap (λ b. marks_for name who mails ++ cond b (mark ∷ []) []) (ne_eqb node who (λ e. true≢false (sym (eq-eqb node me (e ∙ own)) ∙ f))) ∙ append-nil (marks_for name who mails))))
 
 -- ---- those that come
@@ -143,31 +143,31 @@ module _ (at : Sets) (course : Course) (before : List ℕ) (slot : ℕ) (command
       ∙ (append_one old told (blocks (welcome_of r) who newcomers) ∙ (ap (λ l. old ++ (told ++ l)) new_marks ∙ ap (λ l. old ++ l) both)))
 
   abbrev told_member : List Mark
-  told_member = cond (is_member (members_at at slot) who) (Tells slot ∷ []) (cond (is_member (members_at at (slot + 1)) who) (welcome course slot) [])
+  told_member = cond (is_member (members_at at slot) who) (Teaches slot ∷ []) (cond (is_member (members_at at (slot + 1)) who) (welcome course slot) [])
 
   own : who ≡ r.me → [] ++ cond (is_member newcomers who) (welcome course slot) [] ≡ reported_of at course slot who
-  own is =
-      ap (λ b. cond b (welcome course slot) []) (fails (λ node. not (is_member before node)) who (not_from_true (is_member before who) (ap (is_member before) is ∙ l.member)) (members r))
-      ∙ sym (cond-true (eqb who course.ballot.node) [] told_member (eq-eqb who course.ballot.node (is ∙ sym l.mine)))
+  own fact =
+      ap (λ b. cond b (welcome course slot) []) (fails (λ node. not (is_member before node)) who (not_from_true (is_member before who) (ap (is_member before) fact ∙ l.member)) (members r))
+      ∙ sym (cond-true (eqb who course.ballot.node) [] told_member (eq-eqb who course.ballot.node (fact ∙ sym l.mine)))
 
-  other : (who ≡ r.me → ⊥) → cond (is_member before who) (Tells slot ∷ []) [] ++ cond (is_member newcomers who) (welcome course slot) [] ≡ reported_of at course slot who
+  other : (who ≡ r.me → ⊥) → cond (is_member before who) (Teaches slot ∷ []) [] ++ cond (is_member newcomers who) (welcome course slot) [] ≡ reported_of at course slot who
   other apart =
       elim (cases_Bool (is_member before who)) [
-        | inl t ↦ ap (λ b. cond b (Tells slot ∷ []) [] ++ cond (is_member newcomers who) (welcome course slot) []) t
-            ∙ (ap (λ b. Tells slot ∷ cond b (welcome course slot) []) (fails (λ node. not (is_member before node)) who (not_from_true (is_member before who) t) (members r))
-            ∙ sym (cond-true (is_member (members_at at slot) who) (Tells slot ∷ []) (cond (is_member (members_at at (slot + 1)) who) (welcome course slot) []) (ap (λ m. is_member m who) l.was ∙ t)))
-        | inr f ↦ ap (λ b. cond b (Tells slot ∷ []) [] ++ cond (is_member newcomers who) (welcome course slot) []) f
-            ∙ (ap (λ b. cond b (welcome course slot) []) (passes (λ node. not (is_member before node)) who (not_from_false (is_member before who) f) (members r) ∙ ap (λ m. is_member m who) (sym l.is))
-            ∙ sym (cond-false (is_member (members_at at slot) who) (Tells slot ∷ []) (cond (is_member (members_at at (slot + 1)) who) (welcome course slot) []) (ap (λ m. is_member m who) l.was ∙ f)))
+        | inl t ↦ ap (λ b. cond b (Teaches slot ∷ []) [] ++ cond (is_member newcomers who) (welcome course slot) []) t
+            ∙ (ap (λ b. Teaches slot ∷ cond b (welcome course slot) []) (fails (λ node. not (is_member before node)) who (not_from_true (is_member before who) t) (members r))
+            ∙ sym (cond-true (is_member (members_at at slot) who) (Teaches slot ∷ []) (cond (is_member (members_at at (slot + 1)) who) (welcome course slot) []) (ap (λ m. is_member m who) l.was ∙ t)))
+        | inr f ↦ ap (λ b. cond b (Teaches slot ∷ []) [] ++ cond (is_member newcomers who) (welcome course slot) []) f
+            ∙ (ap (λ b. cond b (welcome course slot) []) (passes (λ node. not (is_member before node)) who (not_from_false (is_member before who) f) (members r) ∙ ap (λ m. is_member m who) (sym l.fact))
+            ∙ sym (cond-false (is_member (members_at at slot) who) (Teaches slot ∷ []) (cond (is_member (members_at at (slot + 1)) who) (welcome course slot) []) (ap (λ m. is_member m who) l.was ∙ f)))
       ]
       ∙ sym (cond-false (eqb who course.ballot.node) [] told_member (ne_eqb who course.ballot.node (λ e. apart (e ∙ l.mine))))
 
   pub tells : marks_for (name_of r) who (welcomed true before (learnt_to true before slot command (r, mails))).1 ≡ old ++ reported_of at course slot who
   unfolding welcomed learnt_to
   tells = elim (cases_eq who r.me) [
-    | inl is ↦ sent_is [] (own_marks (name_of r) who r.me (Learn (name_of r) slot command) (Tells slot) (same_mark (name_of r) (Tells slot)) is before mails ∙ sym (append-nil old)) (own is)
-    | inr ne ↦ sent_is (cond (is_member before who) (Tells slot ∷ []) [])
-        (others_marks (name_of r) who r.me (Learn (name_of r) slot command) (Tells slot) (same_mark (name_of r) (Tells slot)) ne before mails ∙ ap (λ l. old ++ l) (once (Tells slot ∷ []) who before (AllPairs-from_increasing before l.rosters.0.ascending)))
+    | inl fact ↦ sent_is [] (own_marks (name_of r) who r.me (Learn (name_of r) slot command) (Teaches slot) (same_mark (name_of r) (Teaches slot)) fact before mails ∙ sym (append-nil old)) (own fact)
+    | inr ne ↦ sent_is (cond (is_member before who) (Teaches slot ∷ []) [])
+        (others_marks (name_of r) who r.me (Learn (name_of r) slot command) (Teaches slot) (same_mark (name_of r) (Teaches slot)) ne before mails ∙ ap (λ l. old ++ l) (once (Teaches slot ∷ []) who before (AllPairs-from_increasing before l.rosters.0.ascending)))
         (other ne)
   ]
 

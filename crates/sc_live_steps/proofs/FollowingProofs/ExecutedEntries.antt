@@ -2,14 +2,14 @@
 use Rattle.std.proofs.Common.{◌≡◌, ℕ, suc, ◌+◌, ◌<◌, ◌≤◌, ◌&&◌, eqb, Bool, true, false, true≢false, cond, List, [], ◌∷◌, ◌++◌, length, Option, Some, None, ◌⊎◌, inl, inr, refl, sym, ◌∙◌, ap, subst, arith, append-nil}
 use Rattle.std.specs.Prelude.{is_some}
 use Rattle.std.specs.Option.{option_map}
-use Rattle.std.proofs.lemmas.Bool.{cases_eq, cases_lt}
+use Rattle.std.proofs.lemmas.Bool.{cond_both, cases_eq, cases_lt}
 use Rattle.sc_base.specs.Definitions.{Each, is_member}
 use Rattle.sc_node_table.specs.Values.{Command, Route, Flight}
 use Rattle.sc_words.specs.paxos.Definitions.{flight_at, without_flight}
 use Rattle.sc_words.proofs.PaxosProofs.Lemmas.{Each-append, Each-weaker}
 use Rattle.sc_node_table.specs.Definitions.{entered, executed_one, next_child, has_room, next_ready, ending, executed_ready, executed, pumped, ReplicaState, Place, Executed, childless, name_of, next, members, forgotten, either, taken_at, flying, rest_of, at_slot, without_slot, slots_ahead}
 use Rattle.sc_law_walks.specs.Definitions.{IfThere}
-use Rattle.sc_live_steps.specs.following.Definitions.{Mark, Asks, Course, Sets, members_at, IsLed, IsNext, led_on, IsOn, IsOff, LeadsPast, AreNext, FliesOn, IsStill, IsStopped, LeadsBy, ExecutionsLead, marks_for, AreAt, MayOffer, IsBegun, to_bound, OffersBy, IsOffer, reported_of, told_from}
+use Rattle.sc_live_steps.specs.following.Definitions.{Mark, Asks, Course, Sets, members_at, IsLed, IsNext, led_on, IsOn, IsOff, LeadsPast, AreNext, FliesOn, IsStill, IsStopped, LeadsBy, ExecutionsLead, marks_for, AreAt, MayOffer, IsBegun, to_bound, OffersBy, IsOffer, reported_of, taught_from}
 use Rattle.sc_live_steps.proofs.FollowingProofs.CountedEntries.{entered_keeps, entries_lead}
 use Rattle.sc_live_steps.proofs.FollowingProofs.LeastMembers.{append_one}
 use Rattle.sc_live_steps.proofs.FollowingProofs.FlightSlots.{flight_out, slot_out}
@@ -56,13 +56,13 @@ module _ (at : Sets) (course : Course) (command : Command) (r : ReplicaState) (l
     first = led.first;
     mine = led.mine ∙ sym (entered_keeps command r).3;
     member = ap (is_member (members (entered command r))) (entered_keeps command r).3 ∙ stays;
-    was = ap (members_at at) (entered_next command r) ∙ is_next.is;
+    was = ap (members_at at) (entered_next command r) ∙ is_next.fact;
     ahead = ap length (entered_sets command r) ∙ still_four r.sets (members (entered command r)) led.ahead;
     roster = is_next.roster;
     may = record {
       ballot = led.may.ballot;
       sets = subst (λ n. AreAt at n (entered command r).sets) (sym (entered_next command r)) (subst (AreAt at (next r + 1)) (sym (entered_sets command r))
-          (are_next at (next r) r.sets (members (entered command r)) led.may.sets led.ahead (ap at (omega arith) ∙ is_next.is)));
+          (are_next at (next r) r.sets (members (entered command r)) led.may.sets led.ahead (ap at (omega arith) ∙ is_next.fact)));
       low = (let up = entered_next command r in let lt = below_bound in omega (arith, up, lt));
       high = (let up = entered_next command r in let h = led.may.high in let len = ap length (entered_sets command r) ∙ still_four r.sets (members (entered command r)) led.ahead in let was = led.ahead in omega (arith, up, h, len, was));
       taken = λ s least most. ap is_some (same s (apart s least)) ∙ led.may.taken s (let up = entered_next command r in omega (arith, up, least)) most;
@@ -77,6 +77,16 @@ module _ (at : Sets) (course : Course) (command : Command) (r : ReplicaState) (l
       same s ne =
           ap (λ (o : Option (Flight Command)). either (option_map (λ flight. flight.value) o) (at_slot (without_slot r.ready (next r)) s)) (flight_out (next r) s r.leader.flights ne)
           ∙ ap (λ o. either (flying r s) o) (slot_out (next r) s r.ready ne)
+
+  pub on_leads : (after : ReplicaState) → IsOn command r after → IsLed at course after
+  on_leads after on = subst (IsLed at course) (sym on.fact) (stays_led on.acts on.backlog on.stands on.stays)
+
+-- where it leads on, it is one entry further, and what is ready behind that one is so still
+pub on_next : (command : Command) (r after : ReplicaState) → IsOn command r after → next after ≡ next r + 1
+on_next command r after on = ap next on.fact ∙ entered_next command r
+
+pub on_ready : (command : Command) (r after : ReplicaState) → IsOn command r after → (slot : ℕ) → (slot ≡ next r → ⊥) → at_slot after.ready slot ≡ at_slot r.ready slot
+on_ready command r after on slot ne = ap (λ (q : ReplicaState). at_slot q.ready slot) on.fact ∙ slot_out (next r) slot r.ready ne
 
 -- ---- nothing is executed
 
@@ -140,23 +150,23 @@ module _ (at : Sets) (course : Course) (place mid : Place) (b : LeadsBy at cours
   pumped_on after still o = record {
     executed = b.executed;
     within = b.within;
-    reaches = ap (λ (q : ReplicaState). next q) o.is ∙ b.reaches;
-    me = ap (λ (q : ReplicaState). q.me) o.is ∙ b.me;
-    named = ap (λ (q : ReplicaState). name_of q) o.is ∙ b.named;
-    promise = ap (λ (q : ReplicaState). q.acceptor.promised) o.is ∙ b.promise;
-    was = subst (λ (q : ReplicaState). members_at at (next q) ≡ members q) (sym o.is) b.was;
-    stayed = λ slot least most. b.stayed slot least (let same = ap (λ (q : ReplicaState). next q) o.is in omega (arith, most, same));
-    drawn = λ slot least most. b.drawn slot least (let same = ap (λ (q : ReplicaState). next q) o.is in omega (arith, most, same));
-    ready = λ on slot least. ap (λ (q : ReplicaState). at_slot q.ready slot) o.is
-        ∙ b.ready (sym (ap (λ (q : ReplicaState). q.running) o.is) ∙ on) slot (let same = ap (λ (q : ReplicaState). next q) o.is in omega (arith, least, same));
+    reaches = ap (λ (q : ReplicaState). next q) o.fact ∙ b.reaches;
+    me = ap (λ (q : ReplicaState). q.me) o.fact ∙ b.me;
+    named = ap (λ (q : ReplicaState). name_of q) o.fact ∙ b.named;
+    promise = ap (λ (q : ReplicaState). q.acceptor.promised) o.fact ∙ b.promise;
+    was = subst (λ (q : ReplicaState). members_at at (next q) ≡ members q) (sym o.fact) b.was;
+    stayed = λ slot least most. b.stayed slot least (let same = ap (λ (q : ReplicaState). next q) o.fact in omega (arith, most, same));
+    drawn = λ slot least most. b.drawn slot least (let same = ap (λ (q : ReplicaState). next q) o.fact in omega (arith, most, same));
+    ready = λ on slot least. ap (λ (q : ReplicaState). at_slot q.ready slot) o.fact
+        ∙ b.ready (sym (ap (λ (q : ReplicaState). q.running) o.fact) ∙ on) slot (let same = ap (λ (q : ReplicaState). next q) o.fact in omega (arith, least, same));
     bound = o.bound;
     up = (let u = b.up in let v = o.up in omega (arith, u, v));
     offers = more_offers after o;
     sends = λ who.
         subst (λ n. marks_for n who after.1 ≡ marks_for n who mid.1 ++ o.offers who) b.named (o.sends who)
         ∙ (ap (λ l. l ++ o.offers who) (b.sends who)
-        ∙ (append_one (marks_for (name_of place.0) who place.1) (told_from at course (next place.0) b.executed who ++ b.offers who) (o.offers who)
-        ∙ ap (λ l. marks_for (name_of place.0) who place.1 ++ l) (append_one (told_from at course (next place.0) b.executed who) (b.offers who) (o.offers who))));
+        ∙ (append_one (marks_for (name_of place.0) who place.1) (taught_from at course (next place.0) b.executed who ++ b.offers who) (o.offers who)
+        ∙ ap (λ l. marks_for (name_of place.0) who place.1 ++ l) (append_one (taught_from at course (next place.0) b.executed who) (b.offers who) (o.offers who))));
     asks = λ who. Each-append (IsOffer at (to_bound o.bound course) course.bound who) (b.offers who) (o.offers who)
         (Each-weaker (IsOffer at (to_bound b.bound course) course.bound who) (IsOffer at (to_bound o.bound course) course.bound who) (wider at course course.bound course.bound b.bound o.bound who (omega arith) o.up) (b.offers who) (b.asks who))
         (Each-weaker (IsOffer at (to_bound o.bound course) b.bound who) (IsOffer at (to_bound o.bound course) course.bound who) (wider at course b.bound course.bound o.bound o.bound who b.up (omega arith)) (o.offers who) (o.asks who));
@@ -164,7 +174,7 @@ module _ (at : Sets) (course : Course) (place mid : Place) (b : LeadsBy at cours
       | inl lt ↦ among-left (Asks course.ballot slot) (b.offers node) (o.offers node) (b.asked slot node least lt mine)
       | inr ge ↦ among-right (Asks course.ballot slot) (b.offers node) (o.offers node) (o.asked slot node ge most mine)
     ];
-    state = inl (subst (IsStill at course o.bound place.0) (sym o.is) (record { led = led_then; promisers = still.promisers; flies = flies_then }));
+    state = inl (subst (IsStill at course o.bound place.0) (sym o.fact) (record { led = led_then; promisers = still.promisers; flies = flies_then }));
   }
     where
       led_then : IsLed at (to_bound o.bound course) (record mid.0 { leader = record mid.0.leader { flights = mid.0.leader.flights ++ o.begun }; acts = o.acts; backlog = o.backlog })
@@ -177,7 +187,7 @@ module _ (at : Sets) (course : Course) (place mid : Place) (b : LeadsBy at cours
         was = still.led.was;
         ahead = still.led.ahead;
         roster = still.led.roster;
-        may = subst (MayOffer at (to_bound o.bound course)) o.is o.goes_on;
+        may = subst (MayOffer at (to_bound o.bound course)) o.fact o.goes_on;
       }
 
       flies_then : FliesOn course.bound o.bound (next mid.0) place.0.leader.flights (mid.0.leader.flights ++ o.begun)
@@ -205,20 +215,20 @@ module _ (at : Sets) (course : Course) (command : Command) (place mid : Place) (
     (past : LeadsPast at course command place mid) where
   name_mid : name_of mid.0 ≡ name_of place.0
   name_mid = elim (past.state) [
-    | inl on ↦ ap name_of on.is ∙ is_next.named
-    | inr off ↦ ap name_of off.is ∙ is_next.named
+    | inl on ↦ ap name_of on.fact ∙ is_next.named
+    | inr off ↦ ap name_of off.fact ∙ is_next.named
   ]
 
   next_mid : next mid.0 ≡ next place.0 + 1
   next_mid = elim (past.state) [
-    | inl on ↦ ap next on.is ∙ entered_next command place.0
-    | inr off ↦ ap next off.is ∙ entered_next command place.0
+    | inl on ↦ ap next on.fact ∙ entered_next command place.0
+    | inr off ↦ ap next off.fact ∙ entered_next command place.0
   ]
 
   me_mid : mid.0.me ≡ place.0.me
   me_mid = elim (past.state) [
-    | inl on ↦ ap (λ (q : ReplicaState). q.me) on.is ∙ (entered_keeps command place.0).3
-    | inr off ↦ ap (λ (q : ReplicaState). q.me) off.is ∙ (entered_keeps command place.0).3
+    | inl on ↦ ap (λ (q : ReplicaState). q.me) on.fact ∙ (entered_keeps command place.0).3
+    | inr off ↦ ap (λ (q : ReplicaState). q.me) off.fact ∙ (entered_keeps command place.0).3
   ]
 
   -- the entry of the next slot was ready
@@ -227,8 +237,8 @@ module _ (at : Sets) (course : Course) (command : Command) (place mid : Place) (
 
   promise_mid : mid.0.acceptor.promised ≡ place.0.acceptor.promised
   promise_mid = elim (past.state) [
-    | inl on ↦ ap (λ (q : ReplicaState). q.acceptor.promised) on.is ∙ entered_promise command place.0
-    | inr off ↦ ap (λ (q : ReplicaState). q.acceptor.promised) off.is ∙ entered_promise command place.0
+    | inl on ↦ ap (λ (q : ReplicaState). q.acceptor.promised) on.fact ∙ entered_promise command place.0
+    | inr off ↦ ap (λ (q : ReplicaState). q.acceptor.promised) off.fact ∙ entered_promise command place.0
   ]
 
   -- what follows where it leads on
@@ -242,14 +252,14 @@ module _ (at : Sets) (course : Course) (command : Command) (place mid : Place) (
     promise = b.promise ∙ promise_mid;
     was = b.was;
     stayed = λ slot least most. elim (cases_eq slot (next place.0)) [
-      | inl e ↦ ap (λ s. is_member (members_at at (s + 1)) place.0.me) e ∙ (ap (λ l. is_member l place.0.me) is_next.is ∙ on.stays)
+      | inl e ↦ ap (λ s. is_member (members_at at (s + 1)) place.0.me) e ∙ (ap (λ l. is_member l place.0.me) is_next.fact ∙ on.stays)
       | inr ne ↦ ap (is_member (members_at at (slot + 1))) (sym me_mid) ∙ b.stayed slot (past_next slot least ne) most
     ];
     drawn = λ slot least most. elim (cases_eq slot (next place.0)) [
       | inl e ↦ drawn_one slot e
-      | inr ne ↦ ap is_some (sym (ready_same slot ne)) ∙ b.drawn slot (past_next slot least ne) most
+      | inr ne ↦ ap is_some (sym (on_ready command place.0 mid.0 on slot ne)) ∙ b.drawn slot (past_next slot least ne) most
     ];
-    ready = λ goes slot least. b.ready goes slot least ∙ ready_same slot (λ e. (let up = b.reaches in let n = next_mid in omega (arith, least, up, n, e)));
+    ready = λ goes slot least. b.ready goes slot least ∙ on_ready command place.0 mid.0 on slot (λ e. (let up = b.reaches in let n = next_mid in omega (arith, least, up, n, e)));
     bound = b.bound;
     up = b.up;
     offers = b.offers;
@@ -257,29 +267,26 @@ module _ (at : Sets) (course : Course) (command : Command) (place mid : Place) (
     asks = b.asks;
     asked = b.asked;
     state = elim (b.state) [
-      | inl still ↦ inl (record { led = still.led; promisers = still.promisers ∙ ap (λ (q : ReplicaState). q.leader.promisers) on.is; flies = flies_then still.led still.flies })
+      | inl still ↦ inl (record { led = still.led; promisers = still.promisers ∙ ap (λ (q : ReplicaState). q.leader.promisers) on.fact; flies = flies_then still.led still.flies })
       | inr stopped ↦ inr (stopped.0, omega arith, stopped.2)
     ];
   }
     where
-      ready_same : (slot : ℕ) → (slot ≡ next place.0 → ⊥) → at_slot mid.0.ready slot ≡ at_slot place.0.ready slot
-      ready_same slot ne = ap (λ (q : ReplicaState). at_slot q.ready slot) on.is ∙ slot_out (next place.0) slot place.0.ready ne
-
       past_next : (slot : ℕ) → next place.0 ≤ slot → (slot ≡ next place.0 → ⊥) → next mid.0 ≤ slot
       past_next slot least ne = elim (cases_lt (next place.0) slot) [ inl lt ↦ (let n = next_mid in omega (arith, n, lt)) | inr ge ↦ absurd (ne (omega (arith, least, ge))) ]
 
-      sends_then : (who : ℕ) → marks_for (name_of place.0) who after.1 ≡ marks_for (name_of place.0) who place.1 ++ ((reported_of at course (next place.0) who ++ told_from at course (next place.0 + 1) b.executed who) ++ b.offers who)
+      sends_then : (who : ℕ) → marks_for (name_of place.0) who after.1 ≡ marks_for (name_of place.0) who place.1 ++ ((reported_of at course (next place.0) who ++ taught_from at course (next place.0 + 1) b.executed who) ++ b.offers who)
       sends_then who =
           let old = marks_for (name_of place.0) who place.1 in
           let one = reported_of at course (next place.0) who in
-          let rest = told_from at course (next place.0 + 1) b.executed who in
-          subst (λ n. marks_for n who after.1 ≡ marks_for n who mid.1 ++ (told_from at course (next mid.0) b.executed who ++ b.offers who)) name_mid (b.sends who)
-          ∙ (ap (λ n. marks_for (name_of place.0) who mid.1 ++ (told_from at course n b.executed who ++ b.offers who)) next_mid
+          let rest = taught_from at course (next place.0 + 1) b.executed who in
+          subst (λ n. marks_for n who after.1 ≡ marks_for n who mid.1 ++ (taught_from at course (next mid.0) b.executed who ++ b.offers who)) name_mid (b.sends who)
+          ∙ (ap (λ n. marks_for (name_of place.0) who mid.1 ++ (taught_from at course n b.executed who ++ b.offers who)) next_mid
           ∙ (ap (λ l. l ++ (rest ++ b.offers who)) (past.sends who)
           ∙ (append_one old one (rest ++ b.offers who) ∙ ap (λ l. old ++ l) (sym (append_one one rest (b.offers who))))))
 
       flights_are : mid.0.leader.flights ≡ without_flight (next place.0) place.0.leader.flights
-      flights_are = ap (λ (q : ReplicaState). q.leader.flights) on.is
+      flights_are = ap (λ (q : ReplicaState). q.leader.flights) on.fact
 
       flies_then : IsLed at (to_bound b.bound course) after.0 → FliesOn course.bound b.bound (next after.0) mid.0.leader.flights after.0.leader.flights → FliesOn course.bound b.bound (next after.0) place.0.leader.flights after.0.leader.flights
       flies_then there f = record {
@@ -301,10 +308,10 @@ module _ (at : Sets) (course : Course) (command : Command) (place mid : Place) (
     me = me_mid;
     named = name_mid;
     promise = promise_mid;
-    was = subst (λ (q : ReplicaState). members_at at (next q) ≡ members q) (sym off.is) (ap (members_at at) (entered_next command place.0) ∙ is_next.is);
+    was = subst (λ (q : ReplicaState). members_at at (next q) ≡ members q) (sym off.fact) (ap (members_at at) (entered_next command place.0) ∙ is_next.fact);
     stayed = λ slot least most. absurd (let n = next_mid in omega (arith, least, most, n));
     drawn = λ slot least most. drawn_one slot (let n = next_mid in omega (arith, least, most, n));
-    ready = λ goes slot least. absurd (true≢false (sym goes ∙ ap (λ (q : ReplicaState). q.running) off.is));
+    ready = λ goes slot least. absurd (true≢false (sym goes ∙ ap (λ (q : ReplicaState). q.running) off.fact));
     bound = course.bound;
     up = omega arith;
     offers = λ who. [];
@@ -312,7 +319,7 @@ module _ (at : Sets) (course : Course) (command : Command) (place mid : Place) (
         ∙ ap (λ l. marks_for (name_of place.0) who place.1 ++ l) (sym (append-nil (reported_of at course (next place.0) who ++ []) ∙ append-nil (reported_of at course (next place.0) who)));
     asks = λ who. tt;
     asked = λ slot node least most mine. (omega (arith, least, most));
-    state = inr (subst IsStopped (sym off.is) (record { running = refl; over = still_over off.over }), omega arith, refl);
+    state = inr (subst IsStopped (sym off.fact) (record { running = refl; over = still_over off.over }), omega arith, refl);
   }
     where
       still_over : ((into : Route) × ((entered command place.0).group.core.gone ≡ Some into)) ⊎ (((entered command place.0).group.core.gone ≡ None) × (is_member (members (entered command place.0)) place.0.me ≡ false))
@@ -330,18 +337,14 @@ step_leads at course command place es led ready is_next rest =
     let past = entries_lead at course command place led is_next in
     elim (past.state) [
       | inl on ↦ before_rest at course command place mid led ready is_next past on (pumped (executed_ready es mid).0)
-          (pump_leads at course mid (executed_ready es mid).0 (rest (subst (IsLed at course) (sym on.is) (stays_led at course command place.0 led ready is_next on.acts on.backlog on.stands on.stays))))
-      | inr off ↦ (let still : mid.0.running ≡ false = ap (λ (q : ReplicaState). q.running) off.is in
+          (pump_leads at course mid (executed_ready es mid).0 (rest (on_leads at course command place.0 led ready is_next mid.0 on)))
+      | inr off ↦ (let still : mid.0.running ≡ false = ap (λ (q : ReplicaState). q.running) off.fact in
           subst (λ (s : Executed). LeadsBy at course place (pumped s.0)) (sym (idle_ready es mid still))
           (subst (LeadsBy at course place) (sym (idle_pump mid still)) (last_one at course command place mid led ready is_next past off)))
     ]
 
 pub ready_of : (command : Command) (r : ReplicaState) → next_ready r ≡ Some command → at_slot r.ready (next r) ≡ Some command
-ready_of command r e = by (r.running && has_room r) e
-  where
-    by : (b : Bool) → cond b (at_slot r.ready (next r)) None ≡ Some command → at_slot r.ready (next r) ≡ Some command
-    by true i = i
-    by false i = cc
+ready_of command r = cond_both (r.running && has_room r) (at_slot r.ready (next r)) None (λ o. o ≡ Some command → at_slot r.ready (next r) ≡ Some command) (λ _ fact. fact) (λ _ fact. cc)
 
 pub ready_leads : (at : Sets) (course : Course) (es : List (ℕ × Command)) (place : Place) → IsLed at course place.0 → AreNext at es place → LeadsBy at course place (executed_ready es place).0
 unfolding executed_ready
@@ -359,7 +362,7 @@ ready_leads at course (e ∷ es) place led are = by (next_ready place.0) refl ar
 
 -- ---- the whole
 
--- All that a leader executes at once, and the pump after each, sends what `told_from` says of these entries, and then asks for what it offers behind what is in flight, if it leads on.
+-- All that a leader executes at once, and the pump after each, sends what `taught_from` says of these entries, and then asks for what it offers behind what is in flight, if it leads on.
 pub executions_lead : ExecutionsLead
 unfolding executed
 executions_lead at course command place led ready is_next are =

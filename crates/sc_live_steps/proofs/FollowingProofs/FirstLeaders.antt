@@ -1,6 +1,6 @@
 -- The first leader of a group leads in its progress from its birth on.
-use Rattle.std.proofs.Common.{◌≡◌, ℕ, ◌||◌, not, eqb, ltb, Bool, true, false, true≢false, cond, List, Option, Some, None, inl, refl, sym, arith}
-use Rattle.std.proofs.lemmas.Bool.{cond-true, eq-eqb}
+use Rattle.std.proofs.Common.{◌≡◌, ◌∙◌, ℕ, ◌||◌, not, eqb, ltb, false, true≢false, List, Option, Some, None, inl, refl, sym, arith}
+use Rattle.std.proofs.lemmas.Bool.{cond_both, cond-true, eq-eqb}
 use Rattle.sc_base.specs.Definitions.{is_member}
 use Rattle.sc_node_table.specs.Definitions.{ReplicaState, next, first_ballot, born_replica, slots_ahead}
 use Rattle.sc_live_steps.specs.following.Definitions.{LeadersBegin, voters_of, IsLeadOf, IsOrderly, begun}
@@ -13,14 +13,7 @@ leaders_begin at me base same first member stands roster = (leads_first, orderly
     r = born_replica slots_ahead me base
 
     no_voters : (s : ℕ) → voters_of (born_replica slots_ahead me base) s ≡ None
-    no_voters s = split (not (eqb base.core.first me) || (ltb s (next (born_replica slots_ahead me base)) || false))
-      where
-        split : (b : Bool) → cond {A = Option (List ℕ)} b None None ≡ None
-        split true = refl
-        split false = refl
-
-    none_some : {x : List ℕ} (o : Option (List ℕ)) → o ≡ None → o ≡ Some x → ⊥
-    none_some o e f = cc
+    no_voters s = cond_both {A = Option (List ℕ)} (not (eqb base.core.first me) || (ltb s (next (born_replica slots_ahead me base)) || false)) None None (λ o. o ≡ None) (λ _. refl) (λ _. refl)
 
     leads_first : IsLeadOf at (begun base.core.members (first_ballot base.core)) (born_replica slots_ahead me base)
     leads_first = record {
@@ -48,7 +41,7 @@ leaders_begin at me base same first member stands roster = (leads_first, orderly
       executed = cond-true (is_member base.core.members me) 1 0 member;
       promise = refl;
       voters = λ s. sym (no_voters s);
-      polled = λ s voters e. absurd (none_some (voters_of (born_replica slots_ahead me base) s) (no_voters s) e);
+      polled = λ s voters e. (let none : None ≡ Some voters = sym (no_voters s) ∙ e in cc);
       counted = λ node. refl;
     }
 

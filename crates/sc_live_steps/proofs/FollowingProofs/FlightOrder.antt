@@ -31,7 +31,7 @@ apart_gone slot (f ∷ fs) a = by (eqb f.slot slot) refl (apart_gone slot fs a.1
 -- a flight that goes leaves none where there was none
 gone_none : (slot other : ℕ) (fs : List (Flight Command)) → AreApart fs → flight_at other fs ≡ None → flight_at other (without_flight slot fs) ≡ None
 gone_none slot other fs a e = elim (cases_eq other slot) [
-  | inl is ↦ subst (λ n. flight_at n (without_flight slot fs) ≡ None) (sym is) (apart_gone slot fs a)
+  | inl fact ↦ subst (λ n. flight_at n (without_flight slot fs) ≡ None) (sym fact) (apart_gone slot fs a)
   | inr ne ↦ flight_out slot other fs ne ∙ e
 ]
 
@@ -45,7 +45,7 @@ apart_without slot (f ∷ fs) a = by (eqb f.slot slot) (apart_without slot fs a.
 
 still_none : (slot other : ℕ) (voters : Option (List ℕ)) (fs : List (Flight Command)) → flight_at other fs ≡ None → flight_at other (with_voters slot voters fs) ≡ None
 still_none slot other voters fs e = elim (cases_eq other slot) [
-  | inl is ↦ subst (λ n. flight_at n (with_voters slot voters fs) ≡ None) (sym is) (polled_here slot voters fs ∙ ap (λ o. option_map (λ (f : Flight Command). record f { voters = voters }) o) (subst (λ n. flight_at n fs ≡ None) is e))
+  | inl fact ↦ subst (λ n. flight_at n (with_voters slot voters fs) ≡ None) (sym fact) (polled_here slot voters fs ∙ ap (λ o. option_map (λ (f : Flight Command). record f { voters = voters }) o) (subst (λ n. flight_at n fs ≡ None) fact e))
   | inr ne ↦ polled_out slot other voters fs ne ∙ e
 ]
 
@@ -71,7 +71,7 @@ apart_pushed (f ∷ fs) new a e = by (eqb f.slot new.slot) refl e (λ i. apart_p
   where
     by : (b : Bool) → eqb f.slot new.slot ≡ b → cond b (Some f) (flight_at new.slot fs) ≡ None → (flight_at new.slot fs ≡ None → AreApart (fs ++ new ∷ [])) → (flight_at f.slot (fs ++ new ∷ []) ≡ None) × AreApart (fs ++ new ∷ [])
     by true t i rest = cc
-    by false t i rest = (pushed_at f.slot fs new (λ is. true≢false (sym (eq-eqb f.slot new.slot (sym is)) ∙ t)) ∙ a.0, rest i)
+    by false t i rest = (pushed_at f.slot fs new (λ fact. true≢false (sym (eq-eqb f.slot new.slot (sym fact)) ∙ t)) ∙ a.0, rest i)
 
 -- ---- what is under way
 
@@ -81,8 +81,8 @@ seen_from r zero from slot command least most e act = absurd (omega (arith, leas
 seen_from r (suc count) from slot command least most e act =
     list_any-append is_act (listed (taken_at r from)) (taken_from r (numbers_from (from + 1) count))
     ∙ elim (cases_eq from slot) [
-      | inl is ↦ or_left (list_any is_act (listed (taken_at r from))) (list_any is_act (taken_from r (numbers_from (from + 1) count)))
-          (ap (λ o. list_any is_act (listed o)) (ap (taken_at r) is ∙ e) ∙ or_left (is_act command) false act)
+      | inl fact ↦ or_left (list_any is_act (listed (taken_at r from))) (list_any is_act (taken_from r (numbers_from (from + 1) count)))
+          (ap (λ o. list_any is_act (listed o)) (ap (taken_at r) fact ∙ e) ∙ or_left (is_act command) false act)
       | inr ne ↦ or_right (list_any is_act (listed (taken_at r from))) (list_any is_act (taken_from r (numbers_from (from + 1) count)))
           (seen_from r count (from + 1) slot command (apart ne) (omega (arith, most)) e act)
     ]
@@ -96,10 +96,10 @@ idle_from r zero from slot least most none some = omega (arith, least, most)
 idle_from r (suc count) from slot least most none some = by (taken_at r from) refl none (λ low e. idle_from r count (from + 1) slot low (omega (arith, most)) e some)
   where
     by : (o : Option Command) → taken_at r from ≡ o → length (listed o ++ taken_from r (numbers_from (from + 1) count)) ≡ 0 → (from + 1 ≤ slot → length (taken_from r (numbers_from (from + 1) count)) ≡ 0 → ⊥) → ⊥
-    by (Some c) is e more = omega (arith, e)
-    by None is e more = elim (cases_lt from slot) [
+    by (Some c) fact e more = omega (arith, e)
+    by None fact e more = elim (cases_lt from slot) [
       | inl lt ↦ more (omega (arith, lt)) e
-      | inr ge ↦ (let same : from ≡ slot = omega (arith, least, ge) in true≢false (sym some ∙ ap is_some (ap (taken_at r) (sym same) ∙ is)))
+      | inr ge ↦ (let same : from ≡ slot = omega (arith, least, ge) in true≢false (sym some ∙ ap is_some (ap (taken_at r) (sym same) ∙ fact)))
     ]
 
 -- ---- what is found
@@ -195,10 +195,10 @@ module _ (r : ReplicaState) (o : IsOrderly r) (bounded : IsBounded r) (slot : �
   alone_then : (s other : ℕ) (c : Command) → next r ≤ s → taken_at begins s ≡ Some c → is_act c ≡ true → next r ≤ other → is_some (taken_at begins other) ≡ true → other ≡ s
   alone_then s other c from e act from_other some = elim (cases_eq s slot) [
     | inr ne ↦ absurd (none_before s c from (sym (same_at s ne) ∙ e) act)
-    | inl is ↦ elim (cases_eq other slot) [
-      | inl its ↦ its ∙ sym is
+    | inl fact ↦ elim (cases_eq other slot) [
+      | inl its ↦ its ∙ sym fact
       | inr apart ↦ (let before : is_some (taken_at r other) ≡ true = ap is_some (sym (same_at other apart)) ∙ some in
-          let mine : Some command ≡ Some c = sym here_at ∙ (ap (taken_at begins) (sym is) ∙ e) in
+          let mine : Some command ≡ Some c = sym here_at ∙ (ap (taken_at begins) (sym fact) ∙ e) in
           let same : command ≡ c = some_same mine in
           absurd (idle_from r (length r.sets) (next r) other from_other (within other before) (eqb-true (length (under_way r)) 0 (may.idle (ap is_act same ∙ act))) before))
     ]
@@ -211,7 +211,7 @@ module _ (r : ReplicaState) (o : IsOrderly r) (bounded : IsBounded r) (slot : �
   begins_orderly = record {
     apart = apart_pushed r.leader.flights new o.apart (none_taken r slot free).0;
     single = λ s from some. elim (cases_eq s slot) [
-      | inl is ↦ absurd (true≢false (sym some ∙ ap is_some (ap (at_slot r.ready) is ∙ (none_taken r slot free).1)))
+      | inl fact ↦ absurd (true≢false (sym some ∙ ap is_some (ap (at_slot r.ready) fact ∙ (none_taken r slot free).1)))
       | inr ne ↦ pushed_at s r.leader.flights new (λ e. ne (sym e)) ∙ o.single s from some
     ];
     alone = alone_then;
@@ -220,7 +220,7 @@ module _ (r : ReplicaState) (o : IsOrderly r) (bounded : IsBounded r) (slot : �
   }
 
   pub begins_bounded : IsBounded begins
-  begins_bounded s past = same_at s (λ is. omega (arith, past, most, is)) ∙ bounded s past
+  begins_bounded s past = same_at s (λ fact. omega (arith, past, most, fact)) ∙ bounded s past
 
 -- ---- the pump
 
@@ -296,7 +296,7 @@ module _ (r : ReplicaState) (o : IsOrderly r) (slot : ℕ) (flight : Flight Comm
 
       flying_same : (s : ℕ) → option_map (λ (f : Flight Command). f.value) (flight_at s (with_voters slot voters r.leader.flights)) ≡ flying r s
       flying_same s = elim (cases_eq s slot) [
-        | inl is ↦ subst (λ n. option_map (λ (f : Flight Command). f.value) (flight_at n (with_voters slot voters r.leader.flights)) ≡ flying r n) (sym is)
+        | inl fact ↦ subst (λ n. option_map (λ (f : Flight Command). f.value) (flight_at n (with_voters slot voters r.leader.flights)) ≡ flying r n) (sym fact)
             (ap (λ x. option_map (λ (f : Flight Command). f.value) x) (polled_here slot voters r.leader.flights) ∙ values (flight_at slot r.leader.flights))
         | inr ne ↦ ap (λ x. option_map (λ (f : Flight Command). f.value) x) (polled_out slot s voters r.leader.flights ne)
       ]
@@ -306,7 +306,7 @@ module _ (r : ReplicaState) (o : IsOrderly r) (slot : ℕ) (flight : Flight Comm
 
       none_still : (s : ℕ) → flight_at s r.leader.flights ≡ None → flight_at s (with_voters slot voters r.leader.flights) ≡ None
       none_still s e = elim (cases_eq s slot) [
-        | inl is ↦ absurd (apart (sym found ∙ subst (λ n. flight_at n r.leader.flights ≡ None) is e))
+        | inl fact ↦ absurd (apart (sym found ∙ subst (λ n. flight_at n r.leader.flights ≡ None) fact e))
         | inr ne ↦ polled_out slot s voters r.leader.flights ne ∙ e
       ]
         where
@@ -317,7 +317,7 @@ module _ (r : ReplicaState) (o : IsOrderly r) (slot : ℕ) (flight : Flight Comm
   decided_orderly = record {
     apart = apart_without slot r.leader.flights o.apart;
     single = λ s from some. elim (cases_eq s slot) [
-      | inl is ↦ subst (λ n. flight_at n (without_flight slot r.leader.flights) ≡ None) (sym is) gone
+      | inl fact ↦ subst (λ n. flight_at n (without_flight slot r.leader.flights) ≡ None) (sym fact) gone
       | inr ne ↦ flight_out slot s r.leader.flights ne ∙ o.single s from (ap is_some (sym (slot_over slot s flight.value r.ready ne)) ∙ some)
     ];
     alone = λ s other c from e act from_other some. o.alone s other c from (sym (same s) ∙ e) act from_other (ap is_some (sym (same other)) ∙ some);
@@ -338,7 +338,7 @@ module _ (r : ReplicaState) (o : IsOrderly r) (slot : ℕ) (flight : Flight Comm
 
       same : (s : ℕ) → taken_at then s ≡ taken_at r s
       same s = elim (cases_eq s slot) [
-        | inl is ↦ subst (λ n. taken_at then n ≡ taken_at r n) (sym is) here
+        | inl fact ↦ subst (λ n. taken_at then n ≡ taken_at r n) (sym fact) here
         | inr ne ↦ ap (λ (x : Option (Flight Command)). either (option_map (λ (f : Flight Command). f.value) x) (at_slot (with_slot r.ready slot flight.value) s)) (flight_out slot s r.leader.flights ne)
             ∙ ap (λ x. either (flying r s) x) (slot_over slot s flight.value r.ready ne)
       ]

@@ -9,12 +9,12 @@ use Rattle.sc_base.specs.Definitions.{is_member}
 use Rattle.sc_words.specs.paxos.Definitions.{LeaderState, flight_at, promise_counted}
 use Rattle.sc_node_table.specs.Definitions.{executed_one, next_child, next_ready, ending, executed_ready, executed, pumped, ReplicaState, Place, Executed, childless, next, either, taken_at, flying, mailed, at_slot, leads, promise_row}
 use Rattle.sc_law_walks.specs.Definitions.{IfThere}
-use Rattle.sc_law_walks.proofs.Lemmas.{entered_next, idle_ready, idle_pump}
+use Rattle.sc_law_walks.proofs.Lemmas.{idle_ready, idle_pump}
 use Rattle.sc_live_steps.specs.following.Definitions.{Course, Progress, Sets, IsLed, IsNext, IsOn, LeadsPast, AreNext, LeadsBy, IsLeadOf, ActsAlone, MayOffer, AreApart, HasBallot, IsOrderly, OrderIsKept}
 use Rattle.sc_live_steps.proofs.FollowingProofs.QueueingRows.{aside_is, order_is}
 use Rattle.sc_live_steps.proofs.FollowingProofs.CountedEntries.{entries_lead}
-use Rattle.sc_live_steps.proofs.FollowingProofs.ExecutedEntries.{stays_led, ready_of, ready_leads}
-use Rattle.sc_live_steps.proofs.FollowingProofs.FlightSlots.{flight_out, slot_out}
+use Rattle.sc_live_steps.proofs.FollowingProofs.ExecutedEntries.{on_leads, on_next, on_ready, ready_of, ready_leads}
+use Rattle.sc_live_steps.proofs.FollowingProofs.FlightSlots.{flight_out}
 use Rattle.sc_live_steps.proofs.FollowingProofs.FlightOrder.{apart_without, IsBounded, pump_orderly}
 use Rattle.sc_live_steps.proofs.FollowingProofs.TakenVotes.{vote_row}
 
@@ -46,37 +46,28 @@ module _ (at : Sets) (course : Course) (command : Command) (place : Place) (led 
   past : LeadsPast at course command place mid
   past = entries_lead at course command place led is_next
 
-  on_led : IsOn command place.0 mid.0 → IsLed at course mid.0
-  on_led on = subst (IsLed at course) (sym on.is) (stays_led at course command place.0 led ready is_next on.acts on.backlog on.stands on.stays)
-
-  up_by : IsOn command place.0 mid.0 → next mid.0 ≡ next place.0 + 1
-  up_by on = ap next on.is ∙ entered_next command place.0
-
   on_orderly : IsOn command place.0 mid.0 → IsOrderly mid.0
   on_orderly on = record {
-    apart = subst (λ (q : ReplicaState). AreApart q.leader.flights) (sym on.is) (apart_without (next place.0) place.0.leader.flights o.apart);
-    single = λ s from some. flights_same s (ne s from) ∙ o.single s (above s from) (ap is_some (sym (ready_same s (ne s from))) ∙ some);
+    apart = subst (λ (q : ReplicaState). AreApart q.leader.flights) (sym on.fact) (apart_without (next place.0) place.0.leader.flights o.apart);
+    single = λ s from some. flights_same s (ne s from) ∙ o.single s (above s from) (ap is_some (sym (on_ready command place.0 mid.0 on s (ne s from))) ∙ some);
     alone = λ s other c from e act from_other some. o.alone s other c (above s from) (sym (same s (ne s from)) ∙ e) act (above other from_other) (ap is_some (sym (same other (ne other from_other))) ∙ some);
-    plain = ap (λ (q : ReplicaState). q.leader.reports) on.is ∙ o.plain;
-    asked = λ s from some. subst HasBallot (sym on.is) (o.asked s (above s from) (ap is_some (sym (same s (ne s from))) ∙ some));
+    plain = ap (λ (q : ReplicaState). q.leader.reports) on.fact ∙ o.plain;
+    asked = λ s from some. subst HasBallot (sym on.fact) (o.asked s (above s from) (ap is_some (sym (same s (ne s from))) ∙ some));
   }
     where
       above : (s : ℕ) → next mid.0 ≤ s → next place.0 ≤ s
-      above s from = (let up = up_by on in omega (arith, from, up))
+      above s from = (let up = on_next command place.0 mid.0 on in omega (arith, from, up))
 
       ne : (s : ℕ) → next mid.0 ≤ s → s ≡ next place.0 → ⊥
-      ne s from is = (let up = up_by on in omega (arith, from, up, is))
+      ne s from fact = (let up = on_next command place.0 mid.0 on in omega (arith, from, up, fact))
 
       flights_same : (s : ℕ) → (s ≡ next place.0 → ⊥) → flight_at s mid.0.leader.flights ≡ flight_at s place.0.leader.flights
-      flights_same s apart = ap (λ (q : ReplicaState). flight_at s q.leader.flights) on.is ∙ flight_out (next place.0) s place.0.leader.flights apart
-
-      ready_same : (s : ℕ) → (s ≡ next place.0 → ⊥) → at_slot mid.0.ready s ≡ at_slot place.0.ready s
-      ready_same s apart = ap (λ (q : ReplicaState). at_slot q.ready s) on.is ∙ slot_out (next place.0) s place.0.ready apart
+      flights_same s apart = ap (λ (q : ReplicaState). flight_at s q.leader.flights) on.fact ∙ flight_out (next place.0) s place.0.leader.flights apart
 
       same : (s : ℕ) → (s ≡ next place.0 → ⊥) → taken_at mid.0 s ≡ taken_at place.0 s
       same s apart =
           ap (λ (x : Option (Flight Command)). either (option_map (λ (f : Flight Command). f.value) x) (at_slot mid.0.ready s)) (flights_same s apart)
-          ∙ ap (λ x. either (flying place.0 s) x) (ready_same s apart)
+          ∙ ap (λ x. either (flying place.0 s) x) (on_ready command place.0 mid.0 on s apart)
 
   -- where it runs still, its part is orderly
   abbrev Orderly : Place → Type 0
@@ -84,12 +75,12 @@ module _ (at : Sets) (course : Course) (command : Command) (place : Place) (led 
 
   step_orderly : (es : List (ℕ × Command)) → AreNext at es mid → (IsLed at course mid.0 → IsOrderly mid.0 → Orderly (executed_ready es mid).0) → Orderly (pumped (executed_ready es mid).0)
   step_orderly es are rest = elim (past.state) [
-    | inl on ↦ (let b : LeadsBy at course mid (executed_ready es mid).0 = ready_leads at course es mid (on_led on) are in
+    | inl on ↦ (let b : LeadsBy at course mid (executed_ready es mid).0 = ready_leads at course es mid (on_leads at course command place.0 led ready is_next mid.0 on) are in
         elim (b.state) [
-          | inl still ↦ λ _. pump_orderly (executed_ready es mid).0.0 (executed_ready es mid).0.1 (rest (on_led on) (on_orderly on) still.led.running) (led_bounded at _ (executed_ready es mid).0.0 still.led.may)
+          | inl still ↦ λ _. pump_orderly (executed_ready es mid).0.0 (executed_ready es mid).0.1 (rest (on_leads at course command place.0 led ready is_next mid.0 on) (on_orderly on) still.led.running) (led_bounded at _ (executed_ready es mid).0.0 still.led.may)
           | inr stopped ↦ λ goes. absurd (true≢false (sym goes ∙ (ap (λ (p : Place). p.0.running) (idle_pump (executed_ready es mid).0 stopped.0.running) ∙ stopped.0.running)))
         ])
-    | inr off ↦ (let still : mid.0.running ≡ false = ap (λ (q : ReplicaState). q.running) off.is in
+    | inr off ↦ (let still : mid.0.running ≡ false = ap (λ (q : ReplicaState). q.running) off.fact in
         subst (λ (s : Executed). Orderly (pumped s.0)) (sym (idle_ready es mid still)) (subst Orderly (sym (idle_pump mid still)) (λ goes. absurd (true≢false (sym goes ∙ still)))))
   ]
 

@@ -21,7 +21,7 @@ slot_out slot other [] ne = refl
 slot_out slot other (e ∷ es) ne = by (eqb e.0 slot) refl (slot_out slot other es ne)
   where
     by : (b : Bool) → eqb e.0 slot ≡ b → at_slot (without_slot es slot) other ≡ at_slot es other → at_slot (cond b es (e ∷ without_slot es slot)) other ≡ cond (eqb e.0 other) (Some e.1) (at_slot es other)
-    by true t rest = sym (ap (λ b. cond b (Some e.1) (at_slot es other)) (ne_eqb e.0 other (λ is. ne (sym is ∙ eqb-true e.0 slot t))))
+    by true t rest = sym (ap (λ b. cond b (Some e.1) (at_slot es other)) (ne_eqb e.0 other (λ fact. ne (sym fact ∙ eqb-true e.0 slot t))))
     by false t rest = ap (λ o. cond (eqb e.0 other) (Some e.1) o) rest
 
 -- ---- a slot that becomes ready
@@ -44,11 +44,11 @@ slot_over slot other command [] ne = ap (λ b. cond b (Some command) None) (ne_e
 slot_over slot other command (e ∷ es) ne = by (eqb e.0 slot) refl (ltb slot e.0) (slot_over slot other command es ne)
   where
     past : (l : List (ℕ × Command)) → at_slot ((slot, command) ∷ l) other ≡ at_slot l other
-    past l = ap (λ b. cond b (Some command) (at_slot l other)) (ne_eqb slot other (λ is. ne (sym is)))
+    past l = ap (λ b. cond b (Some command) (at_slot l other)) (ne_eqb slot other (λ fact. ne (sym fact)))
 
     by : (b : Bool) → eqb e.0 slot ≡ b → (c : Bool) → at_slot (with_slot es slot command) other ≡ at_slot es other
         → at_slot (cond b ((slot, command) ∷ es) (cond c ((slot, command) ∷ e ∷ es) (e ∷ with_slot es slot command))) other ≡ cond (eqb e.0 other) (Some e.1) (at_slot es other)
-    by true t c rest = past es ∙ sym (ap (λ b. cond b (Some e.1) (at_slot es other)) (ne_eqb e.0 other (λ is. ne (sym is ∙ eqb-true e.0 slot t))))
+    by true t c rest = past es ∙ sym (ap (λ b. cond b (Some e.1) (at_slot es other)) (ne_eqb e.0 other (λ fact. ne (sym fact ∙ eqb-true e.0 slot t))))
     by false f true rest = past (e ∷ es)
     by false f false rest = ap (λ o. cond (eqb e.0 other) (Some e.1) o) rest
 

@@ -9,7 +9,7 @@ use Rattle.sc_words.specs.paxos.Definitions.{LeaderState, flight_at, without_fli
 use Rattle.sc_group_table.specs.machine.Definitions.{applied}
 use Rattle.sc_node_table.specs.declared.Before.{Before}
 use Rattle.sc_node_table.specs.Definitions.{elected, entered, order_result, effect_reported, announced, learnt_to, welcomed, slot_lost, landed, left_gone, left, is_among, looked_for, looked, executed_one, executed_ready, executed, sent, order_reported, result_sent, order_number, pumped, ReplicaState, Place, Executed, childless, name_of, next, members, last_slot, floor_of, forgotten, learn_row, mailed, without_slot, before_of, begun_result, spoken_number, result_reported, begun_reported, spoken_mails, spoken}
-use Rattle.sc_live_steps.specs.following.Definitions.{Tells, marks_for, StepsBy, IsInTime, Stays, TablesFollow}
+use Rattle.sc_live_steps.specs.following.Definitions.{Teaches, marks_for, StepsBy, IsInTime, Stays, TablesFollow}
 use Rattle.sc_live_steps.proofs.FollowingProofs.MailTables.{marks-push, floor_low, accept_steps, prepare_steps, install_steps}
 use Rattle.sc_law_walks.proofs.Lemmas.{entered_next, idle_ready, idle_pump}
 
@@ -135,7 +135,7 @@ module _ (command : Command) (r : ReplicaState) (off : r.running ≡ false) (non
   looks P p = subst (λ (q : Place). P (looked (left q))) (sym landed_is) (subst (λ (q : Place). P (looked q)) (sym (left_same over place2.1 over_off)) p)
 
   module _ (slot : ℕ) (at : slot ≡ next r) (stays : Stays (entered command r)) where
-    steps : (hint : Option ℕ) → StepsBy (Tells slot) r (record over { hint = hint }, place2.1)
+    steps : (hint : Option ℕ) → StepsBy (Teaches slot) r (record over { hint = hint }, place2.1)
     steps hint = record {
       reaches = (let up = entered_next command r in omega (arith, up, at));
       promises = (entered_keeps command r).0;
@@ -145,16 +145,16 @@ module _ (command : Command) (r : ReplicaState) (off : r.running ≡ false) (non
       low = λ l. (let floor = entered_floor command r in let up = entered_next command r in let most = floor_low (next r) in omega (arith, floor, up, most, l));
     }
 
-    entry_steps : StepsBy (Tells slot) r (executed_one false command (r, []))
-    entry_steps = looks (StepsBy (Tells slot) r) (looked_same (StepsBy (Tells slot) r) over place2.1 over_off stays steps)
+    entry_steps : StepsBy (Teaches slot) r (executed_one false command (r, []))
+    entry_steps = looks (StepsBy (Teaches slot) r) (looked_same (StepsBy (Teaches slot) r) over place2.1 over_off stays steps)
 
-    executed_steps : StepsBy (Tells slot) r (executed false command (r, [])).0
+    executed_steps : StepsBy (Teaches slot) r (executed false command (r, [])).0
     unfolding executed
     executed_steps =
         let place : Place = executed_one false command (r, []) in
         let still : place.0.running ≡ false = entry_steps.runs ∙ off in
         let same : pumped (executed_ready place.0.ready place).0 ≡ place = ap (λ (step : Executed). pumped step.0) (idle_ready place.0.ready place still) ∙ idle_pump place still in
-        subst (StepsBy (Tells slot) r) (sym same) entry_steps
+        subst (StepsBy (Teaches slot) r) (sym same) entry_steps
 
 -- an entry that is learnt at its slot is executed
 pub told_is : (P : Place → Type 0) (from slot : ℕ) (command : Command) (r : ReplicaState) → slot ≡ next r → slot ≤ last_slot → P (executed false command (r, [])).0 → P (learn_row from slot command (r, [])).0
@@ -164,8 +164,8 @@ told_is P from slot command r at low p =
     (sym (le-ltb last_slot slot low))
     (subst (λ b. P (cond {A = Executed} b (executed false command (r, [])) (cond (ltb (next r) slot) (childless (r, sent r.me from (Ask (name_of r) (next r)) [])) (childless (r, [])))).0) (sym (eq-eqb slot (next r) at)) p)
 
-learn_steps : (from slot : ℕ) (command : Command) (r : ReplicaState) → IsInTime (Tells slot) r → r.running ≡ false → r.leader.flights ≡ [] → slot ≤ last_slot → Stays (entered command r) → StepsBy (Tells slot) r (learn_row from slot command (r, [])).0
-learn_steps from slot command r fit off none low stays = told_is (StepsBy (Tells slot) r) from slot command r fit.1 low (executed_steps command r off none slot fit.1 stays)
+learn_steps : (from slot : ℕ) (command : Command) (r : ReplicaState) → IsInTime (Teaches slot) r → r.running ≡ false → r.leader.flights ≡ [] → slot ≤ last_slot → Stays (entered command r) → StepsBy (Teaches slot) r (learn_row from slot command (r, [])).0
+learn_steps from slot command r fit off none low stays = told_is (StepsBy (Teaches slot) r) from slot command r fit.1 low (executed_steps command r off none slot fit.1 stays)
 
 -- What a replica's table does by an Accept, a Prepare, a Learn or an Install of its group that comes in time is what its mark says: where its next slot goes, what it promises, and what it answers.
 pub tables : TablesFollow

@@ -1,18 +1,18 @@
 -- Each row keeps whom the nodes of a group take for its leader.
-use Rattle.std.proofs.Common.{◌≡◌, ℕ, suc, ◌+◌, ◌-◌, ◌<◌, ◌≤◌, true, false, true≢false, List, [], ◌∷◌, ◌++◌, Option, Some, ◌⊎◌, inl, inr, sym, ◌∙◌, ap, subst, arith, append-nil}
+use Rattle.std.proofs.Common.{◌≡◌, ℕ, suc, ◌+◌, ◌-◌, ◌<◌, ◌≤◌, true, false, true≢false, List, [], ◌∷◌, ◌++◌, Option, Some, ◌⊎◌, inl, inr, sym, ◌∙◌, ap, subst, arith}
 use Rattle.std.proofs.lemmas.Bool.{cases_Bool, cases_eq, cases_lt, cond-true}
 use Rattle.sc_base.specs.Definitions.{Each, IsRoster, is_member, least_of}
 use Rattle.sc_node_table.specs.Values.{Ballot}
 use Rattle.sc_node_table.specs.Definitions.{is_among, listed, slots_ahead}
 use Rattle.sc_words.specs.paxos.Definitions.{below}
 use Rattle.sc_words.proofs.PaxosProofs.Lemmas.{at_least_below}
-use Rattle.sc_live_steps.specs.following.Definitions.{Mark, promise_by, reached, pledged, Course, Progress, Sets, members_at, IsOpen, IsFollowing, Tellers, hint_by, hinted, MayLeave, AreHeeded, IsOther, IsHeeding, GoesBy, LeavesLast, HintsAreKept, NodesHeed, IsRow, IsIdle, IsCount, Takes, told_from, Leads, Elects, begun}
+use Rattle.sc_live_steps.specs.following.Definitions.{Mark, promise_by, reached, pledged, Course, Progress, Sets, members_at, IsOpen, IsFollowing, SlotLeaders, hint_by, hinted, MayLeave, AreHeeded, IsOther, IsHeeding, GoesBy, LeavesLast, HintsAreKept, NodesHeed, IsRow, IsIdle, IsCount, Takes, taught_from, Leads, Elects, begun}
 use Rattle.sc_live_steps.proofs.FollowingProofs.Hints.{hinted-append, heeded-append, heeded-change, no_more, count-heeded, count-hinted, offers-heeded, offers-hinted, told-heeded, told-hinted}
-use Rattle.sc_live_steps.proofs.FollowingProofs.NodeMarks.{counts_of, takes-keeps}
+use Rattle.sc_live_steps.proofs.FollowingProofs.NodeMarks.{counts_of, idle_promise, idle_marks, takes-keeps}
 use Rattle.sc_live_steps.proofs.FollowingProofs.LeaderRows.{leads-keeps}
 use Rattle.sc_live_steps.proofs.FollowingProofs.Marks.{pledged-most}
 
-module _ (at : Sets) (by : Tellers) (now after : Progress) (node : ℕ) (taken : Option Mark) (sent marks marks_after : ℕ → List Mark) (hints hints_after : ℕ → Option ℕ) (rosters : (slot : ℕ) → IsRoster (at slot))
+module _ (at : Sets) (by : SlotLeaders) (now after : Progress) (node : ℕ) (taken : Option Mark) (sent marks marks_after : ℕ → List Mark) (hints hints_after : ℕ → Option ℕ) (rosters : (slot : ℕ) → IsRoster (at slot))
     (row : IsRow now after node taken sent marks marks_after) (was : IsFollowing at now marks) (others : (who : ℕ) → (who ≡ node → ⊥) → hints_after who ≡ hints who) (h : IsHeeding at by now hints marks) where
   -- where another node is that is sent something
   there : (who : ℕ) → (who ≡ node → ⊥) → (course : Course) → AreHeeded at by course who (now.promise who) (hints who) (marks who ++ sent who) → AreHeeded at by course who (after.promise who) (hints_after who) (marks_after who)
@@ -32,24 +32,15 @@ module _ (at : Sets) (by : Tellers) (now after : Progress) (node : ℕ) (taken :
   pub idle-hints : IsIdle now after node taken sent → hints_after node ≡ hints node → IsHeeding at by after hints_after marks_after
   idle-hints i so =
       subst (λ c. IsHeeding at by (record { next = after.next; promise = after.promise; course = c }) hints_after marks_after) (sym i.course) (record {
-        heeds = λ who other. subst (AreHeeded at by now.course who (after.promise who) (hints_after who)) (same who)
-            (subst (λ o. AreHeeded at by now.course who (after.promise who) o (marks who)) (sym (hint who)) (subst (λ p. AreHeeded at by now.course who p (hints who) (marks who)) (sym (promise who)) (h.heeds who other)));
-        ends = λ r who ne o. sym (ap (hinted at by (after.promise who) (hints_after who)) (same who))
-            ∙ (ap (λ x. hinted at by (after.promise who) x (marks who)) (hint who) ∙ (ap (λ p. hinted at by p (hints who) (marks who)) (promise who) ∙ h.ends r who ne o));
+        heeds = λ who other. subst (AreHeeded at by now.course who (after.promise who) (hints_after who)) (idle_marks now after node taken sent marks marks_after row i who)
+            (subst (λ o. AreHeeded at by now.course who (after.promise who) o (marks who)) (sym (hint who)) (subst (λ p. AreHeeded at by now.course who p (hints who) (marks who)) (sym (idle_promise now after node taken sent marks marks_after row i who)) (h.heeds who other)));
+        ends = λ r who ne o. sym (ap (hinted at by (after.promise who) (hints_after who)) (idle_marks now after node taken sent marks marks_after row i who))
+            ∙ (ap (λ x. hinted at by (after.promise who) x (marks who)) (hint who) ∙ (ap (λ p. hinted at by p (hints who) (marks who)) (idle_promise now after node taken sent marks marks_after row i who) ∙ h.ends r who ne o));
         left = h.left;
       })
     where
-      promise : (who : ℕ) → after.promise who ≡ now.promise who
-      promise who = elim (cases_eq who node) [ inl is ↦ ap after.promise is ∙ (i.promise ∙ ap now.promise (sym is)) | inr ne ↦ row.promise who ne ]
-
       hint : (who : ℕ) → hints_after who ≡ hints who
-      hint who = elim (cases_eq who node) [ inl is ↦ ap hints_after is ∙ (so ∙ ap hints (sym is)) | inr ne ↦ others who ne ]
-
-      same : (who : ℕ) → marks who ≡ marks_after who
-      same who = elim (cases_eq who node) [
-        | inl is ↦ ap marks is ∙ (row.takes ∙ (ap (λ t. listed t ++ row.left) i.takes ∙ (sym (append-nil row.left) ∙ (ap (λ l. row.left ++ l) (sym (i.sends node)) ∙ (sym row.own ∙ ap marks_after (sym is))))))
-        | inr ne ↦ sym (append-nil (marks who)) ∙ (ap (λ l. marks who ++ l) (sym (i.sends who)) ∙ sym (row.others who ne))
-      ]
+      hint who = elim (cases_eq who node) [ inl fact ↦ ap hints_after fact ∙ (so ∙ ap hints (sym fact)) | inr ne ↦ others who ne ]
 
   -- ---- a mail is taken
 
@@ -91,11 +82,11 @@ module _ (at : Sets) (by : Tellers) (now after : Progress) (node : ℕ) (taken :
     pub takes-hints : IsHeeding at by after hints_after marks_after
     takes-hints = subst (λ c. IsHeeding at by (record { next = after.next; promise = after.promise; course = c }) hints_after marks_after) (sym t.course) (record {
       heeds = λ who other. elim (cases_eq who node) [
-        | inl is ↦ subst (λ n. AreHeeded at by now.course n (after.promise n) (hints_after n) (marks_after n)) (sym is) (own_heeds (subst (IsOther now.course) is other))
+        | inl fact ↦ subst (λ n. AreHeeded at by now.course n (after.promise n) (hints_after n) (marks_after n)) (sym fact) (own_heeds (subst (IsOther now.course) fact other))
         | inr ne ↦ there who ne now.course (heeded-append at by now.course who (now.promise who) (hints who) (marks who) (sent who) (h.heeds who other) (count-heeded at by now.course who _ _ (sent who) (counts who)))
       ];
       ends = λ r who ne o. elim (cases_eq who node) [
-        | inl is ↦ subst (λ n. hinted at by (after.promise n) (hints_after n) (marks_after n) ≡ Some now.course.ballot.node) (sym is) (own_ends r (λ e. ne (is ∙ e)) (subst (IsOpen at now.course.newest) is o))
+        | inl fact ↦ subst (λ n. hinted at by (after.promise n) (hints_after n) (marks_after n) ≡ Some now.course.ballot.node) (sym fact) (own_ends r (λ e. ne (fact ∙ e)) (subst (IsOpen at now.course.newest) fact o))
         | inr apart ↦ there_hinted who apart ∙ (count-hinted at by _ _ (sent who) (counts who) ∙ h.ends r who ne o)
       ];
       left = h.left;
@@ -115,7 +106,7 @@ module _ (at : Sets) (by : Tellers) (now after : Progress) (node : ℕ) (taken :
 
     module _ (who : ℕ) (ne : who ≡ node → ⊥) where
       apart : who ≡ lead → ⊥
-      apart is = ne (is ∙ sym l.mine)
+      apart fact = ne (fact ∙ sym l.mine)
 
       abbrev then_promise : Ballot
       then_promise = pledged (now.promise who) (marks who)
@@ -131,7 +122,7 @@ module _ (at : Sets) (by : Tellers) (now after : Progress) (node : ℕ) (taken :
 
       ends_then : (s : ℕ) → newest ≤ s → suc s ≡ newest + l.executed
           → (is_member (members_at at (s + 1)) lead ≡ true) ⊎ ((after.course.runs ≡ false) × (suc s ≡ after.course.newest) × (is_member (members_at at (s + 1)) who ≡ true → is_member (members_at at s) who ≡ true))
-      ends_then s least is = (let last : suc s ≡ after.course.newest = (let up = l.newest in omega (arith, is, up)) in
+      ends_then s least fact = (let last : suc s ≡ after.course.newest = (let up = l.newest in omega (arith, fact, up)) in
           elim (w.alone s least last) [
             | inl m ↦ inl m
             | inr nobody ↦ elim (cases_Bool after.course.runs) [
@@ -150,7 +141,7 @@ module _ (at : Sets) (by : Tellers) (now after : Progress) (node : ℕ) (taken :
           there who ne after.course
           (heeded-append at by after.course who (now.promise who) (hints who) (marks who) (sent who) (heeded-change at by now.course after.course who may (now.promise who) (hints who) (marks who) (h.heeds who other))
           (subst (AreHeeded at by after.course who then_promise then_hint) (sym (l.sends who))
-          (heeded-append at by after.course who then_promise then_hint (told_from at now.course newest l.executed who) (l.offers who)
+          (heeded-append at by after.course who then_promise then_hint (taught_from at now.course newest l.executed who) (l.offers who)
           (told-heeded at by now.course after.course who apart l.executed newest then_promise then_hint member counted (λ s least most. w.stayed s least (let up = l.newest in omega (arith, most, up))) ends_then)
           (offers-heeded at by after.course after.course now.course.bound who who _ _ (l.offers who) (l.asks who)))))
 
@@ -177,22 +168,22 @@ module _ (at : Sets) (by : Tellers) (now after : Progress) (node : ℕ) (taken :
       ends_there r o =
           there_hinted who ne
           ∙ (ap (hinted at by then_promise then_hint) (l.sends who)
-          ∙ (hinted-append at by then_promise then_hint (told_from at now.course newest l.executed who) (l.offers who)
+          ∙ (hinted-append at by then_promise then_hint (taught_from at now.course newest l.executed who) (l.offers who)
           ∙ offers-hinted at by after.course now.course.bound who _ _ (l.offers who) (l.asks who)
           (told-hinted at by now.course after.course who apart l.executed newest then_promise then_hint (some_then o) member counted (all_stay r) ∙ ap (λ (b : Ballot). Some b.node) (sym l.ballot))))
 
     pub leads-hints : IsHeeding at by after hints_after marks_after
     leads-hints = record {
       heeds = λ who other. elim (cases_eq who node) [
-        | inl is ↦ subst (λ n. AreHeeded at by after.course n (after.promise n) (hints_after n) (marks_after n)) (sym is)
+        | inl fact ↦ subst (λ n. AreHeeded at by after.course n (after.promise n) (hints_after n) (marks_after n)) (sym fact)
             (no_more at by after.course node (after.next node) (after.promise node) (marks_after node) (followed.fits node) (let within = followed.within node in let all = l.next in omega (arith, within, all)) (hints_after node))
-        | inr ne ↦ heeds_then who ne (λ r is. ne (is ∙ sym l.mine))
+        | inr ne ↦ heeds_then who ne (λ r fact. ne (fact ∙ sym l.mine))
       ];
-      ends = λ r who ne o. ends_there who (λ is. ne (is ∙ (l.mine ∙ ap (λ (b : Ballot). b.node) (sym l.ballot)))) r o;
-      left = λ off stands slot is.
+      ends = λ r who ne o. ends_there who (λ fact. ne (fact ∙ (l.mine ∙ ap (λ (b : Ballot). b.node) (sym l.ballot)))) r o;
+      left = λ off stands slot fact.
           (let some = (l.stops off).0 in
           let up = l.newest in
-          ap (is_member (members_at at after.course.newest)) (w.counts slot (omega (arith, some, up, is)) (omega (arith, is)) ∙ sym l.mine) ∙ l.leaves off stands);
+          ap (is_member (members_at at after.course.newest)) (w.counts slot (omega (arith, some, up, fact)) (omega (arith, fact)) ∙ sym l.mine) ∙ l.leaves off stands);
     }
 
   -- ---- an election
@@ -202,7 +193,7 @@ module _ (at : Sets) (by : Tellers) (now after : Progress) (node : ℕ) (taken :
     may_then who ne slot (inl m) = inl m
     may_then who ne slot (inr (inl least)) = inr (inl least)
     may_then who ne slot (inr (inr last)) =
-        inr (inl (λ is. ne (sym is ∙ (ap (λ n. least_of (members_at at n)) (let all = last.1 in let same : slot + 1 ≡ now.course.newest = omega (arith, all) in same) ∙ sym e.least))))
+        inr (inl (λ fact. ne (sym fact ∙ (ap (λ n. least_of (members_at at n)) (let all = last.1 in let same : slot + 1 ≡ now.course.newest = omega (arith, all) in same) ∙ sym e.least))))
 
     sent_heeded : (who : ℕ) (promise : Ballot) (hint : Option ℕ) → AreHeeded at by after.course who promise hint (sent who)
     sent_heeded who promise hint = elim (e.sends who) [
@@ -212,14 +203,14 @@ module _ (at : Sets) (by : Tellers) (now after : Progress) (node : ℕ) (taken :
 
     pub self_election-hints : IsHeeding at by after hints_after marks_after
     self_election-hints = record {
-      heeds = λ who other. (let ne : who ≡ node → ⊥ = λ is. other e.runs (is ∙ sym e.mine) in
+      heeds = λ who other. (let ne : who ≡ node → ⊥ = λ fact. other e.runs (fact ∙ sym e.mine) in
           there who ne after.course
           (heeded-append at by after.course who (now.promise who) (hints who) (marks who) (sent who)
           (heeded-change at by now.course after.course who (may_then who ne) (now.promise who) (hints who) (marks who) (h.heeds who (λ r. absurd (true≢false (sym r ∙ e.idle))))) (sent_heeded who _ _)));
       ends = λ r who ne o.
           (let promise = pledged (now.promise who) (marks who) in
           let low = at_least_below promise now.course.ballot after.course.ballot (pledged-most now.course (now.promise who) (marks who) (was.promised who) (was.known who)) e.later in
-          there_hinted who (λ is. ne (is ∙ sym e.mine))
+          there_hinted who (λ fact. ne (fact ∙ sym e.mine))
           ∙ (ap (hinted at by promise (hinted at by (now.promise who) (hints who) (marks who))) (e.asks who (subst (λ n. IsOpen at n who) e.newest o))
           ∙ cond-true (below promise after.course.ballot) (Some after.course.ballot.node) (hinted at by (now.promise who) (hints who) (marks who)) low));
       left = λ off. absurd (true≢false (sym e.runs ∙ off));
@@ -227,7 +218,7 @@ module _ (at : Sets) (by : Tellers) (now after : Progress) (node : ℕ) (taken :
 
 -- ---- where a group begins
 
-begins : (at : Sets) (by : Tellers) (ballot : Ballot) (hints : ℕ → Option ℕ) → ((node : ℕ) → (node ≡ ballot.node → ⊥) → IsOpen at 1 node → hints node ≡ Some ballot.node) → IsHeeding at by (begun (members_at at 1) ballot) hints (λ node. [])
+begins : (at : Sets) (by : SlotLeaders) (ballot : Ballot) (hints : ℕ → Option ℕ) → ((node : ℕ) → (node ≡ ballot.node → ⊥) → IsOpen at 1 node → hints node ≡ Some ballot.node) → IsHeeding at by (begun (members_at at 1) ballot) hints (λ node. [])
 begins at by ballot hints so = record { heeds = λ node other. tt; ends = λ r node ne o. so node ne o; left = λ off. absurd (true≢false off) }
 
 -- Whom each node takes for the leader is kept by each kind of row: while one leads, all others that decide an open slot take it for that once they have taken their mail, and each learns an entry from the one that it takes for the leader then.
@@ -245,14 +236,14 @@ hints_are_kept = record {
 -- A node that learns an entry takes a member for the leader after it, or is not the least member, or the entry is the last one and none leads; and then it takes no member for it.
 pub nodes_heed : NodesHeed
 nodes_heed = record {
-  told = λ at by now hints marks node slot rest h other is.
-      (let f = (subst (AreHeeded at by now.course node (now.promise node) (hints node)) is (h.heeds node other)).0 in
+  told = λ at by now hints marks node slot rest h other fact.
+      (let f = (subst (AreHeeded at by now.course node (now.promise node) (hints node)) fact (h.heeds node other)).0 in
       elim (f.1) [ inl m ↦ inl (ap (is_among (members_at at (slot + 1))) f.0 ∙ m) | inr more ↦ inr more ]);
-  last = λ at by now hints marks node slot rest h idle stands is last.
-      (let f = (subst (AreHeeded at by now.course node (now.promise node) (hints node)) is (h.heeds node (λ r. absurd (true≢false (sym r ∙ idle))))).0 in
+  last = λ at by now hints marks node slot rest h idle stands fact last.
+      (let f = (subst (AreHeeded at by now.course node (now.promise node) (hints node)) fact (h.heeds node (λ r. absurd (true≢false (sym r ∙ idle))))).0 in
       ap (is_among (members_at at now.course.newest)) f.0 ∙ h.left idle stands slot last);
-  sent = λ at by now hints marks node slot rest h idle stands is last.
-      (let f = (subst (AreHeeded at by now.course node (now.promise node) (hints node)) is (h.heeds node (λ r. absurd (true≢false (sym r ∙ idle))))).0 in
+  sent = λ at by now hints marks node slot rest h idle stands fact last.
+      (let f = (subst (AreHeeded at by now.course node (now.promise node) (hints node)) fact (h.heeds node (λ r. absurd (true≢false (sym r ∙ idle))))).0 in
       let same : slot + 1 ≡ now.course.newest = omega (arith, last) in
       true≢false (sym (subst (λ n. is_member (members_at at n) (by slot) ≡ true) same f) ∙ h.left idle stands slot last));
 }

@@ -5,10 +5,10 @@ use Rattle.sc_base.specs.Definitions.{Each, is_member, least_of}
 use Rattle.sc_node_table.specs.Values.{Ballot}
 use Rattle.sc_node_table.specs.Definitions.{is_among}
 use Rattle.sc_words.specs.paxos.Definitions.{below}
-use Rattle.sc_live_steps.specs.following.Definitions.{Mark, Asks, Votes, Tells, Installs, Prepares, Promises, promise_by, reached, pledged, AreFit, Course, Sets, members_at, Tellers, hint_by, hinted, MayLeave, IsHeeded, AreHeeded, IsCount, IsOffer, reported_of, told_from}
+use Rattle.sc_live_steps.specs.following.Definitions.{Mark, Asks, Votes, Teaches, Installs, Prepares, Promises, promise_by, reached, pledged, AreFit, Course, Sets, members_at, SlotLeaders, hint_by, hinted, MayLeave, IsHeeded, AreHeeded, IsCount, IsOffer, reported_of, taught_from}
 use Rattle.sc_live_steps.proofs.FollowingProofs.Marks.{reached-least, told-cases}
 
-module _ (at : Sets) (by : Tellers) where
+module _ (at : Sets) (by : SlotLeaders) where
   pub hinted-append : (promise : Ballot) (hint : Option ℕ) (xs ys : List Mark) → hinted at by promise hint (xs ++ ys) ≡ hinted at by (pledged promise xs) (hinted at by promise hint xs) ys
   hinted-append promise hint [] ys = refl
   hinted-append promise hint (mark ∷ xs) ys = hinted-append (promise_by promise mark) (hint_by at by promise hint mark) xs ys
@@ -21,7 +21,7 @@ module _ (at : Sets) (by : Tellers) where
   -- in another course in which whoever might leave may
   module _ (one other : Course) (node : ℕ) (may : (slot : ℕ) → MayLeave at by one node slot → MayLeave at by other node slot) where
     one_change : (hint : Option ℕ) (mark : Mark) → IsHeeded at by one node hint mark → IsHeeded at by other node hint mark
-    one_change hint (Tells slot) f = (f.0, may slot f.1)
+    one_change hint (Teaches slot) f = (f.0, may slot f.1)
     one_change hint (Installs slot) f = f
     one_change hint _ f = tt
 
@@ -34,8 +34,8 @@ module _ (at : Sets) (by : Tellers) where
   no_more course node next promise [] f le hint = tt
   no_more course node next promise (Asks ballot slot ∷ marks) f le hint = (tt, no_more course node next promise marks f.1 le (Some ballot.node))
   no_more course node next promise (Votes n ballot slot ∷ marks) f le hint = (tt, no_more course node next promise marks f.1 le hint)
-  no_more course node next promise (Tells slot ∷ marks) f le hint = (let is = f.0.1 in let more = reached-least (suc slot) promise marks f.1 in absurd (omega (arith, is, more, le)))
-  no_more course node next promise (Installs slot ∷ marks) f le hint = (let is = f.0 in let more = reached-least (suc slot) promise marks f.1 in absurd (omega (arith, is, more, le)))
+  no_more course node next promise (Teaches slot ∷ marks) f le hint = (let fact = f.0.1 in let more = reached-least (suc slot) promise marks f.1 in absurd (omega (arith, fact, more, le)))
+  no_more course node next promise (Installs slot ∷ marks) f le hint = (let fact = f.0 in let more = reached-least (suc slot) promise marks f.1 in absurd (omega (arith, fact, more, le)))
   no_more course node next promise (Prepares ballot ∷ marks) f le hint = (tt, no_more course node next ballot marks f.1 le (hint_by at by promise hint (Prepares ballot)))
   no_more course node next promise (Promises n ballot ∷ marks) f le hint = (tt, no_more course node next promise marks f.1 le hint)
 
@@ -46,7 +46,7 @@ module _ (at : Sets) (by : Tellers) where
   count-heeded course node promise hint (Votes n ballot slot ∷ marks) e = (tt, count-heeded course node promise hint marks e.1)
   count-heeded course node promise hint (Promises n ballot ∷ marks) e = (tt, count-heeded course node promise hint marks e.1)
   count-heeded course node promise hint (Asks ballot slot ∷ marks) e = absurd e.0
-  count-heeded course node promise hint (Tells slot ∷ marks) e = absurd e.0
+  count-heeded course node promise hint (Teaches slot ∷ marks) e = absurd e.0
   count-heeded course node promise hint (Installs slot ∷ marks) e = absurd e.0
   count-heeded course node promise hint (Prepares ballot ∷ marks) e = absurd e.0
 
@@ -55,7 +55,7 @@ module _ (at : Sets) (by : Tellers) where
   count-hinted promise hint (Votes n ballot slot ∷ marks) e = count-hinted promise hint marks e.1
   count-hinted promise hint (Promises n ballot ∷ marks) e = count-hinted promise hint marks e.1
   count-hinted promise hint (Asks ballot slot ∷ marks) e = absurd e.0
-  count-hinted promise hint (Tells slot ∷ marks) e = absurd e.0
+  count-hinted promise hint (Teaches slot ∷ marks) e = absurd e.0
   count-hinted promise hint (Installs slot ∷ marks) e = absurd e.0
   count-hinted promise hint (Prepares ballot ∷ marks) e = absurd e.0
 
@@ -65,19 +65,19 @@ module _ (at : Sets) (by : Tellers) where
   offers-heeded in_course course from who node promise hint [] e = tt
   offers-heeded in_course course from who node promise hint (Asks ballot slot ∷ marks) e = (tt, offers-heeded in_course course from who node promise (Some ballot.node) marks e.1)
   offers-heeded in_course course from who node promise hint (Votes n ballot slot ∷ marks) e = absurd e.0
-  offers-heeded in_course course from who node promise hint (Tells slot ∷ marks) e = absurd e.0
+  offers-heeded in_course course from who node promise hint (Teaches slot ∷ marks) e = absurd e.0
   offers-heeded in_course course from who node promise hint (Installs slot ∷ marks) e = absurd e.0
   offers-heeded in_course course from who node promise hint (Prepares ballot ∷ marks) e = absurd e.0
   offers-heeded in_course course from who node promise hint (Promises n ballot ∷ marks) e = absurd e.0
 
   pub offers-hinted : (course : Course) (from who : ℕ) (promise : Ballot) (hint : Option ℕ) (marks : List Mark) → Each (IsOffer at course from who) marks → hint ≡ Some course.ballot.node → hinted at by promise hint marks ≡ Some course.ballot.node
-  offers-hinted course from who promise hint [] e is = is
-  offers-hinted course from who promise hint (Asks ballot slot ∷ marks) e is = offers-hinted course from who promise (Some ballot.node) marks e.1 (ap (λ (b : Ballot). Some b.node) e.0.0)
-  offers-hinted course from who promise hint (Votes n ballot slot ∷ marks) e is = absurd e.0
-  offers-hinted course from who promise hint (Tells slot ∷ marks) e is = absurd e.0
-  offers-hinted course from who promise hint (Installs slot ∷ marks) e is = absurd e.0
-  offers-hinted course from who promise hint (Prepares ballot ∷ marks) e is = absurd e.0
-  offers-hinted course from who promise hint (Promises n ballot ∷ marks) e is = absurd e.0
+  offers-hinted course from who promise hint [] e fact = fact
+  offers-hinted course from who promise hint (Asks ballot slot ∷ marks) e fact = offers-hinted course from who promise (Some ballot.node) marks e.1 (ap (λ (b : Ballot). Some b.node) e.0.0)
+  offers-hinted course from who promise hint (Votes n ballot slot ∷ marks) e fact = absurd e.0
+  offers-hinted course from who promise hint (Teaches slot ∷ marks) e fact = absurd e.0
+  offers-hinted course from who promise hint (Installs slot ∷ marks) e fact = absurd e.0
+  offers-hinted course from who promise hint (Prepares ballot ∷ marks) e fact = absurd e.0
+  offers-hinted course from who promise hint (Promises n ballot ∷ marks) e fact = absurd e.0
 
   -- ---- what is learnt
 
@@ -115,24 +115,24 @@ module _ (at : Sets) (by : Tellers) where
         (λ out none. elim some [ inl e ↦ e | inr come ↦ absurd (both_no come none) ])
 
     pub told-heeded : (more slot : ℕ) (promise : Ballot) (hint : Option ℕ) → (is_member (members_at at slot) who ≡ true → hint ≡ Some lead) → ((s : ℕ) → slot ≤ s → s < slot + more → by s ≡ lead)
-        → ((s : ℕ) → slot ≤ s → suc s < slot + more → is_member (members_at at (s + 1)) lead ≡ true) → ((s : ℕ) → slot ≤ s → suc s ≡ slot + more → IsEnd s) → AreHeeded at by after who promise hint (told_from at now slot more who)
+        → ((s : ℕ) → slot ≤ s → suc s < slot + more → is_member (members_at at (s + 1)) lead ≡ true) → ((s : ℕ) → slot ≤ s → suc s ≡ slot + more → IsEnd s) → AreHeeded at by after who promise hint (taught_from at now slot more who)
     told-heeded zero slot promise hint member counts stayed ends = tt
     told-heeded (suc zero) slot promise hint member counts stayed ends =
         heeded-append after who promise hint (reported_of at now slot who) [] (one_heeded slot promise hint member (counts slot (omega arith) (omega arith)) (ends slot (omega arith) (omega arith))) tt
     told-heeded (suc (suc more)) slot promise hint member counts stayed ends =
         let here = stayed slot (omega arith) (omega arith) in
         let first = reported_of at now slot who in
-        heeded-append after who promise hint first (told_from at now (slot + 1) (suc more) who)
+        heeded-append after who promise hint first (taught_from at now (slot + 1) (suc more) who)
         (one_heeded slot promise hint member (counts slot (omega arith) (omega arith)) (inl here))
         (told-heeded (suc more) (slot + 1) (pledged promise first) (hinted at by promise hint first) (λ m. one_hinted slot promise hint (inr m) member (counts slot (omega arith) (omega arith)) here)
-        (λ s least most. counts s (omega (arith, least)) (omega (arith, most))) (λ s least most. stayed s (omega (arith, least)) (omega (arith, most))) (λ s least is. ends s (omega (arith, least)) (omega (arith, is))))
+        (λ s least most. counts s (omega (arith, least)) (omega (arith, most))) (λ s least most. stayed s (omega (arith, least)) (omega (arith, most))) (λ s least fact. ends s (omega (arith, least)) (omega (arith, fact))))
 
     pub told-hinted : (more slot : ℕ) (promise : Ballot) (hint : Option ℕ) → (hint ≡ Some lead) ⊎ ((j : ℕ) × (j < more) × (is_member (members_at at (slot + j + 1)) who ≡ true)) → (is_member (members_at at slot) who ≡ true → hint ≡ Some lead)
-        → ((s : ℕ) → slot ≤ s → s < slot + more → by s ≡ lead) → ((s : ℕ) → slot ≤ s → s < slot + more → is_member (members_at at (s + 1)) lead ≡ true) → hinted at by promise hint (told_from at now slot more who) ≡ Some lead
+        → ((s : ℕ) → slot ≤ s → s < slot + more → by s ≡ lead) → ((s : ℕ) → slot ≤ s → s < slot + more → is_member (members_at at (s + 1)) lead ≡ true) → hinted at by promise hint (taught_from at now slot more who) ≡ Some lead
     told-hinted zero slot promise hint (inl e) member counts stayed = e
     told-hinted zero slot promise hint (inr (j, low, m)) member counts stayed = absurd (omega (arith, low))
     told-hinted (suc more) slot promise hint some member counts stayed =
-        hinted-append promise hint first (told_from at now (slot + 1) more who)
+        hinted-append promise hint first (taught_from at now (slot + 1) more who)
         ∙ told-hinted more (slot + 1) (pledged promise first) (hinted at by promise hint first) (later some) (λ m. here (inr m)) (λ s least most. counts s (omega (arith, least)) (omega (arith, most)))
         (λ s least most. stayed s (omega (arith, least)) (omega (arith, most)))
       where

@@ -13,7 +13,7 @@ use Rattle.sc_paxos_law.proofs.Among.{count_by-le as more_pass}
 in_part : (test : ℕ → Bool) (members : List ℕ) (who : ℕ) → is_member members who ≡ true → test who ≡ true → is_member (filter test members) who ≡ true
 in_part test [] who m t = cc
 in_part test (x ∷ members) who m t = elim (or_cases (eqb x who) (is_member members who) m) [
-  | inl is ↦ subst (λ l. is_member l who ≡ true) (sym (cond-true (test x) (x ∷ filter test members) (filter test members) (ap test (eqb-true x who is) ∙ t))) (or_left (eqb x who) (is_member (filter test members) who) is)
+  | inl fact ↦ subst (λ l. is_member l who ≡ true) (sym (cond-true (test x) (x ∷ filter test members) (filter test members) (ap test (eqb-true x who fact) ∙ t))) (or_left (eqb x who) (is_member (filter test members) who) fact)
   | inr rest ↦ cond_both (test x) (x ∷ filter test members) (filter test members) (λ l. is_member l who ≡ true)
       (λ _. or_right (eqb x who) (is_member (filter test members) who) (in_part test members who rest t)) (λ _. in_part test members who rest t)
 ]
@@ -56,7 +56,7 @@ one_more p q x (y ∷ xs) f out in_ m =
     let c = head p y xs in
     let d = head q y xs in
     elim (or_cases (eqb y x) (is_member xs x) m) [
-      | inl is ↦ (let same = eqb-true y x is in
+      | inl fact ↦ (let same = eqb-true y x fact in
           let rest = more_pass p q xs f in
           let a = none (p y) (ap p same ∙ out) in
           let b = one (q y) (ap q same ∙ in_) in
@@ -81,7 +81,7 @@ no_votes (x ∷ members) = no_votes members
 
 pub vote_kept : (members : List ℕ) (node : ℕ) (voters : Option (List ℕ)) → IsRoster members → is_member members node ≡ true → length (kept_voters voters) ≤ votes_of members (kept_voters voters) → is_majority members (kept_voters voters) ≡ false
     → HasVoted members node voters (voters_after members node voters)
-vote_kept members node voters is m few undecided = subst (HasVoted members node voters) (sym (cond-true (is_member members node) (add_voter node voters) voters m)) (added voters few undecided)
+vote_kept members node voters fact m few undecided = subst (HasVoted members node voters) (sym (cond-true (is_member members node) (add_voter node voters) voters m)) (added voters few undecided)
   where
     with_new : (l : List ℕ) → length l ≤ votes_of members l → is_member l node ≡ false → HasVoted members node (Some l) (Some (with_member l node))
     with_new l few out =
@@ -101,7 +101,7 @@ vote_kept members node voters is m few undecided = subst (HasVoted members node 
           | inl here ↦ record { few = few; kept = λ who k. k; own = here }
           | inr full ↦ (
               let nine = eqb-true (length l) 9 full in
-              let most = is.most in
+              let most = fact.most in
               absurd (both_ways (is_majority members l) undecided (lt-ltb (length members) (2 * votes_of members l) (omega (arith, nine, few, most)))))
         ])
         (λ f. with_new l few (or_parts (is_member l node) (eqb (length l) 9) f).0)

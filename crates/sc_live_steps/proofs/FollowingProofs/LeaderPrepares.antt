@@ -12,7 +12,7 @@ use Rattle.sc_words.specs.paxos.Definitions.{must, promise_counted, without_flig
 use Rattle.sc_node_table.specs.Definitions.{entered, learnt_to, welcomed, landed, left, looked, executed_one, next_child, next_ready, ending, executed_ready, executed, install_to, welcomed_all, sent, sent_all, sent_others, answered, Found, is_act, waits, turned_down, next_queued, from_backlog, from_acts, from_queues, found_by, found_for, offered, pumped_from, pumped, ReplicaState, Place, Executed, childless, listed, name_of, next, members, settled, may_offer, taken_at, under_way, is_idle, last_slot, mailed, at_slot, without_slot, before_of, spoken, leads, promise_row}
 use Rattle.sc_law_walks.specs.Definitions.{IfThere}
 use Rattle.sc_law_walks.proofs.Lemmas.{idle_ready}
-use Rattle.sc_live_steps.specs.following.Definitions.{Dated, marks_in, from_slot_of, dated_of, dated_for, AreLow, IsNoPrepare, AsksLow, RowsAskNext, Mark, Asks, Tells, Installs, Prepares, mark_of, reached, Course, Sets, IsLed, IsNext, AreNext, marks_for}
+use Rattle.sc_live_steps.specs.following.Definitions.{Dated, marks_in, from_slot_of, dated_of, dated_for, AreLow, IsNoPrepare, AsksLow, RowsAskNext, Mark, Asks, Teaches, Installs, Prepares, mark_of, reached, Course, Sets, IsLed, IsNext, AreNext, marks_for}
 use Rattle.sc_live_steps.proofs.FollowingProofs.QueueingRows.{aside_is, order_is}
 use Rattle.sc_live_steps.proofs.FollowingProofs.CountedEntries.{entered_keeps, landed_told, ends, entries_lead}
 use Rattle.sc_live_steps.proofs.FollowingProofs.AskedSlots.{low-append, none_low, nothing, prepares_are_known}
@@ -60,7 +60,7 @@ module _ (name : Draw) where
   Keeps mails more = Low mails → Low more
 
   keep : (mails : List Mail) (mail : Mail) → mark_of name mail.from mail.body ≡ None → Keeps mails (mails ++ mail ∷ [])
-  keep mails mail e f = low_both mails (mail ∷ []) f (low_one mail (λ mark is. (let bad : None ≡ Some mark = sym e ∙ is in cc)))
+  keep mails mail e f = low_both mails (mail ∷ []) f (low_one mail (λ mark fact. (let bad : None ≡ Some mark = sym e ∙ fact in cc)))
 
   low_sent : (me to : ℕ) (body : MailBody) (mails : List Mail) → ((mark : Mark) → mark_of name me body ≡ Some mark → IsNoPrepare mark) → Keeps mails (sent me to body mails)
   low_sent me to body mails unasked f = low_both mails (record { from = me; to = to; body = body } ∷ []) f (low_one (record { from = me; to = to; body = body }) unasked)
@@ -199,7 +199,7 @@ module _ (name : Draw) where
 
       low_told : Low told.1
       unfolding welcomed learnt_to
-      low_told = low_welcome here (filter (λ node. not (is_member (members r) node)) (members here)) _ (low_others here.me (Learn (name_of here) (next r) command) (named_unasked (name_of here) (Tells (next r)) tt) (members r) more g)
+      low_told = low_welcome here (filter (λ node. not (is_member (members r) node)) (members here)) _ (low_others here.me (Learn (name_of here) (next r) command) (named_unasked (name_of here) (Teaches (next r)) tt) (members r) more g)
 
       low_past : Low (looked (left (landed true (next r) command told))).1
       low_past =
@@ -215,8 +215,8 @@ module _ (name : Draw) where
         (λ acts backlog more kept.
         let q : ReplicaState = record (entered command r) { acts = acts; backlog = backlog } in
         let said : Place = spoken true (before_of r.group.core) (applied r.group command).1 command (q, more) in
-        let is = spoken_kept name Keeps (λ _ h. h) (λ a b c one other h. other (one h)) keep (before_of r.group.core) (applied r.group command).1 command q more in
-        subst (λ (x : ReplicaState). Low (looked (left (landed true (next r) command (welcomed true (members r) (learnt_to true (members r) (next r) command (x, said.1)))))).1) (sym is.0) (low_past acts backlog said.1 (is.1 (kept f))))
+        let fact = spoken_kept name Keeps (λ _ h. h) (λ a b c one other h. other (one h)) keep (before_of r.group.core) (applied r.group command).1 command q more in
+        subst (λ (x : ReplicaState). Low (looked (left (landed true (next r) command (welcomed true (members r) (learnt_to true (members r) (next r) command (x, said.1)))))).1) (sym fact.0) (low_past acts backlog said.1 (fact.1 (kept f))))
         (applied r.group command).1 command
 
 -- ---- all that is executed at once
@@ -230,8 +230,8 @@ module _ (name : Draw) (at : Sets) (course : Course) (command : Command) (place 
 
   step_low : (es : List (ℕ × Command)) → (IsLed at course mid.0 → AsksLow name mid.1 → AsksLow name (executed_ready es mid).0.1) → AsksLow name (pumped (executed_ready es mid).0).1
   step_low es rest = elim ((entries_lead at course command place led is_next).state) [
-    | inl on ↦ low_pumped name (executed_ready es mid).0.0 (executed_ready es mid).0.1 (rest (subst (IsLed at course) (sym on.is) (stays_led at course command place.0 led ready is_next on.acts on.backlog on.stands on.stays)) low_mid)
-    | inr off ↦ (let still : mid.0.running ≡ false = ap (λ (q : ReplicaState). q.running) off.is in
+    | inl on ↦ low_pumped name (executed_ready es mid).0.0 (executed_ready es mid).0.1 (rest (subst (IsLed at course) (sym on.fact) (stays_led at course command place.0 led ready is_next on.acts on.backlog on.stands on.stays)) low_mid)
+    | inr off ↦ (let still : mid.0.running ≡ false = ap (λ (q : ReplicaState). q.running) off.fact in
         low_pumped name (executed_ready es mid).0.0 (executed_ready es mid).0.1 (subst (λ (s : Executed). AsksLow name s.0.1) (sym (idle_ready es mid still)) low_mid))
   ]
 

@@ -6,9 +6,9 @@ use Rattle.sc_node_table.specs.Values.{Ballot}
 use Rattle.sc_node_table.specs.Definitions.{listed, slots_ahead}
 use Rattle.sc_words.specs.paxos.Definitions.{IsAtLeast}
 use Rattle.sc_words.proofs.PaxosProofs.Lemmas.{at_least_itself, Each-append, Each-weaker}
-use Rattle.sc_live_steps.specs.following.Definitions.{Mark, Asks, Votes, Tells, Installs, Prepares, Promises, reached, pledged, AreFit, AreAskedFirst, Progress, Sets, members_at, IsOpen, IsKnown, IsVoting, HasPromised, IsPromising, IsFollowing, IsRow, IsCount, IsElsewhere, told_from, IsCounted, IsKept, Leads}
-use Rattle.sc_live_steps.proofs.FollowingProofs.Marks.{among-left, among-right, among-either, reached-append, pledged-append, fit-append, reached-least, pledged-most, stands, count-reached, count-pledged, IsLater, IsNoVote, asked-none, asked-votes, offers-fit, offers-reached, offers-pledged, offers-each, told-each, told-own, told-prepares, IsTold, told-all}
-use Rattle.sc_live_steps.proofs.FollowingProofs.NodeMarks.{goes, stays, each-row, asked-row}
+use Rattle.sc_live_steps.specs.following.Definitions.{Mark, Asks, Votes, Teaches, Installs, Prepares, Promises, reached, pledged, AreFit, AreAskedFirst, Progress, Sets, members_at, IsOpen, IsKnown, IsVoting, HasPromised, IsPromising, IsFollowing, IsRow, IsCount, IsElsewhere, taught_from, IsCounted, IsKept, Leads}
+use Rattle.sc_live_steps.proofs.FollowingProofs.Marks.{known_later, among-left, among-right, among-either, reached-append, pledged-append, fit-append, reached-least, pledged-most, stands, count-reached, count-pledged, IsLater, IsNoVote, asked-none, asked-votes, offers-fit, offers-reached, offers-pledged, offers-each, told-each, told-own, told-prepares, IsTold, told-all}
+use Rattle.sc_live_steps.proofs.FollowingProofs.NodeMarks.{promise-row, goes, stays, each-row, asked-row}
 
 -- the least of some members is one
 pub least_in : (members : List ℕ) → 1 ≤ length members → is_member members (least_of members) ≡ true
@@ -21,7 +21,7 @@ fit_left next promise None left c f = f
 fit_left next promise (Some (Votes node ballot slot)) left c f = f.1
 fit_left next promise (Some (Promises node ballot)) left c f = f.1
 fit_left next promise (Some (Asks ballot slot)) left c f = absurd c.0
-fit_left next promise (Some (Tells slot)) left c f = absurd c.0
+fit_left next promise (Some (Teaches slot)) left c f = absurd c.0
 fit_left next promise (Some (Installs slot)) left c f = absurd c.0
 fit_left next promise (Some (Prepares ballot)) left c f = absurd c.0
 
@@ -31,7 +31,7 @@ elsewhere None left o ballot slot a = tt
 elsewhere (Some (Votes node other at)) left o ballot slot a = (asked-votes node other at left o ballot slot a, tt)
 elsewhere (Some (Promises node other)) left o ballot slot a = (tt, tt)
 elsewhere (Some (Asks other at)) left o ballot slot a = (tt, tt)
-elsewhere (Some (Tells at)) left o ballot slot a = (tt, tt)
+elsewhere (Some (Teaches at)) left o ballot slot a = (tt, tt)
 elsewhere (Some (Installs at)) left o ballot slot a = (tt, tt)
 elsewhere (Some (Prepares other)) left o ballot slot a = (tt, tt)
 
@@ -54,10 +54,10 @@ module _ (at : Sets) (now after : Progress) (node : ℕ) (taken : Option Mark) (
   newest_after = after.course.newest
 
   abbrev told : ℕ → List Mark
-  told who = told_from at now.course newest l.executed who
+  told who = taught_from at now.course newest l.executed who
 
   apart : (who : ℕ) → (who ≡ node → ⊥) → who ≡ lead → ⊥
-  apart who ne is = ne (is ∙ sym l.mine)
+  apart who ne fact = ne (fact ∙ sym l.mine)
 
   led : now.next node ≡ newest
   led = ap now.next l.mine ∙ (was.leads l.runs).executed
@@ -85,9 +85,9 @@ module _ (at : Sets) (now after : Progress) (node : ℕ) (taken : Option Mark) (
       let same : reached (now.next node) (marks node) ≡ reached (now.next node) row.left =
       (ap (reached (now.next node)) row.takes ∙ (reached-append (now.next node) (listed taken) row.left ∙ ap (λ n. reached n row.left) (count-reached (now.next node) (listed taken) l.takes))) in
       let most = was.within node in
-      let is = led in
+      let fact = led in
       let up = l.newest in
-      stands (now.next node) (now.promise node) row.left fit (omega (arith, same, most, is)) newest_after (omega (arith, is, up)) (λ ballot slot a. (kept_asks ballot slot a).from)
+      stands (now.next node) (now.promise node) row.left fit (omega (arith, same, most, fact)) newest_after (omega (arith, fact, up)) (λ ballot slot a. (kept_asks ballot slot a).from)
 
   own_pledged : pledged (now.promise node) row.left ≡ now.course.ballot
   own_pledged =
@@ -129,12 +129,12 @@ module _ (at : Sets) (now after : Progress) (node : ℕ) (taken : Option Mark) (
   own_after =
       let some = was.some in
       let up = l.newest in
-      let is = own_reached in
+      let fact = own_reached in
       record {
         fit = own_fit;
-        within = omega (arith, is);
+        within = omega (arith, fact);
         member = λ _. own_reached;
-        opens = λ _. (omega (arith, is, some, up), own_pledged_after);
+        opens = λ _. (omega (arith, fact, some, up), own_pledged_after);
         first = λ _. own_pledged_after;
       }
 
@@ -192,37 +192,26 @@ module _ (at : Sets) (now after : Progress) (node : ℕ) (taken : Option Mark) (
     other_after : IsAfter who
     other_after =
         let up = l.newest in
-        let is = other_reached in
+        let fact = other_reached in
         let low = told_there.1.low in
         record {
           fit = other_fit;
-          within = omega (arith, up, is, low);
+          within = omega (arith, up, fact, low);
           member = λ m. other_reached ∙ (told_there.1.member (subst (λ n. is_member (members_at at n) who ≡ true) up m) ∙ sym up);
-          opens = λ o. (let r = other_opens o.slot (let f = o.from in omega (arith, f, up)) o.to o.decides in let some = r.0 in (omega (arith, some, is), other_pledged ∙ r.1));
+          opens = λ o. (let r = other_opens o.slot (let f = o.from in omega (arith, f, up)) o.to o.decides in let some = r.0 in (omega (arith, some, fact), other_pledged ∙ r.1));
           first = λ f. other_pledged ∙ told_there.1.first f;
         }
 
   after_is : (who : ℕ) → IsAfter who
-  after_is who = elim (cases_eq who node) [ inl is ↦ subst IsAfter (sym is) own_after | inr ne ↦ other_after who ne ]
+  after_is who = elim (cases_eq who node) [ inl fact ↦ subst IsAfter (sym fact) own_after | inr ne ↦ other_after who ne ]
 
   -- ---- what is sent
 
-  sent_each : (P : Mark → Type 0) → ((slot : ℕ) → P (Tells slot)) → ((slot : ℕ) → P (Installs slot)) → P (Prepares now.course.ballot)
+  sent_each : (P : Mark → Type 0) → ((slot : ℕ) → P (Teaches slot)) → ((slot : ℕ) → P (Installs slot)) → P (Prepares now.course.ballot)
       → ((ballot : Ballot) (slot : ℕ) → now.course.bound ≤ slot → slot < after.course.bound → P (Asks ballot slot)) → (who : ℕ) → Each P (sent who)
   sent_each P tells installs prepares asks who =
       subst (Each P) (sym (l.sends who))
       (Each-append P (told who) (l.offers who) (told-each at now.course who P tells installs prepares l.executed newest) (offers-each P at after.course now.course.bound who asks (l.offers who) (l.asks who)))
-
-  known_more : (mark : Mark) → IsKnown now.course mark → IsKnown after.course mark
-  known_more (Asks ballot slot) k = (let up = l.bound in omega (arith, k, up))
-  known_more (Votes node' ballot slot) k = (let up = l.bound in omega (arith, k, up))
-  known_more (Tells slot) k = tt
-  known_more (Installs slot) k = tt
-  known_more (Prepares ballot) k = subst (λ b. IsAtLeast b ballot) (sym l.ballot) k
-  known_more (Promises node' ballot) k = tt
-
-  promise_same : (who : ℕ) → after.promise who ≡ now.promise who
-  promise_same who = elim (cases_eq who node) [ inl is ↦ ap after.promise is ∙ (l.promise ∙ ap now.promise (sym is)) | inr ne ↦ row.promise who ne ]
 
   taken_no : (mark : Mark) → (IsCount mark → ⊥) → taken ≡ Some mark → ⊥
   taken_no mark no_ e = no_ (counted_is taken mark l.takes e)
@@ -231,20 +220,20 @@ module _ (at : Sets) (now after : Progress) (node : ℕ) (taken : Option Mark) (
 
   voting : (slot : ℕ) (voters : List ℕ) (who : ℕ) → is_member (at slot) who ≡ true → (c : IsCounted at now.course taken slot voters) → IsVoting now.course.ballot who slot c.before (marks who) (marks lead)
       → IsVoting now.course.ballot who slot voters (marks_after who) (marks_after lead)
-  voting slot voters who is c (inl v) = inl (c.keeps who v)
-  voting slot voters who is c (inr (inl a)) = elim (stays now after node taken sent marks marks_after row who (Asks now.course.ballot slot) a) [
+  voting slot voters who fact c (inl v) = inl (c.keeps who v)
+  voting slot voters who fact c (inr (inl a)) = elim (stays now after node taken sent marks marks_after row who (Asks now.course.ballot slot) a) [
     | inl both ↦ absurd (taken_no (Asks now.course.ballot slot) (λ n. n) both.1)
     | inr b ↦ inr (inl b)
   ]
-  voting slot voters who is c (inr (inr a)) = elim (stays now after node taken sent marks marks_after row lead (Votes who now.course.ballot slot) a) [
-    | inl both ↦ inl (c.counts who both.1 is)
+  voting slot voters who fact c (inr (inr a)) = elim (stays now after node taken sent marks marks_after row lead (Votes who now.course.ballot slot) a) [
+    | inl both ↦ inl (c.counts who both.1 fact)
     | inr b ↦ inr (inr b)
   ]
 
   voting_after : (slot : ℕ) (voters : List ℕ) → after.course.voters slot ≡ Some voters → (who : ℕ) → is_member (at slot) who ≡ true → IsVoting now.course.ballot who slot voters (marks_after who) (marks_after lead)
-  voting_after slot voters e who is = elim (l.grown slot voters e) [
-    | inl o ↦ inr (inl (goes now after node taken sent marks marks_after row who (Asks now.course.ballot slot) (o.asks who is)))
-    | inr c ↦ voting slot voters who is c (was.votes slot c.before c.flew who is)
+  voting_after slot voters e who fact = elim (l.grown slot voters e) [
+    | inl o ↦ inr (inl (goes now after node taken sent marks marks_after row who (Asks now.course.ballot slot) (o.asks who fact)))
+    | inr c ↦ voting slot voters who fact c (was.votes slot c.before c.flew who fact)
   ]
 
   abbrev HasPromisedAfter : ℕ → Ballot → Type 0
@@ -267,7 +256,7 @@ module _ (at : Sets) (now after : Progress) (node : ℕ) (taken : Option Mark) (
   -- one that decides an open slot did so before, or came by an entry, and is asked
   open_before : now.course.is_first ≡ false → (who : ℕ) → IsOpen at newest_after who → IsOpen at newest who ⊎ Among (Prepares now.course.ballot) (sent who)
   open_before later who o = elim (cases_eq who node) [
-    | inl is ↦ inl (subst (IsOpen at newest) (sym is) lead_open)
+    | inl fact ↦ inl (subst (IsOpen at newest) (sym fact) lead_open)
     | inr ne ↦ elim (cases_lt o.slot (newest + slots_ahead)) [
       | inl lt ↦ inl (record { slot = o.slot; from = (let f = o.from in let up = l.newest in omega (arith, f, up)); to = lt; decides = o.decides })
       | inr ge ↦ (let to = o.to in
@@ -305,24 +294,24 @@ module _ (at : Sets) (now after : Progress) (node : ℕ) (taken : Option Mark) (
     some = (let some = was.some in let up = l.newest in omega (arith, some, up));
     low = (let within = l.within in let up = l.bound in omega (arith, within, up));
     high = l.high;
-    known = λ who. each-row now after node taken sent marks marks_after row (IsKnown after.course) who (Each-weaker (IsKnown now.course) (IsKnown after.course) known_more (marks who) (was.known who))
+    known = λ who. each-row now after node taken sent marks marks_after row (IsKnown after.course) who (Each-weaker (IsKnown now.course) (IsKnown after.course) (known_later now.course after.course (λ slot low. (let up = l.bound in omega (arith, low, up))) (λ b. subst (λ x. IsAtLeast x b) (sym l.ballot))) (marks who) (was.known who))
         (sent_each (IsKnown after.course) (λ _. tt) (λ _. tt) (subst (λ b. IsAtLeast b now.course.ballot) (sym l.ballot) (at_least_itself now.course.ballot)) (λ ballot slot f lt. lt) who);
-    promised = λ who. subst (λ b. IsAtLeast b (after.promise who)) (sym l.ballot) (subst (IsAtLeast now.course.ballot) (sym (promise_same who)) (was.promised who));
+    promised = λ who. subst (λ b. IsAtLeast b (after.promise who)) (sym l.ballot) (subst (IsAtLeast now.course.ballot) (sym (promise-row now after node taken sent marks marks_after row l.promise who)) (was.promised who));
     first = λ f who. (after_is who).first (sym l.first ∙ f) ∙ sym l.ballot;
     asked = λ who. asked-row now after node taken sent marks marks_after row who (was.asked who) (was.known who) (sent_each (IsLater now.course.bound) (λ _. tt) (λ _. tt) tt (λ ballot slot f lt. f) who)
         (asked-none (sent who) (sent_each IsNoVote (λ _. tt) (λ _. tt) tt (λ _ _ _ _. tt) who));
     undone = λ r ballot slot a. undone_after r ballot slot (subst (λ n. Among (Asks ballot slot) (marks_after n)) same_lead a);
     flying = l.flying;
-    votes = λ slot voters e who is. subst (λ (b : Ballot). IsVoting b who slot voters (marks_after who) (marks_after b.node)) (sym l.ballot) (voting_after slot voters e who is);
+    votes = λ slot voters e who fact. subst (λ (b : Ballot). IsVoting b who slot voters (marks_after who) (marks_after b.node)) (sym l.ballot) (voting_after slot voters e who fact);
     promises = λ r later who o. subst (λ (b : Ballot). Among (Prepares b) (marks_after who) ⊎ HasPromisedAfter who b) (sym l.ballot) (promising_after r (sym l.first ∙ later) who o);
-    pledges = λ r later who e. subst (HasPromisedAfter who) (sym l.ballot) (promised_after r who (was.pledges l.runs (sym l.first ∙ later) who (sym (promise_same who) ∙ (e ∙ l.ballot))));
+    pledges = λ r later who e. subst (HasPromisedAfter who) (sym l.ballot) (promised_after r who (was.pledges l.runs (sym l.first ∙ later) who (sym (promise-row now after node taken sent marks marks_after row l.promise who) ∙ (e ∙ l.ballot))));
     leads = λ r. (let stay = l.stays r in
         record { executed = ap after.next same_lead ∙ l.next; member = subst (λ n. is_member (members_at at newest_after) n ≡ true) (sym same_lead) stay.0; stands = stay.1 });
     offered = λ r. (l.stops r).1;
     self_election = λ r g. (let heir = least_of (members_at at newest_after) in
         let member = least_in (members_at at newest_after) (rosters (newest_after + 3)).some in
         elim (cases_eq heir node) [
-          | inl is ↦ absurd (both_no (subst (λ n. is_member (members_at at newest_after) n ≡ true) is member) (l.leaves r g))
+          | inl fact ↦ absurd (both_no (subst (λ n. is_member (members_at at newest_after) n ≡ true) fact member) (l.leaves r g))
           | inr ne ↦ (let same = row.next heir ne in
               let rises = reached-least (now.next heir) (now.promise heir) (marks heir) (was.fits heir) in
               let within = was.within heir in

@@ -8,9 +8,10 @@ use Rattle.sc_node_table.specs.Values.{Ballot, Command, Mail, Flight}
 use Rattle.sc_words.specs.paxos.Definitions.{flight_at, kept_voters}
 use Rattle.sc_words.proofs.PaxosProofs.Lemmas.{Each-among, Each-weaker, find_found}
 use Rattle.sc_node_table.specs.Definitions.{ReplicaState, Place, listed, name_of, next, members, either, taken_at, flying, at_slot}
-use Rattle.sc_live_steps.specs.following.Definitions.{Mark, Asks, Promises, Course, Progress, Sets, IsInFlight, members_at, IsLed, IsStill, IsStopped, LeadsBy, voters_of, IsPolled, IsLeadOf, progress_by, LeadsInto, StopsAlone, marks_for, to_bound, IsCount, IsElsewhere, IsOffer, IsOffered, IsCounted, IsKept, Leads, told_from}
+use Rattle.sc_live_steps.specs.following.Definitions.{Mark, Asks, Promises, Course, Progress, Sets, IsInFlight, members_at, IsLed, IsStill, IsStopped, LeadsBy, voters_of, IsPolled, IsLeadOf, progress_by, LeadsInto, StopsAlone, marks_for, to_bound, IsCount, IsElsewhere, IsOffer, IsOffered, IsCounted, IsKept, Leads, taught_from}
 use Rattle.sc_live_steps.proofs.FollowingProofs.LeastMembers.{none_decided}
 use Rattle.sc_live_steps.proofs.FollowingProofs.Marks.{among-right}
+use Rattle.std.proofs.lemmas.Option.{same_Some}
 pub use Rattle.sc_law_walks.proofs.Lemmas.{none_there}
 
 -- ---- the votes for what is in flight
@@ -24,15 +25,12 @@ pub record Flies (r : ReplicaState) (slot : ℕ) (voters : List ℕ) : Type 0 wh
   pub found : flight_at slot r.leader.flights ≡ Some flight
   pub votes : kept_voters flight.voters ≡ voters
 
-some_there : {X : Type 0} (x y : X) → Some x ≡ Some y → x ≡ y
-some_there x y e = cc
-
 pub voters_fly : (r : ReplicaState) (slot : ℕ) (voters : List ℕ) → voters_of r slot ≡ Some voters → Flies r slot voters
 voters_fly r slot voters e = by (not r.running || (ltb slot (next r) || is_some (at_slot r.ready slot))) refl e
   where
     found_by : (r.running ≡ true) → next r ≤ slot → at_slot r.ready slot ≡ None → (o : Option (Flight Command)) → flight_at slot r.leader.flights ≡ o → option_map (λ (f : Flight Command). kept_voters f.voters) o ≡ Some voters → Flies r slot voters
-    found_by on from none None is e = cc
-    found_by on from none (Some f) is e = record { running = on; from = from; ready = none; flight = f; found = is; votes = some_there (kept_voters f.voters) voters e }
+    found_by on from none None fact e = cc
+    found_by on from none (Some f) fact e = record { running = on; from = from; ready = none; flight = f; found = fact; votes = same_Some (kept_voters f.voters) voters e }
 
     runs : (b : Bool) → not b ≡ false → b ≡ true
     runs true e = refl
@@ -118,11 +116,11 @@ module _ (at : Sets) (now : Progress) (taken : Option Mark) (r mid : ReplicaStat
   stopped_of : after.0.running ≡ false → IsStopped after.0 × (1 ≤ b.executed) × (b.bound ≡ now.course.bound)
   stopped_of off = elim (b.state) [ inl still ↦ absurd (true≢false (sym still.led.running ∙ off)) | inr stopped ↦ stopped ]
 
-  sends : (who : ℕ) → sent who ≡ told_from at now.course now.course.newest b.executed who ++ b.offers who
+  sends : (who : ℕ) → sent who ≡ taught_from at now.course now.course.newest b.executed who ++ b.offers who
   sends who =
-      subst (λ n. marks_for n who after.1 ≡ marks_for n who mails ++ (told_from at now.course (next mid) b.executed who ++ b.offers who)) c.same_name (b.sends who)
-      ∙ (ap (λ l. l ++ (told_from at now.course (next mid) b.executed who ++ b.offers who)) (silent who)
-      ∙ ap (λ n. told_from at now.course n b.executed who ++ b.offers who) (c.same_next ∙ sym was.newest))
+      subst (λ n. marks_for n who after.1 ≡ marks_for n who mails ++ (taught_from at now.course (next mid) b.executed who ++ b.offers who)) c.same_name (b.sends who)
+      ∙ (ap (λ l. l ++ (taught_from at now.course (next mid) b.executed who ++ b.offers who)) (silent who)
+      ∙ ap (λ n. taught_from at now.course n b.executed who ++ b.offers who) (c.same_next ∙ sym was.newest))
 
   -- what is in flight then was in flight, or is offered in this row
   origin : (slot : ℕ) (voters : List ℕ) → voters_of after.0 slot ≡ Some voters → (voters_of mid slot ≡ Some voters) ⊎ ((now.course.bound ≤ slot) × (slot < b.bound) × (voters ≡ []))
@@ -168,7 +166,7 @@ module _ (at : Sets) (now : Progress) (taken : Option Mark) (r mid : ReplicaStat
       from = new.0;
       none = new.2;
       asks = λ node mine. subst (Among (Asks now.course.ballot slot)) (sym (sends node))
-          (among-right (Asks now.course.ballot slot) (told_from at now.course now.course.newest b.executed node) (b.offers node) (b.asked slot node new.0 new.1 mine));
+          (among-right (Asks now.course.ballot slot) (taught_from at now.course now.course.newest b.executed node) (b.offers node) (b.asked slot node new.0 new.1 mine));
     })
   ]
 

@@ -74,8 +74,8 @@ once test who mark (suc count) from = by (test from) (once test who mark count (
     head : marks_to who mark (filter test (numbers_from (from + 1) count)) ≡ cond (is_member (filter test (numbers_from (from + 1) count)) who) (mark ∷ []) []
         → cond (eqb from who) (mark ∷ []) [] ++ marks_to who mark (filter test (numbers_from (from + 1) count)) ≡ cond (eqb from who || is_member (filter test (numbers_from (from + 1) count)) who) (mark ∷ []) []
     head rest = elim (cases_eq from who) [
-      | inl is ↦ (let t = eq-eqb from who is in
-          let none = below_none test who mark count (from + 1) (omega (arith, is)) in
+      | inl fact ↦ (let t = eq-eqb from who fact in
+          let none = below_none test who mark count (from + 1) (omega (arith, fact)) in
           ap (λ c. cond c (mark ∷ []) [] ++ marks_to who mark (filter test (numbers_from (from + 1) count))) t
           ∙ (ap (λ l. mark ∷ l) none.0 ∙ sym (cond-true (eqb from who || is_member (filter test (numbers_from (from + 1) count)) who) (mark ∷ []) [] (or_left (eqb from who) (is_member (filter test (numbers_from (from + 1) count)) who) t))))
       | inr ne ↦ (let f = ne_eqb from who ne in

@@ -1,5 +1,5 @@
 -- The lemmas of this part of the crate that others cite, under one name.
-pub use Rattle.sc_live_steps.proofs.FollowingProofs.StoppingLeaders.{acts_stop_alone, entered_core, note_core, served_core, called_core}
+pub use Rattle.sc_live_steps.proofs.FollowingProofs.StoppingLeaders.{ReadyAlone, alone_on, acts_stop_alone, entered_core, note_core, served_core, called_core}
 pub use Rattle.sc_live_steps.proofs.FollowingProofs.QueueingRows.{rows_lead, aside_is, order_is}
 pub use Rattle.sc_live_steps.proofs.FollowingProofs.LeaderPrepares.{rows_ask_next}
 pub use Rattle.sc_live_steps.proofs.FollowingProofs.FirstLeaders.{leaders_begin}
@@ -10,7 +10,7 @@ pub use Rattle.sc_live_steps.proofs.FollowingProofs.LeastMembers.{tables_elect}
 pub use Rattle.sc_live_steps.proofs.FollowingProofs.TableElections.{elections_lead, among_numbers}
 pub use Rattle.sc_live_steps.proofs.FollowingProofs.ElectionRows.{self_election-keeps as elections_keep_following, self_election-keeps, last_promise}
 pub use Rattle.sc_live_steps.proofs.FollowingProofs.EntryMail.{entries_report, with_state, with_both}
-pub use Rattle.sc_live_steps.proofs.FollowingProofs.ExecutedEntries.{executions_lead, stays_led, ready_of, ready_leads, are_push, are_next, entered_sets}
+pub use Rattle.sc_live_steps.proofs.FollowingProofs.ExecutedEntries.{executions_lead, stays_led, on_leads, on_next, on_ready, ready_of, ready_leads, are_push, are_next, entered_sets}
 pub use Rattle.sc_live_steps.proofs.FollowingProofs.HintRows.{hints_are_kept, nodes_heed}
 pub use Rattle.sc_live_steps.proofs.FollowingProofs.Hints.{hinted-append, count-hinted}
 pub use Rattle.sc_live_steps.proofs.FollowingProofs.FlightSlots.{slot_out}

@@ -180,16 +180,17 @@ took_over_steps from slot base sets r fit off mine =
     after : StepsBy (Installs slot) r (record (jumped slot base sets r) { hint = Some from }, [])
     after = record { reaches = next_jumped slot base sets r; promises = keeps.0; runs = keeps.1; leads = λ on. absurd (true≢false (sym on ∙ off)); answers = λ who. refl; low = low }
 
+-- a state with as many members' sets, at a slot that is open and not executed, is taken over
+pub not_refused : (slot : ℕ) (sets : List (List ℕ)) (r : ReplicaState) → next r ≤ slot → slot ≤ last_slot → length sets ≡ length r.sets → (not (eqb (length sets) (length r.sets)) || (ltb last_slot slot || ltb slot (next r))) ≡ false
+not_refused slot sets r fit low sized =
+    or_from (not (eqb (length sets) (length r.sets))) (ltb last_slot slot || ltb slot (next r)) (not_from_true (eqb (length sets) (length r.sets)) (eq-eqb (length sets) (length r.sets) sized))
+    (or_from (ltb last_slot slot) (ltb slot (next r)) (le-ltb last_slot slot low) (le-ltb slot (next r) fit))
+
 pub install_steps : (from slot : ℕ) (base : Base) (sets : List (List ℕ)) (r : ReplicaState) → IsInTime (Installs slot) r → r.running ≡ false → slot ≤ last_slot → length sets ≡ length r.sets
     → is_member base.core.members from ≡ true → StepsBy (Installs slot) r (install_row from slot base sets (r, []))
 unfolding install_row
 install_steps from slot base sets r fit off low sized mine =
-    subst (λ b. StepsBy (Installs slot) r (cond {A = Place} b (r, []) (took_over from slot base sets (r, [])))) (sym taken) (took_over_steps from slot base sets r fit off mine)
-  where
-    taken : (not (eqb (length sets) (length r.sets)) || (ltb last_slot slot || ltb slot (next r))) ≡ false
-    taken =
-        or_from (not (eqb (length sets) (length r.sets))) (ltb last_slot slot || ltb slot (next r)) (not_from_true (eqb (length sets) (length r.sets)) (eq-eqb (length sets) (length r.sets) sized))
-        (or_from (ltb last_slot slot) (ltb slot (next r)) (le-ltb last_slot slot low) (le-ltb slot (next r) fit))
+    subst (λ b. StepsBy (Installs slot) r (cond {A = Place} b (r, []) (took_over from slot base sets (r, [])))) (sym (not_refused slot sets r fit low sized)) (took_over_steps from slot base sets r fit off mine)
 
 -- ---- a replica that is made of a state
 

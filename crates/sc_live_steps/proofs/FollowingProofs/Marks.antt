@@ -6,7 +6,7 @@ use Rattle.sc_node_table.specs.Values.{Ballot}
 use Rattle.sc_node_table.specs.Definitions.{listed, slots_ahead}
 use Rattle.sc_words.specs.paxos.Definitions.{IsAtLeast}
 use Rattle.sc_words.proofs.PaxosProofs.Lemmas.{at_least_itself, Each-append, Each-weaker}
-use Rattle.sc_live_steps.specs.following.Definitions.{Mark, Asks, Votes, Tells, Installs, Prepares, Promises, next_by, promise_by, reached, pledged, IsFit, AreFit, IsNoAsk, AreAskedFirst, Course, Sets, members_at, IsKnown, IsCount, IsOffer, welcome, reported_of, told_from}
+use Rattle.sc_live_steps.specs.following.Definitions.{Mark, Asks, Votes, Teaches, Installs, Prepares, Promises, next_by, promise_by, reached, pledged, IsFit, AreFit, IsNoAsk, AreAskedFirst, Course, Sets, members_at, IsKnown, IsCount, IsOffer, welcome, reported_of, taught_from}
 pub use Rattle.sc_paxos_law.proofs.Lemmas.{Among-left as among-left, Among-right as among-right, Among-either as among-either}
 
 -- ---- what stands in lists
@@ -32,7 +32,7 @@ fit-append next promise (mark ∷ xs) ys f g = (f.0, fit-append (next_by next ma
 
 -- a mail that comes in time takes a node no way back
 pub rises : (next : ℕ) (promise : Ballot) (mark : Mark) → IsFit next promise mark → next ≤ next_by next mark
-rises next promise (Tells slot) f = (let at = f.1 in omega (arith, at))
+rises next promise (Teaches slot) f = (let at = f.1 in omega (arith, at))
 rises next promise (Installs slot) f = omega (arith, f)
 rises next promise _ f = omega arith
 
@@ -70,7 +70,7 @@ stands next promise (Asks ballot slot ∷ marks) f le to up asks =
     let more = stands next promise marks f.1 le to up (λ b s a. asks b s (inr a)) in
     (((omega (arith, some, up), asks ballot slot (inl refl), f.0.2), more.0), more.1)
 stands next promise (Votes node ballot slot ∷ marks) f le to up asks = (let more = stands next promise marks f.1 le to up (λ b s a. asks b s (inr a)) in ((tt, more.0), more.1))
-stands next promise (Tells slot ∷ marks) f le to up asks = (let at = f.0.1 in let more = reached-least (suc slot) promise marks f.1 in absurd (omega (arith, at, more, le)))
+stands next promise (Teaches slot ∷ marks) f le to up asks = (let at = f.0.1 in let more = reached-least (suc slot) promise marks f.1 in absurd (omega (arith, at, more, le)))
 stands next promise (Installs slot ∷ marks) f le to up asks = (let at = f.0 in let more = reached-least (suc slot) promise marks f.1 in absurd (omega (arith, at, more, le)))
 stands next promise (Prepares ballot ∷ marks) f le to up asks =
     let some = f.0.0 in
@@ -85,7 +85,7 @@ count-reached next [] e = refl
 count-reached next (Votes node ballot slot ∷ marks) e = count-reached next marks e.1
 count-reached next (Promises node ballot ∷ marks) e = count-reached next marks e.1
 count-reached next (Asks ballot slot ∷ marks) e = absurd e.0
-count-reached next (Tells slot ∷ marks) e = absurd e.0
+count-reached next (Teaches slot ∷ marks) e = absurd e.0
 count-reached next (Installs slot ∷ marks) e = absurd e.0
 count-reached next (Prepares ballot ∷ marks) e = absurd e.0
 
@@ -94,7 +94,7 @@ count-pledged promise [] e = refl
 count-pledged promise (Votes node ballot slot ∷ marks) e = count-pledged promise marks e.1
 count-pledged promise (Promises node ballot ∷ marks) e = count-pledged promise marks e.1
 count-pledged promise (Asks ballot slot ∷ marks) e = absurd e.0
-count-pledged promise (Tells slot ∷ marks) e = absurd e.0
+count-pledged promise (Teaches slot ∷ marks) e = absurd e.0
 count-pledged promise (Installs slot ∷ marks) e = absurd e.0
 count-pledged promise (Prepares ballot ∷ marks) e = absurd e.0
 
@@ -103,7 +103,7 @@ count-fit next promise [] e = tt
 count-fit next promise (Votes node ballot slot ∷ marks) e = (tt, count-fit next promise marks e.1)
 count-fit next promise (Promises node ballot ∷ marks) e = (tt, count-fit next promise marks e.1)
 count-fit next promise (Asks ballot slot ∷ marks) e = absurd e.0
-count-fit next promise (Tells slot ∷ marks) e = absurd e.0
+count-fit next promise (Teaches slot ∷ marks) e = absurd e.0
 count-fit next promise (Installs slot ∷ marks) e = absurd e.0
 count-fit next promise (Prepares ballot ∷ marks) e = absurd e.0
 
@@ -119,7 +119,7 @@ count-asks (mark ∷ marks) e ballot slot (inr a) = count-asks marks e.1 ballot 
 abbrev pub IsLater : ℕ → Mark → Type 0
 IsLater bound (Asks ballot slot) = bound ≤ slot
 IsLater bound (Votes node ballot slot) = Unit {0}
-IsLater bound (Tells slot) = Unit {0}
+IsLater bound (Teaches slot) = Unit {0}
 IsLater bound (Installs slot) = Unit {0}
 IsLater bound (Prepares ballot) = Unit {0}
 IsLater bound (Promises node ballot) = Unit {0}
@@ -128,7 +128,7 @@ IsLater bound (Promises node ballot) = Unit {0}
 abbrev pub IsNoVote : Mark → Type 0
 IsNoVote (Votes node ballot slot) = ⊥
 IsNoVote (Asks ballot slot) = Unit {0}
-IsNoVote (Tells slot) = Unit {0}
+IsNoVote (Teaches slot) = Unit {0}
 IsNoVote (Installs slot) = Unit {0}
 IsNoVote (Prepares ballot) = Unit {0}
 IsNoVote (Promises node ballot) = Unit {0}
@@ -142,7 +142,7 @@ asked-append course [] ys o known later more = more
 asked-append course (Votes node ballot slot ∷ xs) ys o known later more =
     (Each-append (IsNoAsk slot) xs ys o.0 (Each-weaker (IsLater course.bound) (IsNoAsk slot) (later_apart slot course.bound known.0) ys later), asked-append course xs ys o.1 known.1 later more)
 asked-append course (Asks ballot slot ∷ xs) ys o known later more = asked-append course xs ys o known.1 later more
-asked-append course (Tells slot ∷ xs) ys o known later more = asked-append course xs ys o known.1 later more
+asked-append course (Teaches slot ∷ xs) ys o known later more = asked-append course xs ys o known.1 later more
 asked-append course (Installs slot ∷ xs) ys o known later more = asked-append course xs ys o known.1 later more
 asked-append course (Prepares ballot ∷ xs) ys o known later more = asked-append course xs ys o known.1 later more
 asked-append course (Promises node ballot ∷ xs) ys o known later more = asked-append course xs ys o known.1 later more
@@ -152,7 +152,7 @@ pub asked-none : (marks : List Mark) → Each IsNoVote marks → AreAskedFirst m
 asked-none [] e = tt
 asked-none (Votes node ballot slot ∷ marks) e = absurd e.0
 asked-none (Asks ballot slot ∷ marks) e = asked-none marks e.1
-asked-none (Tells slot ∷ marks) e = asked-none marks e.1
+asked-none (Teaches slot ∷ marks) e = asked-none marks e.1
 asked-none (Installs slot ∷ marks) e = asked-none marks e.1
 asked-none (Prepares ballot ∷ marks) e = asked-none marks e.1
 asked-none (Promises node ballot ∷ marks) e = asked-none marks e.1
@@ -167,7 +167,7 @@ asked-counts (Votes node ballot slot ∷ marks) e = (Each-weaker IsCount (IsNoAs
     no_ask slot _ c = tt
 asked-counts (Promises node ballot ∷ marks) e = asked-counts marks e.1
 asked-counts (Asks ballot slot ∷ marks) e = absurd e.0
-asked-counts (Tells slot ∷ marks) e = absurd e.0
+asked-counts (Teaches slot ∷ marks) e = absurd e.0
 asked-counts (Installs slot ∷ marks) e = absurd e.0
 asked-counts (Prepares ballot ∷ marks) e = absurd e.0
 
@@ -196,11 +196,11 @@ pub offers-fit : (at : Sets) (course : Course) (from who next : ℕ) (promise : 
     → ((slot : ℕ) → from ≤ slot → slot < course.bound → is_member (at slot) who ≡ true → (1 ≤ next) × (promise ≡ course.ballot)) → AreFit next promise marks
 offers-fit at course from who next promise [] e le ready = tt
 offers-fit at course from who next promise (Asks ballot slot ∷ marks) e le ready =
-    let is = ready slot e.0.1 e.0.2 e.0.3 in
+    let fact = ready slot e.0.1 e.0.2 e.0.3 in
     let up = e.0.1 in
-    ((is.0, omega (arith, le, up), e.0.0 ∙ sym is.1), offers-fit at course from who next promise marks e.1 le ready)
+    ((fact.0, omega (arith, le, up), e.0.0 ∙ sym fact.1), offers-fit at course from who next promise marks e.1 le ready)
 offers-fit at course from who next promise (Votes node ballot slot ∷ marks) e le ready = absurd e.0
-offers-fit at course from who next promise (Tells slot ∷ marks) e le ready = absurd e.0
+offers-fit at course from who next promise (Teaches slot ∷ marks) e le ready = absurd e.0
 offers-fit at course from who next promise (Installs slot ∷ marks) e le ready = absurd e.0
 offers-fit at course from who next promise (Prepares ballot ∷ marks) e le ready = absurd e.0
 offers-fit at course from who next promise (Promises node ballot ∷ marks) e le ready = absurd e.0
@@ -210,7 +210,7 @@ pub offers-reached : (at : Sets) (course : Course) (from who next : ℕ) (marks 
 offers-reached at course from who next [] e = refl
 offers-reached at course from who next (Asks ballot slot ∷ marks) e = offers-reached at course from who next marks e.1
 offers-reached at course from who next (Votes node ballot slot ∷ marks) e = absurd e.0
-offers-reached at course from who next (Tells slot ∷ marks) e = absurd e.0
+offers-reached at course from who next (Teaches slot ∷ marks) e = absurd e.0
 offers-reached at course from who next (Installs slot ∷ marks) e = absurd e.0
 offers-reached at course from who next (Prepares ballot ∷ marks) e = absurd e.0
 offers-reached at course from who next (Promises node ballot ∷ marks) e = absurd e.0
@@ -219,7 +219,7 @@ pub offers-pledged : (at : Sets) (course : Course) (from who : ℕ) (promise : B
 offers-pledged at course from who promise [] e = refl
 offers-pledged at course from who promise (Asks ballot slot ∷ marks) e = offers-pledged at course from who promise marks e.1
 offers-pledged at course from who promise (Votes node ballot slot ∷ marks) e = absurd e.0
-offers-pledged at course from who promise (Tells slot ∷ marks) e = absurd e.0
+offers-pledged at course from who promise (Teaches slot ∷ marks) e = absurd e.0
 offers-pledged at course from who promise (Installs slot ∷ marks) e = absurd e.0
 offers-pledged at course from who promise (Prepares ballot ∷ marks) e = absurd e.0
 offers-pledged at course from who promise (Promises node ballot ∷ marks) e = absurd e.0
@@ -230,7 +230,7 @@ pub offers-each : (P : Mark → Type 0) (at : Sets) (course : Course) (from who 
 offers-each P at course from who f [] e = tt
 offers-each P at course from who f (Asks ballot slot ∷ marks) e = (f ballot slot e.0.1 e.0.2, offers-each P at course from who f marks e.1)
 offers-each P at course from who f (Votes node ballot slot ∷ marks) e = absurd e.0
-offers-each P at course from who f (Tells slot ∷ marks) e = absurd e.0
+offers-each P at course from who f (Teaches slot ∷ marks) e = absurd e.0
 offers-each P at course from who f (Installs slot ∷ marks) e = absurd e.0
 offers-each P at course from who f (Prepares ballot ∷ marks) e = absurd e.0
 offers-each P at course from who f (Promises node ballot ∷ marks) e = absurd e.0
@@ -239,26 +239,26 @@ offers-each P at course from who f (Promises node ballot ∷ marks) e = absurd e
 
 module _ (at : Sets) (course : Course) (who : ℕ) where
   -- it is an entry to be learnt, a state, or a request to promise the ballot
-  pub told-each : (P : Mark → Type 0) → ((slot : ℕ) → P (Tells slot)) → ((slot : ℕ) → P (Installs slot)) → P (Prepares course.ballot) → (more slot : ℕ) → Each P (told_from at course slot more who)
+  pub told-each : (P : Mark → Type 0) → ((slot : ℕ) → P (Teaches slot)) → ((slot : ℕ) → P (Installs slot)) → P (Prepares course.ballot) → (more slot : ℕ) → Each P (taught_from at course slot more who)
   told-each P tells installs prepares zero slot = tt
-  told-each P tells installs prepares (suc more) slot = Each-append P (reported_of at course slot who) (told_from at course (slot + 1) more who) one (told-each P tells installs prepares more (slot + 1))
+  told-each P tells installs prepares (suc more) slot = Each-append P (reported_of at course slot who) (taught_from at course (slot + 1) more who) one (told-each P tells installs prepares more (slot + 1))
     where
       welcomed_each : Each P (welcome course slot)
       welcomed_each = (installs slot, cond_both course.is_first [] (Prepares course.ballot ∷ []) (Each P) (λ _. tt) (λ _. (prepares, tt)))
 
       one : Each P (reported_of at course slot who)
       one =
-          cond_both (eqb who course.ballot.node) [] (cond (is_member (members_at at slot) who) (Tells slot ∷ []) (cond (is_member (members_at at (slot + 1)) who) (welcome course slot) [])) (Each P) (λ _. tt)
-          (λ _. cond_both (is_member (members_at at slot) who) (Tells slot ∷ []) (cond (is_member (members_at at (slot + 1)) who) (welcome course slot) []) (Each P) (λ _. (tells slot, tt))
+          cond_both (eqb who course.ballot.node) [] (cond (is_member (members_at at slot) who) (Teaches slot ∷ []) (cond (is_member (members_at at (slot + 1)) who) (welcome course slot) [])) (Each P) (λ _. tt)
+          (λ _. cond_both (is_member (members_at at slot) who) (Teaches slot ∷ []) (cond (is_member (members_at at (slot + 1)) who) (welcome course slot) []) (Each P) (λ _. (tells slot, tt))
           (λ _. cond_both (is_member (members_at at (slot + 1)) who) (welcome course slot) [] (Each P) (λ _. welcomed_each) (λ _. tt)))
 
   -- the one that leads is sent nothing
-  pub told-own : who ≡ course.ballot.node → (more slot : ℕ) → told_from at course slot more who ≡ []
-  told-own is zero slot = refl
-  told-own is (suc more) slot =
-      ap (λ l. l ++ told_from at course (slot + 1) more who)
-      (cond-true (eqb who course.ballot.node) [] (cond (is_member (members_at at slot) who) (Tells slot ∷ []) (cond (is_member (members_at at (slot + 1)) who) (welcome course slot) [])) (eq-eqb who course.ballot.node is))
-      ∙ told-own is more (slot + 1)
+  pub told-own : who ≡ course.ballot.node → (more slot : ℕ) → taught_from at course slot more who ≡ []
+  told-own fact zero slot = refl
+  told-own fact (suc more) slot =
+      ap (λ l. l ++ taught_from at course (slot + 1) more who)
+      (cond-true (eqb who course.ballot.node) [] (cond (is_member (members_at at slot) who) (Teaches slot ∷ []) (cond (is_member (members_at at (slot + 1)) who) (welcome course slot) [])) (eq-eqb who course.ballot.node fact))
+      ∙ told-own fact more (slot + 1)
 
   -- where a node is that is sent all entries from a slot on, once this one is next: no further than that, a member there, and one that decides an open slot has a replica and promised the ballot
   pub record IsTold (from slot next : ℕ) (promise : Ballot) : Type 0 where
@@ -274,26 +274,26 @@ module _ (at : Sets) (course : Course) (who : ℕ) where
 
   module _ (apart : who ≡ course.ballot.node → ⊥) where
     -- a member is sent the entry, one that joins is welcomed, and others are sent nothing
-    pub told-cases : (P : List Mark → Type 0) (slot : ℕ) → (is_member (members_at at slot) who ≡ true → P (Tells slot ∷ []))
+    pub told-cases : (P : List Mark → Type 0) (slot : ℕ) → (is_member (members_at at slot) who ≡ true → P (Teaches slot ∷ []))
         → (is_member (members_at at slot) who ≡ false → is_member (members_at at (slot + 1)) who ≡ true → P (welcome course slot))
         → (is_member (members_at at slot) who ≡ false → is_member (members_at at (slot + 1)) who ≡ false → P []) → P (reported_of at course slot who)
     told-cases P slot one two three =
         subst P
-        (sym (cond-false (eqb who course.ballot.node) [] (cond (is_member (members_at at slot) who) (Tells slot ∷ []) (cond (is_member (members_at at (slot + 1)) who) (welcome course slot) [])) (ne_eqb who course.ballot.node apart)))
-        (cond_both (is_member (members_at at slot) who) (Tells slot ∷ []) (cond (is_member (members_at at (slot + 1)) who) (welcome course slot) []) P one
+        (sym (cond-false (eqb who course.ballot.node) [] (cond (is_member (members_at at slot) who) (Teaches slot ∷ []) (cond (is_member (members_at at (slot + 1)) who) (welcome course slot) [])) (ne_eqb who course.ballot.node apart)))
+        (cond_both (is_member (members_at at slot) who) (Teaches slot ∷ []) (cond (is_member (members_at at (slot + 1)) who) (welcome course slot) []) P one
         (λ f. cond_both (is_member (members_at at (slot + 1)) who) (welcome course slot) [] P (two f) (three f)))
 
     -- one that comes is asked to promise, where the ballot is not the first
     pub told-prepares : course.is_first ≡ false → (more slot j : ℕ) → j ≤ more → is_member (members_at at (slot + j)) who ≡ true
-        → (is_member (members_at at slot) who ≡ true) ⊎ Among (Prepares course.ballot) (told_from at course slot more who)
-    told-prepares later more slot zero le is = (let e : slot + zero ≡ slot = omega arith in inl (subst (λ s. is_member (members_at at s) who ≡ true) e is))
-    told-prepares later zero slot (suc j) le is = absurd (omega (arith, le))
-    told-prepares later (suc more) slot (suc j) le is =
+        → (is_member (members_at at slot) who ≡ true) ⊎ Among (Prepares course.ballot) (taught_from at course slot more who)
+    told-prepares later more slot zero le fact = (let e : slot + zero ≡ slot = omega arith in inl (subst (λ s. is_member (members_at at s) who ≡ true) e fact))
+    told-prepares later zero slot (suc j) le fact = absurd (omega (arith, le))
+    told-prepares later (suc more) slot (suc j) le fact =
         let e : slot + suc j ≡ slot + 1 + j = omega arith in
-        let next = told-prepares later more (slot + 1) j (omega (arith, le)) (subst (λ s. is_member (members_at at s) who ≡ true) e is) in
-        told-cases (λ l. (is_member (members_at at slot) who ≡ true) ⊎ Among (Prepares course.ballot) (l ++ told_from at course (slot + 1) more who)) slot
+        let next = told-prepares later more (slot + 1) j (omega (arith, le)) (subst (λ s. is_member (members_at at s) who ≡ true) e fact) in
+        told-cases (λ l. (is_member (members_at at slot) who ≡ true) ⊎ Among (Prepares course.ballot) (l ++ taught_from at course (slot + 1) more who)) slot
         (λ t. inl t)
-        (λ _ _. inr (among-left (Prepares course.ballot) (welcome course slot) (told_from at course (slot + 1) more who) (inr (subst (Among (Prepares course.ballot)) (sym (cond-false course.is_first [] (Prepares course.ballot ∷ []) later)) (inl refl)))))
+        (λ _ _. inr (among-left (Prepares course.ballot) (welcome course slot) (taught_from at course (slot + 1) more who) (inr (subst (Among (Prepares course.ballot)) (sym (cond-false course.is_first [] (Prepares course.ballot ∷ []) later)) (inl refl)))))
         (λ _ f. elim next [ inl t ↦ absurd (no_both t f) | inr a ↦ inr a ])
       where
         no_both : {b : Bool} → b ≡ true → b ≡ false → ⊥
@@ -309,10 +309,10 @@ module _ (at : Sets) (course : Course) (who : ℕ) where
         opened : (other : ℕ) → other < slot + 1 + slots_ahead → (other < slot + slots_ahead) ⊎ (other ≡ slot + 1 + 3)
         opened other lt = elim (cases_lt other (slot + slots_ahead)) [ inl l ↦ inl l | inr g ↦ inr (omega (arith, lt, g)) ]
 
-        member : is_member (members_at at slot) who ≡ true → IsToldBy from (slot + 1) next promise (Tells slot ∷ [])
-        member is =
-            let old = t.opens (slot + 3) (omega (arith, up)) (omega arith) is in (
-              ((old.0, sym (t.member is)), tt),
+        member : is_member (members_at at slot) who ≡ true → IsToldBy from (slot + 1) next promise (Teaches slot ∷ [])
+        member fact =
+            let old = t.opens (slot + 3) (omega (arith, up)) (omega arith) fact in (
+              ((old.0, sym (t.member fact)), tt),
               record {
                 low = omega arith;
                 member = λ _. omega arith;
@@ -351,19 +351,19 @@ module _ (at : Sets) (course : Course) (who : ℕ) where
           tt,
           record {
             low = omega (arith, low);
-            member = λ is. (let bad : true ≡ false = sym is ∙ stays in cc);
+            member = λ fact. (let bad : true ≡ false = sym fact ∙ stays in cc);
             most = t.most;
             first = t.first;
             opens = λ other f lt d. elim (opened other lt) [ inl l ↦ t.opens other f l d | inr e ↦ (let bad : true ≡ false = sym d ∙ (ap (λ s. is_member (at s) who) e ∙ stays) in cc) ];
           },
         )
 
-    pub told-all : (from more slot next : ℕ) (promise : Ballot) → from ≤ slot → 1 ≤ slot → IsTold from slot next promise → IsToldBy from (slot + more) next promise (told_from at course slot more who)
+    pub told-all : (from more slot next : ℕ) (promise : Ballot) → from ≤ slot → 1 ≤ slot → IsTold from slot next promise → IsToldBy from (slot + more) next promise (taught_from at course slot more who)
     told-all from zero slot next promise up some t = (let e : slot ≡ slot + zero = omega arith in (tt, subst (λ s. IsTold from s next promise) e t))
     told-all from (suc more) slot next promise up some t =
         let one = told-one from slot next promise up some t in
         let first = reported_of at course slot who in
-        let then = told_from at course (slot + 1) more who in
+        let then = taught_from at course (slot + 1) more who in
         let e : slot + 1 + more ≡ slot + suc more = omega arith in
         let rest = told-all from more (slot + 1) (reached next first) (pledged promise first) (omega (arith, up)) (omega (arith, some)) one.1 in (
           fit-append next promise first then one.0 rest.0,
@@ -371,3 +371,12 @@ module _ (at : Sets) (course : Course) (who : ℕ) where
               (subst (λ n. IsTold from (slot + 1 + more) n (pledged promise (first ++ then))) (sym (reached-append next first then))
               (subst (λ p. IsTold from (slot + 1 + more) (reached (reached next first) then) p) (sym (pledged-append promise first then)) rest.1)),
         )
+
+-- what is known stays so where more is offered in a later ballot
+pub known_later : (old new : Course) → ((slot : ℕ) → slot < old.bound → slot < new.bound) → ((b : Ballot) → IsAtLeast old.ballot b → IsAtLeast new.ballot b) → (mark : Mark) → IsKnown old mark → IsKnown new mark
+known_later old new up later (Asks ballot slot) k = up slot k
+known_later old new up later (Votes node ballot slot) k = up slot k
+known_later old new up later (Teaches slot) k = tt
+known_later old new up later (Installs slot) k = tt
+known_later old new up later (Prepares ballot) k = later ballot k
+known_later old new up later (Promises node ballot) k = tt

@@ -15,10 +15,10 @@ module _ (now after : Progress) (node : ℕ) (taken : Option Mark) (sent marks m
   -- what is under way to one was so before, or is sent
   pub came : (who : ℕ) (mark : Mark) → Among mark (marks_after who) → Among mark (marks who) ⊎ Among mark (sent who)
   came who mark a = elim (cases_eq who node) [
-    | inl is ↦ (let b = among-either mark row.left (sent node) (subst (Among mark) (ap marks_after is ∙ row.own) a) in
+    | inl fact ↦ (let b = among-either mark row.left (sent node) (subst (Among mark) (ap marks_after fact ∙ row.own) a) in
         elim b [
-          | inl c ↦ inl (subst (λ n. Among mark (marks n)) (sym is) (subst (Among mark) (sym row.takes) (among-right mark (listed taken) row.left c)))
-          | inr c ↦ inr (subst (λ n. Among mark (sent n)) (sym is) c)
+          | inl c ↦ inl (subst (λ n. Among mark (marks n)) (sym fact) (subst (Among mark) (sym row.takes) (among-right mark (listed taken) row.left c)))
+          | inr c ↦ inr (subst (λ n. Among mark (sent n)) (sym fact) c)
         ])
     | inr ne ↦ among-either mark (marks who) (sent who) (subst (Among mark) (row.others who ne) a)
   ]
@@ -26,16 +26,16 @@ module _ (now after : Progress) (node : ℕ) (taken : Option Mark) (sent marks m
   -- what is sent is under way after it
   pub goes : (who : ℕ) (mark : Mark) → Among mark (sent who) → Among mark (marks_after who)
   goes who mark a = elim (cases_eq who node) [
-    | inl is ↦ subst (Among mark) (sym (ap marks_after is ∙ row.own)) (among-right mark row.left (sent node) (subst (λ n. Among mark (sent n)) is a))
+    | inl fact ↦ subst (Among mark) (sym (ap marks_after fact ∙ row.own)) (among-right mark row.left (sent node) (subst (λ n. Among mark (sent n)) fact a))
     | inr ne ↦ subst (Among mark) (sym (row.others who ne)) (among-right mark (marks who) (sent who) a)
   ]
 
   -- what was under way is so still, unless it was taken
   pub stays : (who : ℕ) (mark : Mark) → Among mark (marks who) → ((who ≡ node) × (taken ≡ Some mark)) ⊎ Among mark (marks_after who)
   stays who mark a = elim (cases_eq who node) [
-    | inl is ↦ elim (among-either mark (listed taken) row.left (subst (Among mark) row.takes (subst (λ n. Among mark (marks n)) is a))) [
-      | inl b ↦ inl (is, among-listed mark taken b)
-      | inr b ↦ inr (subst (Among mark) (sym (ap marks_after is ∙ row.own)) (among-left mark row.left (sent node) b))
+    | inl fact ↦ elim (among-either mark (listed taken) row.left (subst (Among mark) row.takes (subst (λ n. Among mark (marks n)) fact a))) [
+      | inl b ↦ inl (fact, among-listed mark taken b)
+      | inr b ↦ inr (subst (Among mark) (sym (ap marks_after fact ∙ row.own)) (among-left mark row.left (sent node) b))
     ]
     | inr ne ↦ inr (subst (Among mark) (sym (row.others who ne)) (among-left mark (marks who) (sent who) a))
   ]
@@ -43,66 +43,82 @@ module _ (now after : Progress) (node : ℕ) (taken : Option Mark) (sent marks m
   -- what held of all that was under way to one, and holds of what is sent, holds of all
   pub each-row : (P : Mark → Type 0) (who : ℕ) → Each P (marks who) → Each P (sent who) → Each P (marks_after who)
   each-row P who old new = elim (cases_eq who node) [
-    | inl is ↦ (let left = (Each-split P (listed taken) row.left (subst (Each P) row.takes (subst (λ n. Each P (marks n)) is old))).1 in
-        subst (Each P) (sym (ap marks_after is ∙ row.own)) (Each-append P row.left (sent node) left (subst (λ n. Each P (sent n)) is new)))
+    | inl fact ↦ (let left = (Each-split P (listed taken) row.left (subst (Each P) row.takes (subst (λ n. Each P (marks n)) fact old))).1 in
+        subst (Each P) (sym (ap marks_after fact ∙ row.own)) (Each-append P row.left (sent node) left (subst (λ n. Each P (sent n)) fact new)))
     | inr ne ↦ subst (Each P) (sym (row.others who ne)) (Each-append P (marks who) (sent who) old new)
   ]
+
+  -- where the node has promised no more, nobody has
+  pub promise-row : after.promise node ≡ now.promise node → (who : ℕ) → after.promise who ≡ now.promise who
+  promise-row own who = elim (cases_eq who node) [ inl fact ↦ ap after.promise fact ∙ (own ∙ ap now.promise (sym fact)) | inr ne ↦ row.promise who ne ]
 
   -- what is asked for comes before votes still, where it is new
   pub asked-row : (who : ℕ) → AreAskedFirst (marks who) → Each (IsKnown now.course) (marks who) → Each (IsLater now.course.bound) (sent who) → AreAskedFirst (sent who) → AreAskedFirst (marks_after who)
   asked-row who old known new sent_first = elim (cases_eq who node) [
-    | inl is ↦ (let left = (Each-split (IsKnown now.course) (listed taken) row.left (subst (Each (IsKnown now.course)) row.takes (subst (λ n. Each (IsKnown now.course) (marks n)) is known))).1 in
-        let behind = asked-left taken row.left (subst AreAskedFirst row.takes (subst (λ n. AreAskedFirst (marks n)) is old)) in
-        subst AreAskedFirst (sym (ap marks_after is ∙ row.own))
-        (asked-append now.course row.left (sent node) behind left (subst (λ n. Each (IsLater now.course.bound) (sent n)) is new) (subst (λ n. AreAskedFirst (sent n)) is sent_first)))
+    | inl fact ↦ (let left = (Each-split (IsKnown now.course) (listed taken) row.left (subst (Each (IsKnown now.course)) row.takes (subst (λ n. Each (IsKnown now.course) (marks n)) fact known))).1 in
+        let behind = asked-left taken row.left (subst AreAskedFirst row.takes (subst (λ n. AreAskedFirst (marks n)) fact old)) in
+        subst AreAskedFirst (sym (ap marks_after fact ∙ row.own))
+        (asked-append now.course row.left (sent node) behind left (subst (λ n. Each (IsLater now.course.bound) (sent n)) fact new) (subst (λ n. AreAskedFirst (sent n)) fact sent_first)))
     | inr ne ↦ subst AreAskedFirst (sym (row.others who ne)) (asked-append now.course (marks who) (sent who) old known new sent_first)
   ]
 
+-- what is under way to each takes it as far as before
+abbrev pub GoAsFar : (ℕ → ℕ) → (ℕ → ℕ) → (ℕ → List Mark) → (ℕ → List Mark) → Type 0
+GoAsFar next next_after marks marks_after = (who : ℕ) → reached (next_after who) (marks_after who) ≡ reached (next who) (marks who)
+
+-- what is under way to each makes it promise as much as before
+abbrev PledgeAsMuch : (ℕ → Ballot) → (ℕ → Ballot) → (ℕ → List Mark) → (ℕ → List Mark) → Type 0
+PledgeAsMuch promise promise_after marks marks_after = (who : ℕ) → pledged (promise_after who) (marks_after who) ≡ pledged (promise who) (marks who)
+
+-- what is under way to each is fit for where it is
+abbrev pub AreAllFit : Progress → (ℕ → List Mark) → Type 0
+AreAllFit now marks = (who : ℕ) → AreFit (now.next who) (now.promise who) (marks who)
+
 -- ---- a row that does nothing in the group
 
-pub idle-keeps : (at : Sets) (now after : Progress) (node : ℕ) (taken : Option Mark) (sent marks marks_after : ℕ → List Mark)
-    → IsRow now after node taken sent marks marks_after → IsIdle now after node taken sent → IsFollowing at now marks → IsFollowing at after marks_after
-idle-keeps at now after node taken sent marks marks_after row i was =
-    subst (λ c. IsFollowing at (record { next = after.next; promise = after.promise; course = c }) marks_after) (sym i.course) (record {
-      fits = λ who. subst (λ l. AreFit (after.next who) (after.promise who) l) (same who) (subst (λ n. AreFit n (after.promise who) (marks who)) (sym (next who)) (subst (λ p. AreFit (now.next who) p (marks who)) (sym (promise who)) (was.fits who)));
-      within = λ who. subst (λ n. n ≤ now.course.newest) (sym (ends who)) (was.within who);
-      members = λ who is. ends who ∙ was.members who is;
-      ready = λ who o. record { replica = subst (λ n. 1 ≤ n) (sym (ends who)) (was.ready who o).replica; promised = pledges who ∙ (was.ready who o).promised };
-      some = was.some;
-      low = was.low;
-      high = was.high;
-      known = λ who. subst (Each (IsKnown now.course)) (same who) (was.known who);
-      promised = λ who. subst (IsAtLeast now.course.ballot) (sym (promise who)) (was.promised who);
-      first = λ f who. pledges who ∙ was.first f who;
-      asked = λ who. subst AreAskedFirst (same who) (was.asked who);
-      undone = λ r ballot slot a. was.undone r ballot slot (subst (Among (Asks ballot slot)) (sym (same now.course.ballot.node)) a);
-      flying = was.flying;
-      votes = λ slot voters e who is.
-          subst (λ l. IsVoting now.course.ballot who slot voters l (marks_after now.course.ballot.node)) (same who) (subst (λ l. IsVoting now.course.ballot who slot voters (marks who) l) (same now.course.ballot.node) (was.votes slot voters e who is));
-      promises = λ r f who o. subst (λ l. IsPromising now.course who l (marks_after now.course.ballot.node)) (same who) (subst (λ l. IsPromising now.course who (marks who) l) (same now.course.ballot.node) (was.promises r f who o));
-      pledges = λ r f who e. subst (HasPromised now.course who) (same now.course.ballot.node) (was.pledges r f who (sym (promise who) ∙ e));
-      leads = λ r. (let l = was.leads r in record { executed = next now.course.ballot.node ∙ l.executed; member = l.member; stands = l.stands });
-      offered = was.offered;
-      self_election = λ r g. subst (λ n. n < now.course.newest) (sym (next (least_of (members_at at now.course.newest)))) (was.self_election r g);
-    })
-  where
-    next : (who : ℕ) → after.next who ≡ now.next who
-    next who = elim (cases_eq who node) [ inl is ↦ ap after.next is ∙ (i.next ∙ ap now.next (sym is)) | inr ne ↦ row.next who ne ]
+module _ (now after : Progress) (node : ℕ) (taken : Option Mark) (sent marks marks_after : ℕ → List Mark) (row : IsRow now after node taken sent marks marks_after) (i : IsIdle now after node taken sent) where
+  pub idle_next : (who : ℕ) → after.next who ≡ now.next who
+  idle_next who = elim (cases_eq who node) [ inl fact ↦ ap after.next fact ∙ (i.next ∙ ap now.next (sym fact)) | inr ne ↦ row.next who ne ]
 
-    promise : (who : ℕ) → after.promise who ≡ now.promise who
-    promise who = elim (cases_eq who node) [ inl is ↦ ap after.promise is ∙ (i.promise ∙ ap now.promise (sym is)) | inr ne ↦ row.promise who ne ]
+  pub idle_promise : (who : ℕ) → after.promise who ≡ now.promise who
+  idle_promise = promise-row now after node taken sent marks marks_after row i.promise
 
-    same : (who : ℕ) → marks who ≡ marks_after who
-    same who = elim (cases_eq who node) [
-      | inl is ↦ ap marks is ∙ (row.takes ∙ (ap (λ t. listed t ++ row.left) i.takes ∙ (sym (append-nil row.left) ∙ (ap (λ l. row.left ++ l) (sym (i.sends node)) ∙ (sym row.own ∙ ap marks_after (sym is))))))
-      | inr ne ↦ sym (append-nil (marks who)) ∙ (ap (λ l. marks who ++ l) (sym (i.sends who)) ∙ sym (row.others who ne))
-    ]
+  pub idle_marks : (who : ℕ) → marks who ≡ marks_after who
+  idle_marks who = elim (cases_eq who node) [
+    | inl fact ↦ ap marks fact ∙ (row.takes ∙ (ap (λ t. listed t ++ row.left) i.takes ∙ (sym (append-nil row.left) ∙ (ap (λ l. row.left ++ l) (sym (i.sends node)) ∙ (sym row.own ∙ ap marks_after (sym fact))))))
+    | inr ne ↦ sym (append-nil (marks who)) ∙ (ap (λ l. marks who ++ l) (sym (i.sends who)) ∙ sym (row.others who ne))
+  ]
 
-    ends : (who : ℕ) → reached (after.next who) (marks_after who) ≡ reached (now.next who) (marks who)
-    ends who = ap (λ n. reached n (marks_after who)) (next who) ∙ ap (reached (now.next who)) (sym (same who))
+  pub idle_reached : GoAsFar now.next after.next marks marks_after
+  idle_reached who = ap (λ n. reached n (marks_after who)) (idle_next who) ∙ ap (reached (now.next who)) (sym (idle_marks who))
 
-    pledges : (who : ℕ) → pledged (after.promise who) (marks_after who) ≡ pledged (now.promise who) (marks who)
-    pledges who = ap (λ p. pledged p (marks_after who)) (promise who) ∙ ap (pledged (now.promise who)) (sym (same who))
+  idle_pledged : PledgeAsMuch now.promise after.promise marks marks_after
+  idle_pledged who = ap (λ p. pledged p (marks_after who)) (idle_promise who) ∙ ap (pledged (now.promise who)) (sym (idle_marks who))
+
+  pub idle-keeps : (at : Sets) → IsFollowing at now marks → IsFollowing at after marks_after
+  idle-keeps at was =
+      subst (λ c. IsFollowing at (record { next = after.next; promise = after.promise; course = c }) marks_after) (sym i.course) (record {
+        fits = λ who. subst (λ l. AreFit (after.next who) (after.promise who) l) (idle_marks who) (subst (λ n. AreFit n (after.promise who) (marks who)) (sym (idle_next who)) (subst (λ p. AreFit (now.next who) p (marks who)) (sym (idle_promise who)) (was.fits who)));
+        within = λ who. subst (λ n. n ≤ now.course.newest) (sym (idle_reached who)) (was.within who);
+        members = λ who fact. idle_reached who ∙ was.members who fact;
+        ready = λ who o. record { replica = subst (λ n. 1 ≤ n) (sym (idle_reached who)) (was.ready who o).replica; promised = idle_pledged who ∙ (was.ready who o).promised };
+        some = was.some;
+        low = was.low;
+        high = was.high;
+        known = λ who. subst (Each (IsKnown now.course)) (idle_marks who) (was.known who);
+        promised = λ who. subst (IsAtLeast now.course.ballot) (sym (idle_promise who)) (was.promised who);
+        first = λ f who. idle_pledged who ∙ was.first f who;
+        asked = λ who. subst AreAskedFirst (idle_marks who) (was.asked who);
+        undone = λ r ballot slot a. was.undone r ballot slot (subst (Among (Asks ballot slot)) (sym (idle_marks now.course.ballot.node)) a);
+        flying = was.flying;
+        votes = λ slot voters e who fact.
+            subst (λ l. IsVoting now.course.ballot who slot voters l (marks_after now.course.ballot.node)) (idle_marks who) (subst (λ l. IsVoting now.course.ballot who slot voters (marks who) l) (idle_marks now.course.ballot.node) (was.votes slot voters e who fact));
+        promises = λ r f who o. subst (λ l. IsPromising now.course who l (marks_after now.course.ballot.node)) (idle_marks who) (subst (λ l. IsPromising now.course who (marks who) l) (idle_marks now.course.ballot.node) (was.promises r f who o));
+        pledges = λ r f who e. subst (HasPromised now.course who) (idle_marks now.course.ballot.node) (was.pledges r f who (sym (idle_promise who) ∙ e));
+        leads = λ r. (let l = was.leads r in record { executed = idle_next now.course.ballot.node ∙ l.executed; member = l.member; stands = l.stands });
+        offered = was.offered;
+        self_election = λ r g. subst (λ n. n < now.course.newest) (sym (idle_next (least_of (members_at at now.course.newest)))) (was.self_election r g);
+      })
 
 -- ---- a row in which a node takes a mail of the group
 
@@ -150,24 +166,24 @@ module _ (at : Sets) (now after : Progress) (node : ℕ) (taken : Option Mark) (
   counts : (who : ℕ) → Each IsCount (sent who)
   counts who = subst (Each IsCount) (sym (t.sends who)) (counts_of node (now.promise node) t.mark who)
 
-  pub reached_left : (who : ℕ) → reached (after.next who) (marks_after who) ≡ reached (now.next who) (marks who)
+  pub reached_left : GoAsFar now.next after.next marks marks_after
   reached_left who = elim (cases_eq who node) [
-    | inl is ↦ ap (λ n. reached (after.next n) (marks_after n)) is
+    | inl fact ↦ ap (λ n. reached (after.next n) (marks_after n)) fact
         ∙ (ap (reached (after.next node)) row.own
         ∙ (reached-append (after.next node) row.left (sent node)
         ∙ (count-reached (reached (after.next node) row.left) (sent node) (counts node)
-        ∙ (ap (λ n. reached n row.left) t.next ∙ (sym (ap (reached (now.next node)) here) ∙ ap (λ n. reached (now.next n) (marks n)) (sym is))))))
+        ∙ (ap (λ n. reached n row.left) t.next ∙ (sym (ap (reached (now.next node)) here) ∙ ap (λ n. reached (now.next n) (marks n)) (sym fact))))))
     | inr ne ↦ ap (reached (after.next who)) (row.others who ne)
         ∙ (reached-append (after.next who) (marks who) (sent who) ∙ (count-reached (reached (after.next who) (marks who)) (sent who) (counts who) ∙ ap (λ n. reached n (marks who)) (row.next who ne)))
   ]
 
-  pledged_left : (who : ℕ) → pledged (after.promise who) (marks_after who) ≡ pledged (now.promise who) (marks who)
+  pledged_left : PledgeAsMuch now.promise after.promise marks marks_after
   pledged_left who = elim (cases_eq who node) [
-    | inl is ↦ ap (λ n. pledged (after.promise n) (marks_after n)) is
+    | inl fact ↦ ap (λ n. pledged (after.promise n) (marks_after n)) fact
         ∙ (ap (pledged (after.promise node)) row.own
         ∙ (pledged-append (after.promise node) row.left (sent node)
         ∙ (count-pledged (pledged (after.promise node) row.left) (sent node) (counts node)
-        ∙ (ap (λ p. pledged p row.left) t.promise ∙ (sym (ap (pledged (now.promise node)) here) ∙ ap (λ n. pledged (now.promise n) (marks n)) (sym is))))))
+        ∙ (ap (λ p. pledged p row.left) t.promise ∙ (sym (ap (pledged (now.promise node)) here) ∙ ap (λ n. pledged (now.promise n) (marks n)) (sym fact))))))
     | inr ne ↦ ap (pledged (after.promise who)) (row.others who ne)
         ∙ (pledged-append (after.promise who) (marks who) (sent who) ∙ (count-pledged (pledged (after.promise who) (marks who)) (sent who) (counts who) ∙ ap (λ p. pledged p (marks who)) (row.promise who ne)))
   ]
@@ -178,9 +194,9 @@ module _ (at : Sets) (now after : Progress) (node : ℕ) (taken : Option Mark) (
       (fit-append (after.next node) (after.promise node) row.left (sent node) (subst (λ n. AreFit n (after.promise node) row.left) (sym t.next) (subst (λ p. AreFit (next_by (now.next node) t.mark) p row.left) (sym t.promise) fit.1))
       (count-fit (reached (after.next node) row.left) (pledged (after.promise node) row.left) (sent node) (counts node)))
 
-  fits_after : (who : ℕ) → AreFit (after.next who) (after.promise who) (marks_after who)
+  fits_after : AreAllFit after marks_after
   fits_after who = elim (cases_eq who node) [
-    | inl is ↦ subst (λ n. AreFit (after.next n) (after.promise n) (marks_after n)) (sym is) fits_own
+    | inl fact ↦ subst (λ n. AreFit (after.next n) (after.promise n) (marks_after n)) (sym fact) fits_own
     | inr ne ↦ subst (AreFit (after.next who) (after.promise who)) (sym (row.others who ne))
         (fit-append (after.next who) (after.promise who) (marks who) (sent who) (subst (λ n. AreFit n (after.promise who) (marks who)) (sym (row.next who ne)) (subst (λ p. AreFit (now.next who) p (marks who)) (sym (row.promise who ne)) (was.fits who)))
         (count-fit (reached (after.next who) (marks who)) (pledged (after.promise who) (marks who)) (sent who) (counts who)))
@@ -191,10 +207,10 @@ module _ (at : Sets) (now after : Progress) (node : ℕ) (taken : Option Mark) (
   leads_after r =
       let executed = (was.leads r).executed in
       elim (cases_eq lead node) [
-        | inl is ↦ (let own : now.next node ≡ now.course.newest = ap now.next (sym is) ∙ executed in
+        | inl fact ↦ (let own : now.next node ≡ now.course.newest = ap now.next (sym fact) ∙ executed in
             let most : reached (now.next node) (t.mark ∷ row.left) ≤ now.next node =
             subst (λ l. reached (now.next node) l ≤ now.next node) here (subst (λ n. reached (now.next node) (marks node) ≤ n) (sym own) (was.within node)) in
-            ap after.next is ∙ (t.next ∙ (no_step (now.next node) (now.promise node) t.mark row.left fit most ∙ own)))
+            ap after.next fact ∙ (t.next ∙ (no_step (now.next node) (now.promise node) t.mark row.left fit most ∙ own)))
         | inr ne ↦ row.next lead ne ∙ executed
       ]
 
@@ -224,12 +240,12 @@ module _ (at : Sets) (now after : Progress) (node : ℕ) (taken : Option Mark) (
 
   -- one that is asked to promise does so, unless it has
   promises_now : now.course.runs ≡ true → now.course.is_first ≡ false → t.mark ≡ Prepares now.course.ballot → HasPromised now.course node (marks_after lead)
-  promises_now r later is = elim (cases_below (now.promise node) now.course.ballot) [
-    | inl up ↦ (let said : sent lead ≡ answered node (now.promise node) (Prepares now.course.ballot) lead = t.sends lead ∙ ap (λ m. answered node (now.promise node) m lead) is in
+  promises_now r later fact = elim (cases_below (now.promise node) now.course.ballot) [
+    | inl up ↦ (let said : sent lead ≡ answered node (now.promise node) (Prepares now.course.ballot) lead = t.sends lead ∙ ap (λ m. answered node (now.promise node) m lead) fact in
         let promise : sent lead ≡ Promises node now.course.ballot ∷ [] =
         said ∙ cond-true (eqb lead lead && below (now.promise node) now.course.ballot) (Promises node now.course.ballot ∷ []) [] (and_from (eqb lead lead) (below (now.promise node) now.course.ballot) (eq-eqb lead lead refl) up) in
         inr (goes now after node taken sent marks marks_after row lead (Promises node now.course.ballot) (subst (Among (Promises node now.course.ballot)) (sym promise) (inl refl))))
-    | inr least ↦ (let asked : IsFit (now.next node) (now.promise node) (Prepares now.course.ballot) = subst (IsFit (now.next node) (now.promise node)) is fit.0 in
+    | inr least ↦ (let asked : IsFit (now.next node) (now.promise node) (Prepares now.course.ballot) = subst (IsFit (now.next node) (now.promise node)) fact fit.0 in
         promised_still r node (was.pledges r later node (same_from_at_least (now.promise node) now.course.ballot least asked.1)))
   ]
 
@@ -242,7 +258,7 @@ module _ (at : Sets) (now after : Progress) (node : ℕ) (taken : Option Mark) (
 
   pledging : now.course.runs ≡ true → now.course.is_first ≡ false → (who : ℕ) → after.promise who ≡ now.course.ballot → HasPromised now.course who (marks_after lead)
   pledging r later who e = elim (cases_eq who node) [
-    | inl is ↦ subst (λ n. HasPromised now.course n (marks_after lead)) (sym is) (elim (promise_from (now.promise node) now.course.ballot t.mark (sym t.promise ∙ (ap after.promise (sym is) ∙ e))) [
+    | inl fact ↦ subst (λ n. HasPromised now.course n (marks_after lead)) (sym fact) (elim (promise_from (now.promise node) now.course.ballot t.mark (sym t.promise ∙ (ap after.promise (sym fact) ∙ e))) [
       | inl old ↦ promised_still r node (was.pledges r later node old)
       | inr new ↦ promises_now r later new
     ])
@@ -254,14 +270,14 @@ module _ (at : Sets) (now after : Progress) (node : ℕ) (taken : Option Mark) (
       subst (λ c. IsFollowing at (record { next = after.next; promise = after.promise; course = c }) marks_after) (sym t.course) (record {
         fits = fits_after;
         within = λ who. subst (λ n. n ≤ now.course.newest) (sym (reached_left who)) (was.within who);
-        members = λ who is. reached_left who ∙ was.members who is;
+        members = λ who fact. reached_left who ∙ was.members who fact;
         ready = λ who o. record { replica = subst (λ n. 1 ≤ n) (sym (reached_left who)) (was.ready who o).replica; promised = pledged_left who ∙ (was.ready who o).promised };
         some = was.some;
         low = was.low;
         high = was.high;
         known = λ who. each-row now after node taken sent marks marks_after row (IsKnown now.course) who (was.known who) (subst (Each (IsKnown now.course)) (sym (t.sends who)) (known_of now.course node (now.promise node) t.mark who known));
         promised = λ who. elim (cases_eq who node) [
-          | inl is ↦ subst (IsAtLeast now.course.ballot) (sym (ap after.promise is ∙ t.promise)) (promise-most now.course (now.promise node) t.mark (was.promised node) known)
+          | inl fact ↦ subst (IsAtLeast now.course.ballot) (sym (ap after.promise fact ∙ t.promise)) (promise-most now.course (now.promise node) t.mark (was.promised node) known)
           | inr ne ↦ subst (IsAtLeast now.course.ballot) (sym (row.promise who ne)) (was.promised who)
         ];
         first = λ f who. pledged_left who ∙ was.first f who;
@@ -272,14 +288,14 @@ module _ (at : Sets) (now after : Progress) (node : ℕ) (taken : Option Mark) (
           | inr b ↦ absurd (count-asks (sent lead) (counts lead) ballot slot b)
         ];
         flying = was.flying;
-        votes = λ slot voters e who is. voting (was.flying slot voters e).runs slot voters who (was.votes slot voters e who is);
+        votes = λ slot voters e who fact. voting (was.flying slot voters e).runs slot voters who (was.votes slot voters e who fact);
         promises = λ r later who o. promising r later who (was.promises r later who o);
         pledges = pledging;
         leads = λ r. (let l = was.leads r in record { executed = leads_after r; member = l.member; stands = l.stands });
         offered = was.offered;
         self_election = λ r g. (let heir = least_of (members_at at now.course.newest) in
             elim (cases_eq heir node) [
-              | inl is ↦ subst (λ n. after.next n < now.course.newest) (sym is) (t.waits r g (sym is))
+              | inl fact ↦ subst (λ n. after.next n < now.course.newest) (sym fact) (t.waits r g (sym fact))
               | inr ne ↦ subst (λ n. n < now.course.newest) (sym (row.next heir ne)) (was.self_election r g)
             ]);
       })

@@ -111,7 +111,7 @@ none_offers at course r mails m acts backlog more same = record {
   begun = [];
   acts = acts;
   backlog = backlog;
-  is = ap (λ (fs : List (Flight Command)). record r { leader = record r.leader { flights = fs }; acts = acts; backlog = backlog }) (sym (append-nil r.leader.flights));
+  fact = ap (λ (fs : List (Flight Command)). record r { leader = record r.leader { flights = fs }; acts = acts; backlog = backlog }) (sym (append-nil r.leader.flights));
   fly = tt;
   goes_on = record { ballot = m.ballot; sets = m.sets; low = m.low; high = m.high; taken = m.taken; free = m.free };
   offers = λ who. [];
@@ -170,7 +170,7 @@ module _ (at : Sets) (course : Course) (set : List ℕ) (command : Command) (r :
     begun = new ∷ o.begun;
     acts = o.acts;
     backlog = o.backlog;
-    is = o.is ∙ ap (λ (fs : List (Flight Command)). record r { leader = record r.leader { flights = fs }; acts = o.acts; backlog = o.backlog }) (joined r.leader.flights);
+    fact = o.fact ∙ ap (λ (fs : List (Flight Command)). record r { leader = record r.leader { flights = fs }; acts = o.acts; backlog = o.backlog }) (joined r.leader.flights);
     fly = (
       record { least = omega arith; most = (let u = o.up in omega (arith, u)); none = refl },
       Each-weaker (IsBegun (course.bound + 1) o.bound) (IsBegun course.bound o.bound) (λ f b. record { least = (let l = b.least in omega (arith, l)); most = b.most; none = b.none }) o.begun o.fly,
@@ -226,26 +226,26 @@ slots_offer at course slot (set ∷ sets) r mails m are least most ends = by (λ
 
     found : Rest → course.bound ≡ slot → (o : Option Command) (acts backlog : List Command) (more : List Mail) → ((who : ℕ) → marks_for (name_of r) who more ≡ marks_for (name_of r) who mails)
         → OffersBy at course (r, mails) (goes (o, (record r { acts = acts; backlog = backlog }, more)))
-    found rest is None acts backlog more same = none_offers at course r mails m acts backlog more same
-    found rest is (Some command) acts backlog more same =
-        let here : at course.bound ≡ set = ap at is ∙ are.0 in
-        let room : course.bound < next r + length r.sets = omega (arith, is, ends) in
+    found rest fact None acts backlog more same = none_offers at course r mails m acts backlog more same
+    found rest fact (Some command) acts backlog more same =
+        let here : at course.bound ≡ set = ap at fact ∙ are.0 in
+        let room : course.bound < next r + length r.sets = omega (arith, fact, ends) in
         let kept : ReplicaState = record r { acts = acts; backlog = backlog } in
         subst (λ (p : Place). OffersBy at course (r, mails) (pumped_from (slot + 1) sets p)) (sym (offered_is slot set command kept more))
-        (subst (λ s. OffersBy at course (r, mails) (pumped_from (slot + 1) sets (record kept { leader = record r.leader { flights = r.leader.flights ++ (record { slot = s; value = command; voters = None }) ∷ [] } }, sent_all r.me set (Accept (name_of r) r.leader.ballot s command) more))) is
+        (subst (λ s. OffersBy at course (r, mails) (pumped_from (slot + 1) sets (record kept { leader = record r.leader { flights = r.leader.flights ++ (record { slot = s; value = command; voters = None }) ∷ [] } }, sent_all r.me set (Accept (name_of r) r.leader.ballot s command) more))) fact
         (one_more at course set command r mails m here room acts backlog more same (pumped_from (slot + 1) sets (begins at course set command r mails m here room acts backlog more same, sent_all r.me set (Accept (name_of r) r.leader.ballot course.bound command) more))
         (rest (to_bound (course.bound + 1) course) (begins at course set command r mails m here room acts backlog more same) (sent_all r.me set (Accept (name_of r) r.leader.ballot course.bound command) more)
-        (may_begin at course set command r mails m here room acts backlog more same) (omega (arith, least)) (omega (arith, is)) (omega (arith, ends)))))
+        (may_begin at course set command r mails m here room acts backlog more same) (omega (arith, least)) (omega (arith, fact)) (omega (arith, ends)))))
 
     offering : Rest → course.bound ≡ slot → (b : Bool) → OffersBy at course (r, mails) (cond b (goes (found_for slot (r, mails))) (r, mails))
-    offering rest is true = found_keeps (λ f. OffersBy at course (r, mails) (goes f)) r mails (found rest is) slot
-    offering rest is false = none_offers at course r mails m r.acts r.backlog mails (λ who. refl)
+    offering rest fact true = found_keeps (λ f. OffersBy at course (r, mails) (goes f)) r mails (found rest fact) slot
+    offering rest fact false = none_offers at course r mails m r.acts r.backlog mails (λ who. refl)
 
     by : Rest → OffersBy at course (r, mails) (step (is_some (taken_at r slot)))
     by rest = elim (cases_lt slot course.bound) [
       | inl lt ↦ subst (λ b. OffersBy at course (r, mails) (step b)) (sym (m.taken slot least lt)) (rest course r mails m (omega (arith, least)) (omega (arith, lt)) (omega (arith, ends)))
-      | inr ge ↦ (let is : course.bound ≡ slot = omega (arith, ge, most) in
-          subst (λ (o : Option Command). OffersBy at course (r, mails) (step (is_some o))) (sym (m.free slot (omega (arith, is)))) (offering rest is (may_offer r set)))
+      | inr ge ↦ (let fact : course.bound ≡ slot = omega (arith, ge, most) in
+          subst (λ (o : Option Command). OffersBy at course (r, mails) (step (is_some o))) (sym (m.free slot (omega (arith, fact)))) (offering rest fact (may_offer r set)))
     ]
 
 -- A pump asks those that decide the slots behind what is in flight to accept what it offers, each slot's once, and nobody else; it leaves no other mark.

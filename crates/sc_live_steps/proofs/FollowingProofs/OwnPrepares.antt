@@ -1,15 +1,21 @@
 -- A leader's own Prepare comes before every promise of its ballot, by each kind of row.
-use Rattle.std.proofs.Common.{◌≡◌, ℕ, ◌<◌, ◌≤◌, ◌&&◌, eqb, true, false, true≢false, List, [], ◌∷◌, ◌++◌, Option, Some, None, inl, inr, refl, sym, ◌∙◌, ap, subst, arith, append-nil}
+use Rattle.std.proofs.Common.{◌≡◌, ℕ, ◌<◌, ◌≤◌, ◌&&◌, eqb, true, false, true≢false, List, [], ◌∷◌, ◌++◌, Option, Some, None, inl, inr, refl, sym, ◌∙◌, ap, subst, arith}
 use Rattle.std.proofs.lemmas.Bool.{cases_Bool, cases_eq, cond_both, eqb-true, and_parts}
 use Rattle.sc_base.specs.Definitions.{Each}
 use Rattle.sc_node_table.specs.Values.{Ballot}
 use Rattle.sc_node_table.specs.Definitions.{listed, next}
 use Rattle.sc_words.specs.paxos.Definitions.{below, IsAtLeast}
 use Rattle.sc_words.proofs.PaxosProofs.Lemmas.{at_least_below, at_least_from_below, not_both, Each-append, Each-split, Each-weaker}
-use Rattle.sc_live_steps.specs.following.Definitions.{IsNoPrepare, Mark, Asks, Votes, Tells, Installs, Prepares, Promises, Progress, Sets, IsKnown, IsFollowing, IsOtherPrepare, IsOwnPrepare, IsHome, ArePromisedLast, AreLearntLast, IsOwnFirst, CountsOwn, CountsNone, OwnIsKept, LeadersCountOwn, IsRow, IsIdle, IsCount, answered, Takes, told_from, Leads, Elects}
-use Rattle.sc_live_steps.proofs.FollowingProofs.NodeMarks.{counts_of, each-row}
+use Rattle.sc_live_steps.specs.following.Definitions.{Course, IsNoPrepare, Mark, Asks, Votes, Teaches, Installs, Prepares, Promises, Progress, Sets, IsKnown, IsFollowing, IsOtherPrepare, IsOwnPrepare, IsHome, ArePromisedLast, AreLearntLast, IsOwnFirst, CountsOwn, CountsNone, OwnIsKept, LeadersCountOwn, IsRow, IsIdle, IsCount, answered, Takes, taught_from, Leads, Elects}
+use Rattle.sc_live_steps.proofs.FollowingProofs.ElectionRows.{elects-each}
+use Rattle.sc_live_steps.proofs.FollowingProofs.NodeMarks.{counts_of, each-row, idle_marks}
 use Rattle.sc_live_steps.proofs.FollowingProofs.Marks.{offers-each, told-each, told-own}
 use Rattle.sc_live_steps.proofs.FollowingProofs.OwnMarks.{Behind, IsNoPromise, IsNotLast, all_neither, behind_none, count_none, each_all, last_append, last_counts, last_tail, last_told, no_promised, none_own, not_last, promised_append, promised_left, promised_none}
+
+-- what is at home stays so in a later ballot
+home_later : (old new : Course) → ((b : Ballot) → IsAtLeast old.ballot b → IsAtLeast new.ballot b) → (who : ℕ) (mark : Mark) → IsHome old who mark → IsHome new who mark
+home_later old new later who (Promises node ballot) h = (h.0, later ballot h.1)
+home_later old new later who _ h = tt
 
 -- ---- rows
 
@@ -19,11 +25,11 @@ module _ (at : Sets) (now after : Progress) (node : ℕ) (taken : Option Mark) (
 
   order_row : (who : ℕ) → Each (Behind (sent who)) (marks who) → ArePromisedLast (sent who) → ArePromisedLast (marks_after who)
   order_row who behind g = elim (cases_eq who node) [
-    | inl is ↦ (let behind_node = subst (λ n. Each (Behind (sent n)) (marks n)) is behind in
-        subst (λ n. ArePromisedLast (marks_after n)) (sym is)
+    | inl fact ↦ (let behind_node = subst (λ n. Each (Behind (sent n)) (marks n)) fact behind in
+        subst (λ n. ArePromisedLast (marks_after n)) (sym fact)
         (subst ArePromisedLast (sym row.own)
         (promised_append row.left (sent node) (promised_left taken row.left (subst ArePromisedLast row.takes (o.order node))) (Each-split (Behind (sent node)) (listed taken) row.left (subst (Each (Behind (sent node))) row.takes behind_node)).1
-        (subst (λ n. ArePromisedLast (sent n)) is g))))
+        (subst (λ n. ArePromisedLast (sent n)) fact g))))
     | inr ne ↦ subst ArePromisedLast (sym (row.others who ne)) (promised_append (marks who) (sent who) (o.order who) behind g)
   ]
 
@@ -33,20 +39,14 @@ module _ (at : Sets) (now after : Progress) (node : ℕ) (taken : Option Mark) (
 
   idle_own : IsIdle now after node taken sent → IsOwnFirst after marks_after
   idle_own i = subst (λ c. IsOwnFirst (record { next = after.next; promise = after.promise; course = c }) marks_after) (sym i.course) (record {
-    home = λ who. subst (Each (IsHome now.course who)) (same who) (o.home who);
-    order = λ who. subst ArePromisedLast (same who) (o.order who);
-    own = λ r who c. subst (Each IsNoPrepare) (same lead) (o.own r who c);
+    home = λ who. subst (Each (IsHome now.course who)) (idle_marks now after node taken sent marks marks_after row i who) (o.home who);
+    order = λ who. subst ArePromisedLast (idle_marks now after node taken sent marks marks_after row i who) (o.order who);
+    own = λ r who c. subst (Each IsNoPrepare) (idle_marks now after node taken sent marks marks_after row i lead) (o.own r who c);
     some = o.some;
-    first = λ r f. subst (Each IsNoPrepare) (same lead) (o.first r f);
-    only = λ r. subst (Each (IsOwnPrepare now.course.ballot)) (same lead) (o.only r);
-    stop = λ off who. subst (AreLearntLast now.course.newest) (same who) (o.stop off who);
+    first = λ r f. subst (Each IsNoPrepare) (idle_marks now after node taken sent marks marks_after row i lead) (o.first r f);
+    only = λ r. subst (Each (IsOwnPrepare now.course.ballot)) (idle_marks now after node taken sent marks marks_after row i lead) (o.only r);
+    stop = λ off who. subst (AreLearntLast now.course.newest) (idle_marks now after node taken sent marks marks_after row i who) (o.stop off who);
   })
-    where
-      same : (who : ℕ) → marks who ≡ marks_after who
-      same who = elim (cases_eq who node) [
-        | inl is ↦ ap marks is ∙ (row.takes ∙ (ap (λ t. listed t ++ row.left) i.takes ∙ (sym (append-nil row.left) ∙ (ap (λ l. row.left ++ l) (sym (i.sends node)) ∙ (sym row.own ∙ ap marks_after (sym is))))))
-        | inr ne ↦ sym (append-nil (marks who)) ∙ (ap (λ l. marks who ++ l) (sym (i.sends who)) ∙ sym (row.others who ne))
-      ]
 
   module _ (t : Takes at now after node taken sent) where
     counts : (who : ℕ) → Each IsCount (sent who)
@@ -65,7 +65,7 @@ module _ (at : Sets) (now after : Progress) (node : ℕ) (taken : Option Mark) (
 
     stop_row : now.course.runs ≡ false → (who : ℕ) → AreLearntLast now.course.newest (marks_after who)
     stop_row off who = elim (cases_eq who node) [
-      | inl is ↦ subst (λ n. AreLearntLast now.course.newest (marks_after n)) (sym is) (subst (AreLearntLast now.course.newest) (sym row.own)
+      | inl fact ↦ subst (λ n. AreLearntLast now.course.newest (marks_after n)) (sym fact) (subst (AreLearntLast now.course.newest) (sym row.own)
           (last_counts now.course.newest row.left (sent node) (last_left taken row.left now.course.newest (subst (AreLearntLast now.course.newest) row.takes (o.stop off node))) (counts node)))
       | inr ne ↦ subst (AreLearntLast now.course.newest) (sym (row.others who ne)) (last_counts now.course.newest (marks who) (sent who) (o.stop off who) (counts who))
     ]
@@ -88,9 +88,9 @@ module _ (at : Sets) (now after : Progress) (node : ℕ) (taken : Option Mark) (
     own_none : Each IsNoPrepare (sent lead)
     own_none = subst (λ n. Each IsNoPrepare (sent n)) l.mine (subst (Each IsNoPrepare) (sym (l.sends node ∙ ap (λ t. t ++ l.offers node) (told-own at now.course node l.mine l.executed now.course.newest))) (offers_none node))
 
-    sent_each : (P : Mark → Type 0) → ((slot : ℕ) → P (Tells slot)) → ((slot : ℕ) → P (Installs slot)) → P (Prepares now.course.ballot) → ((ballot : Ballot) (slot : ℕ) → P (Asks ballot slot)) → (who : ℕ) → Each P (sent who)
+    sent_each : (P : Mark → Type 0) → ((slot : ℕ) → P (Teaches slot)) → ((slot : ℕ) → P (Installs slot)) → P (Prepares now.course.ballot) → ((ballot : Ballot) (slot : ℕ) → P (Asks ballot slot)) → (who : ℕ) → Each P (sent who)
     sent_each P tells installs prepares asks who =
-        subst (Each P) (sym (l.sends who)) (Each-append P (told_from at now.course now.course.newest l.executed who) (l.offers who) (told-each at now.course who P tells installs prepares l.executed now.course.newest)
+        subst (Each P) (sym (l.sends who)) (Each-append P (taught_from at now.course now.course.newest l.executed who) (l.offers who) (told-each at now.course who P tells installs prepares l.executed now.course.newest)
         (offers-each P at after.course now.course.bound who (λ ballot s least most. asks ballot s) (l.offers who) (l.asks who)))
 
     behind_sent : (who : ℕ) → (who ≡ lead → ⊥) → (mark : Mark) → IsHome now.course who mark → Behind (sent who) mark
@@ -99,7 +99,7 @@ module _ (at : Sets) (now after : Progress) (node : ℕ) (taken : Option Mark) (
 
     order_then : (who : ℕ) → ArePromisedLast (marks_after who)
     order_then who = order_row who (elim (cases_eq who lead) [
-      | inl is ↦ subst (λ n. Each (Behind (sent n)) (marks n)) (sym is) (each_all (Behind (sent lead)) (behind_none (sent lead) own_none) (marks lead))
+      | inl fact ↦ subst (λ n. Each (Behind (sent n)) (marks n)) (sym fact) (each_all (Behind (sent lead)) (behind_none (sent lead) own_none) (marks lead))
       | inr ne ↦ Each-weaker (IsHome now.course who) (Behind (sent who)) (behind_sent who ne) (marks who) (o.home who)
     ]) (no_promised (sent who) (sent_each IsNoPromise (λ _. tt) (λ _. tt) tt (λ _ _. tt) who))
 
@@ -124,22 +124,18 @@ module _ (at : Sets) (now after : Progress) (node : ℕ) (taken : Option Mark) (
         let old = not_last now.course.newest after.course.newest (now.next who) (now.promise who) (marks who) (was.fits who) (was.within who) later in
         let new = subst (AreLearntLast after.course.newest) (sym (l.sends who)) (last_told at now.course after.course now.course.bound who after.course.newest (l.offers who) (l.asks who) l.executed now.course.newest (sym up)) in
         elim (cases_eq who node) [
-          | inl is ↦ subst (λ n. AreLearntLast after.course.newest (marks_after n)) (sym is) (subst (AreLearntLast after.course.newest) (sym row.own)
-              (last_append after.course.newest row.left (sent node) (Each-split (IsNotLast after.course.newest) (listed taken) row.left (subst (Each (IsNotLast after.course.newest)) row.takes (subst (λ n. Each (IsNotLast after.course.newest) (marks n)) is old))).1
-              (subst (λ n. AreLearntLast after.course.newest (sent n)) is new)))
+          | inl fact ↦ subst (λ n. AreLearntLast after.course.newest (marks_after n)) (sym fact) (subst (AreLearntLast after.course.newest) (sym row.own)
+              (last_append after.course.newest row.left (sent node) (Each-split (IsNotLast after.course.newest) (listed taken) row.left (subst (Each (IsNotLast after.course.newest)) row.takes (subst (λ n. Each (IsNotLast after.course.newest) (marks n)) fact old))).1
+              (subst (λ n. AreLearntLast after.course.newest (sent n)) fact new)))
           | inr ne ↦ subst (AreLearntLast after.course.newest) (sym (row.others who ne)) (last_append after.course.newest (marks who) (sent who) old new)
         ]
-
-    same_course : (who : ℕ) (mark : Mark) → IsHome now.course who mark → IsHome after.course who mark
-    same_course who (Promises n ballot) h = (h.0, subst (λ b. IsAtLeast b ballot) (sym l.ballot) h.1)
-    same_course who _ h = tt
 
     at_lead : (P : List Mark → Type 0) → P (marks_after lead) → P (marks_after after.course.ballot.node)
     at_lead P = subst (λ (b : Ballot). P (marks_after b.node)) (sym l.ballot)
 
     pub leads_own : IsOwnFirst after marks_after
     leads_own = record {
-      home = λ who. Each-weaker (IsHome now.course who) (IsHome after.course who) (same_course who) (marks_after who) (home_then who);
+      home = λ who. Each-weaker (IsHome now.course who) (IsHome after.course who) (home_later now.course after.course (λ b. subst (λ x. IsAtLeast x b) (sym l.ballot)) who) (marks_after who) (home_then who);
       order = order_then;
       own = λ r who counted. at_lead (Each IsNoPrepare) (own_then r who counted);
       some = c.some;
@@ -156,32 +152,22 @@ module _ (at : Sets) (now after : Progress) (node : ℕ) (taken : Option Mark) (
     left_none : Each IsNoPrepare row.left
     left_none = (subst (AreLearntLast now.course.newest) (row.takes ∙ ap (λ x. listed x ++ row.left) c.told.2) (o.stop e.idle node)).0 c.told.1
 
-    later : (b : Ballot) → IsAtLeast now.course.ballot b → IsAtLeast ballot b
-    later b least = at_least_from_below b ballot (at_least_below b now.course.ballot ballot least e.later)
-
     never : (b : Ballot) → IsAtLeast now.course.ballot b → ballot ≡ b → ⊥
     never b least same = not_both now.course.ballot ballot e.later (subst (IsAtLeast now.course.ballot) (sym same) least)
 
-    asks_each : (P : Mark → Type 0) → P (Prepares ballot) → (who : ℕ) → Each P (sent who)
-    asks_each P p who = elim (e.sends who) [ inl none ↦ subst (Each P) (sym none) tt | inr one ↦ subst (Each P) (sym one.1) (p, tt) ]
-
-    later_home : (who : ℕ) (mark : Mark) → IsHome now.course who mark → IsHome after.course who mark
-    later_home who (Promises n b) h = (h.0, later b h.1)
-    later_home who _ h = tt
-
     behind_asked : (who : ℕ) (mark : Mark) → IsHome now.course who mark → Behind (sent who) mark
-    behind_asked who (Promises n b) h = asks_each (IsOtherPrepare b) (never b h.1) who
+    behind_asked who (Promises n b) h = elects-each at now after node taken sent e (IsOtherPrepare b) (never b h.1) who
     behind_asked who _ h = tt
 
     pub elects_own : IsOwnFirst after marks_after
     elects_own = record {
-      home = λ who. each-row now after node taken sent marks marks_after row (IsHome after.course who) who (Each-weaker (IsHome now.course who) (IsHome after.course who) (later_home who) (marks who) (o.home who)) (asks_each (IsHome after.course who) tt who);
-      order = λ who. order_row who (Each-weaker (IsHome now.course who) (Behind (sent who)) (behind_asked who) (marks who) (o.home who)) (no_promised (sent who) (asks_each IsNoPromise tt who));
+      home = λ who. each-row now after node taken sent marks marks_after row (IsHome after.course who) who (Each-weaker (IsHome now.course who) (IsHome after.course who) (home_later now.course after.course (λ b least. at_least_from_below b ballot (at_least_below b now.course.ballot ballot least e.later)) who) (marks who) (o.home who)) (elects-each at now after node taken sent e (IsHome after.course who) tt who);
+      order = λ who. order_row who (Each-weaker (IsHome now.course who) (Behind (sent who)) (behind_asked who) (marks who) (o.home who)) (no_promised (sent who) (elects-each at now after node taken sent e IsNoPromise tt who));
       own = λ r who counted. absurd (true≢false (sym counted ∙ c.none who));
       some = λ r later_ below_. absurd (let n = e.newest in let b = e.bound in let same = was.offered e.idle in omega (arith, n, b, same, below_));
       first = λ r f. absurd (true≢false (sym f ∙ e.first));
       only = λ r. subst (λ n. Each (IsOwnPrepare ballot) (marks_after n)) (sym e.mine)
-          (subst (Each (IsOwnPrepare ballot)) (sym row.own) (Each-append (IsOwnPrepare ballot) row.left (sent node) (Each-weaker IsNoPrepare (IsOwnPrepare ballot) (none_own ballot) row.left left_none) (asks_each (IsOwnPrepare ballot) refl node)));
+          (subst (Each (IsOwnPrepare ballot)) (sym row.own) (Each-append (IsOwnPrepare ballot) row.left (sent node) (Each-weaker IsNoPrepare (IsOwnPrepare ballot) (none_own ballot) row.left left_none) (elects-each at now after node taken sent e (IsOwnPrepare ballot) refl node)));
       stop = λ off. absurd (true≢false (sym e.runs ∙ off));
     }
 

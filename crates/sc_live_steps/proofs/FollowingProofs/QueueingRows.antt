@@ -26,7 +26,7 @@ module _ (at : Sets) (now : Progress) (taken : Option Mark) (r mid : ReplicaStat
   still_leads = leads_into at now taken r mid mails (mid, mails) was c silent (none_leads at now.course (mid, mails) c.led) (λ off. absurd (true≢false (sym c.led.running ∙ off)))
 
   pub pump_runs : (pumped (mid, mails)).0.running ≡ true
-  pump_runs = ap (λ (q : ReplicaState). q.running) (pumps_offer at now.course (mid, mails) c.led.may).is ∙ c.led.running
+  pump_runs = ap (λ (q : ReplicaState). q.running) (pumps_offer at now.course (mid, mails) c.led.may).fact ∙ c.led.running
 
   pub offers_lead : LeadsInto at now taken r (pumped (mid, mails))
   offers_lead = leads_into at now taken r mid mails (pumped (mid, mails)) was c silent (pump_leads at now.course (mid, mails) (mid, mails) (none_leads at now.course (mid, mails) c.led)) (λ off. absurd (true≢false (sym pump_runs ∙ off)))
@@ -49,8 +49,8 @@ module _ (at : Sets) (now : Progress) (from : ℕ) (ballot : Ballot) (reports : 
       own_is : (who : ℕ) → promise ≡ Some (Promises who now.course.ballot) → is_member promisers who ≡ true
       own_is who e =
           let same : ballot ≡ now.course.ballot = cc in
-          let is : from ≡ who = cc in
-          subst (λ n. is_member promisers n ≡ true) is (own same)
+          let fact : from ≡ who = cc in
+          subst (λ n. is_member promisers n ≡ true) fact (own same)
 
   abbrev Row : Place → Type 0
   Row place = LeadsInto at now promise r place
@@ -73,7 +73,7 @@ module _ (at : Sets) (now : Progress) (from : ℕ) (ballot : Ballot) (reports : 
       new who m = elim (or_cases (is_member r.leader.promisers who) (eqb from who || false) m) [
         | inl old ↦ inl old
         | inr its ↦ elim (or_cases (eqb from who) false its) [
-          | inl is ↦ inr (ap (λ n. Some (Promises n ballot)) (eqb-true from who is) ∙ ap (λ b. Some (Promises who b)) ballot_same)
+          | inl fact ↦ inr (ap (λ n. Some (Promises n ballot)) (eqb-true from who fact) ∙ ap (λ b. Some (Promises who b)) ballot_same)
           | inr bad ↦ absurd (true≢false (sym bad))
         ]
       ]

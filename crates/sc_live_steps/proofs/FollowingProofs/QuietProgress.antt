@@ -16,7 +16,7 @@ pub begins : (at : Sets) (ballot : Ballot) → ((slot : ℕ) → slot < 1 + slot
 begins at ballot same mine = record {
   fits = λ node. tt;
   within = λ node. cond_both (is_member (members_at at 1) node) 1 0 (λ n. n ≤ 1) (λ _. omega arith) (λ _. omega arith);
-  members = λ node is. cond-true (is_member (members_at at 1) node) 1 0 is;
+  members = λ node fact. cond-true (is_member (members_at at 1) node) 1 0 fact;
   ready = λ node o. record {
     replica = subst (λ n. 1 ≤ n) (sym (cond-true (is_member (members_at at 1) node) 1 0 (subst (λ s. is_member s node ≡ true) (same o.slot o.to) o.decides))) (omega arith);
     promised = refl;
@@ -30,7 +30,7 @@ begins at ballot same mine = record {
   asked = λ node. tt;
   undone = λ r b slot a. absurd a;
   flying = λ slot voters v. absurd (none_some v);
-  votes = λ slot voters v node is. absurd (none_some v);
+  votes = λ slot voters v node fact. absurd (none_some v);
   promises = λ r f node o. absurd (true_false f);
   pledges = λ r f node e. absurd (true_false f);
   leads = λ r. record { executed = cond-true (is_member (members_at at 1) ballot.node) 1 0 mine; member = mine; stands = refl };
@@ -51,7 +51,7 @@ all_votes [] voters f = refl
 all_votes (x ∷ members) voters f =
     let head = sum_by-cons (λ member. cond (is_member voters member) 1 0) x members in
     let one : ◌≡◌ {A = ℕ} (cond (is_member voters x) 1 0) 1 = cond-true (is_member voters x) 1 0 (f x (or_left (eqb x x) (is_member members x) (eq-eqb x x refl))) in
-    let more = all_votes members voters (λ node is. f node (or_right (eqb x node) (is_member members node) is)) in
+    let more = all_votes members voters (λ node fact. f node (or_right (eqb x node) (is_member members node) fact)) in
     omega (arith, head, one, more)
 
 pub decided : (members voters : List ℕ) → 1 ≤ length members → ((node : ℕ) → is_member members node ≡ true → is_member voters node ≡ true) → is_majority members voters ≡ true
@@ -73,7 +73,7 @@ module _ (at : Sets) (now : Progress) (marks : ℕ → List Mark) (rosters : (sl
   pledges node = ap (pledged (now.promise node)) (quiet node)
 
   members : (node : ℕ) → is_member (members_at at newest) node ≡ true → now.next node ≡ newest
-  members node is = sym (ends node) ∙ was.members node is
+  members node fact = sym (ends node) ∙ was.members node fact
 
   voted : (slot : ℕ) (voters : List ℕ) (node : ℕ) → IsVoting now.course.ballot node slot voters (marks node) (marks now.course.ballot.node) → is_member voters node ≡ true
   voted slot voters node (inl v) = v
@@ -83,7 +83,7 @@ module _ (at : Sets) (now : Progress) (marks : ℕ → List Mark) (rosters : (sl
   none : (slot : ℕ) (voters : Option (List ℕ)) → now.course.voters slot ≡ voters → now.course.voters slot ≡ None
   none slot None e = e
   none slot (Some voters) e =
-      absurd (both_ways (is_majority (at slot) voters) (was.flying slot voters e).undecided (decided (at slot) voters (rosters slot).some (λ node is. voted slot voters node (was.votes slot voters e node is))))
+      absurd (both_ways (is_majority (at slot) voters) (was.flying slot voters e).undecided (decided (at slot) voters (rosters slot).some (λ node fact. voted slot voters node (was.votes slot voters e node fact))))
 
   even : IsEven at now
   even = record {

@@ -8,8 +8,7 @@ use Rattle.sc_law_walks.specs.Definitions.{IfThere}
 use Rattle.sc_law_walks.proofs.Lemmas.{entered_next, idle_ready, idle_pump}
 use Rattle.sc_live_steps.specs.following.Definitions.{Course, Sets, IsLed, IsNext, IsOn, IsOff, LeadsPast, AreNext, LeadsBy, StopsAlone, ActsStopAlone}
 use Rattle.sc_live_steps.proofs.FollowingProofs.CountedEntries.{entries_lead}
-use Rattle.sc_live_steps.proofs.FollowingProofs.ExecutedEntries.{stays_led, ready_of, ready_leads}
-use Rattle.sc_live_steps.proofs.FollowingProofs.FlightSlots.{slot_out}
+use Rattle.sc_live_steps.proofs.FollowingProofs.ExecutedEntries.{on_leads, on_next, on_ready, ready_of, ready_leads}
 use Rattle.sc_live_steps.proofs.FollowingProofs.LeaderTables.{none_taken}
 use Rattle.sc_live_steps.proofs.FollowingProofs.Offers.{pumps_offer}
 use Rattle.sc_live_steps.proofs.FollowingProofs.TakenVotes.{vote_row}
@@ -40,8 +39,16 @@ module _ (at : Sets) (course : Course) (r after : ReplicaState) (led : IsLed at 
 -- ---- what is executed at once
 
 -- an act that is ready is all that is in flight or ready
-abbrev ReadyAlone : Course → ReplicaState → Type 0
+abbrev pub ReadyAlone : Course → ReplicaState → Type 0
 ReadyAlone course r = (slot : ℕ) (command : Command) → next r ≤ slot → at_slot r.ready slot ≡ Some command → is_act command ≡ true → course.bound ≡ next r + 1
+
+pub alone_on : (at : Sets) (course : Course) (command : Command) (r after : ReplicaState) → IsLed at course r → IsOn command r after → ReadyAlone course r → ReadyAlone course after
+alone_on at course command r after led on alone slot other least e act =
+    let up = on_next command r after on in
+    let old : at_slot r.ready slot ≡ Some other = sym (on_ready command r after on slot (λ fact. omega (arith, least, up, fact))) ∙ e in
+    let bound = alone slot other (omega (arith, least, up)) old act in
+    let none : None ≡ Some other = sym (none_taken r slot (led.may.free slot (omega (arith, bound, least, up)))).1 ∙ old in
+    cc
 
 module _ (at : Sets) (course : Course) (command : Command) (place : Place) (led : IsLed at course place.0) (ready : at_slot place.0.ready (next place.0) ≡ Some command) (is_next : IsNext at command place.0) (alone : ReadyAlone course place.0) where
   abbrev mid : Place
@@ -50,33 +57,20 @@ module _ (at : Sets) (course : Course) (command : Command) (place : Place) (led 
   past : LeadsPast at course command place mid
   past = entries_lead at course command place led is_next
 
-  on_led : IsOn command place.0 mid.0 → IsLed at course mid.0
-  on_led on = subst (IsLed at course) (sym on.is) (stays_led at course command place.0 led ready is_next on.acts on.backlog on.stands on.stays)
-
-  on_alone : IsOn command place.0 mid.0 → ReadyAlone course mid.0
-  on_alone on slot other least e act =
-      let up : next mid.0 ≡ next place.0 + 1 = ap next on.is ∙ entered_next command place.0 in
-      let old : at_slot place.0.ready slot ≡ Some other = sym (ap (λ (q : ReplicaState). at_slot q.ready slot) on.is ∙ slot_out (next place.0) slot place.0.ready (λ is. omega (arith, least, up, is))) ∙ e in
-      let bound = alone slot other (omega (arith, least, up)) old act in
-      absurd (free_there slot other old (none_taken place.0 slot (led.may.free slot (omega (arith, bound, least, up)))).1)
-    where
-      free_there : (slot : ℕ) (other : Command) → at_slot place.0.ready slot ≡ Some other → at_slot place.0.ready slot ≡ None → ⊥
-      free_there slot other i j = cc
-
   off_bound : IsOff command place.0 mid.0 → next mid.0 ≡ course.bound
   off_bound off = (let bound = alone (next place.0) command (omega arith) ready (off_acts at course place.0 mid.0 led command off) in
-      let up : next mid.0 ≡ next place.0 + 1 = ap next off.is ∙ entered_next command place.0 in
+      let up : next mid.0 ≡ next place.0 + 1 = ap next off.fact ∙ entered_next command place.0 in
       omega (arith, bound, up))
 
   -- an entry, those that are ready behind it, and a pump
   step_alone : (es : List (ℕ × Command)) → AreNext at es mid → (IsLed at course mid.0 → ReadyAlone course mid.0 → StopsAlone course (executed_ready es mid).0.0) → StopsAlone course (pumped (executed_ready es mid).0).0
   step_alone es are rest = elim (past.state) [
-    | inl on ↦ (let b : LeadsBy at course mid (executed_ready es mid).0 = ready_leads at course es mid (on_led on) are in
+    | inl on ↦ (let b : LeadsBy at course mid (executed_ready es mid).0 = ready_leads at course es mid (on_leads at course command place.0 led ready is_next mid.0 on) are in
         elim (b.state) [
-          | inl still ↦ λ off. absurd (true≢false (sym (ap (λ (q : ReplicaState). q.running) (pumps_offer at _ (executed_ready es mid).0 still.led.may).is ∙ still.led.running) ∙ off))
-          | inr stopped ↦ subst (λ (p : Place). StopsAlone course p.0) (sym (idle_pump (executed_ready es mid).0 stopped.0.running)) (rest (on_led on) (on_alone on))
+          | inl still ↦ λ off. absurd (true≢false (sym (ap (λ (q : ReplicaState). q.running) (pumps_offer at _ (executed_ready es mid).0 still.led.may).fact ∙ still.led.running) ∙ off))
+          | inr stopped ↦ subst (λ (p : Place). StopsAlone course p.0) (sym (idle_pump (executed_ready es mid).0 stopped.0.running)) (rest (on_leads at course command place.0 led ready is_next mid.0 on) (alone_on at course command place.0 mid.0 led on alone))
         ])
-    | inr off ↦ (let still : mid.0.running ≡ false = ap (λ (q : ReplicaState). q.running) off.is in
+    | inr off ↦ (let still : mid.0.running ≡ false = ap (λ (q : ReplicaState). q.running) off.fact in
         subst (λ (s : Executed). StopsAlone course (pumped s.0).0) (sym (idle_ready es mid still)) (subst (λ (p : Place). StopsAlone course p.0) (sym (idle_pump mid still)) (λ _. off_bound off)))
   ]
 

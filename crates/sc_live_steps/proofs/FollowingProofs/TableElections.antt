@@ -1,12 +1,12 @@
 -- One that elects itself by the last entry, which it learns, leads in its group's progress after that.
-use Rattle.std.proofs.Common.{◌≡◌, ℕ, zero, suc, ◌+◌, ◌<◌, ◌≤◌, ◌||◌, not, eqb, ltb, Bool, true, false, true≢false, cond, List, [], ◌∷◌, length, Option, Some, None, inl, inr, refl, sym, ◌∙◌, ap, subst, arith}
+use Rattle.std.proofs.Common.{◌≡◌, ℕ, zero, suc, ◌+◌, ◌<◌, ◌≤◌, ◌||◌, not, eqb, ltb, true, false, true≢false, List, [], ◌∷◌, length, Option, Some, None, inl, inr, refl, sym, ◌∙◌, ap, subst, arith}
 use Rattle.std.specs.Prelude.{is_some}
-use Rattle.std.proofs.lemmas.Bool.{cases_Bool, cases_eq, cases_lt, cond-true, cond-false, eq-eqb, or_cases, or_left, or_right}
+use Rattle.std.proofs.lemmas.Bool.{cond_both, cases_Bool, cases_eq, cases_lt, cond-true, cond-false, eq-eqb, or_cases, or_left, or_right}
 use Rattle.sc_base.specs.Definitions.{most_nodes, is_member, least_of}
 use Rattle.sc_node_table.specs.Values.{Ballot, Command}
 use Rattle.sc_words.specs.paxos.Definitions.{below}
 use Rattle.sc_node_table.specs.Definitions.{is_in_some, nodes_to, open_nodes, entered, executed_ready, executed, pumped, ReplicaState, Place, name_of, next, members, forgotten, mailed, numbers_from}
-use Rattle.sc_live_steps.specs.following.Definitions.{MayLeadNext, elected_by, ElectsInto, ElectionsLead, Tells, Prepares, Progress, Sets, members_at, IsOpen, voters_of, IsLeadOf, AreAt, IsOrderly, Elects, marks_for, MayElect, next_ballot, ElectsBy}
+use Rattle.sc_live_steps.specs.following.Definitions.{MayLeadNext, elected_by, ElectsInto, ElectionsLead, Teaches, Prepares, Progress, Sets, members_at, IsOpen, voters_of, IsLeadOf, AreAt, IsOrderly, Elects, marks_for, MayElect, next_ballot, ElectsBy}
 use Rattle.sc_live_steps.proofs.FollowingProofs.LeastMembers.{last, leading, one_is, no_pump, self_election}
 use Rattle.sc_live_steps.proofs.FollowingProofs.EntryMail.{passes, fails}
 use Rattle.sc_live_steps.proofs.FollowingProofs.LeaderRows.{least_in}
@@ -18,7 +18,7 @@ use Rattle.sc_live_steps.proofs.FollowingProofs.FollowerTables.{told_is}
 pub among_numbers : (count from who : ℕ) → from ≤ who → who < from + count → is_member (numbers_from from count) who ≡ true
 among_numbers zero from who least most = absurd (omega (arith, least, most))
 among_numbers (suc count) from who least most = elim (cases_eq from who) [
-  | inl is ↦ or_left (eqb from who) (is_member (numbers_from (from + 1) count) who) (eq-eqb from who is)
+  | inl fact ↦ or_left (eqb from who) (is_member (numbers_from (from + 1) count) who) (eq-eqb from who fact)
   | inr ne ↦ or_right (eqb from who) (is_member (numbers_from (from + 1) count) who) (among_numbers count (from + 1) who (past ne) (omega (arith, most)))
 ]
   where
@@ -36,7 +36,7 @@ some_open at first (set ∷ sets) who are e = elim (or_cases (is_member set who)
 open_some : (at : Sets) (first : ℕ) (sets : List (List ℕ)) (who s : ℕ) → AreAt at first sets → first ≤ s → s < first + length sets → is_member (at s) who ≡ true → is_in_some sets who ≡ true
 open_some at first [] who s are least most m = absurd (omega (arith, least, most))
 open_some at first (set ∷ sets) who s are least most m = elim (cases_eq first s) [
-  | inl is ↦ or_left (is_member set who) (is_in_some sets who) (ap (λ l. is_member l who) (sym are.0) ∙ (ap (λ n. is_member (at n) who) is ∙ m))
+  | inl fact ↦ or_left (is_member set who) (is_in_some sets who) (ap (λ l. is_member l who) (sym are.0) ∙ (ap (λ n. is_member (at n) who) fact ∙ m))
   | inr ne ↦ or_right (is_member set who) (is_in_some sets who) (open_some at (first + 1) sets who s are.1 (past ne) (omega (arith, most)) m)
 ]
   where
@@ -74,11 +74,7 @@ module _ (at : Sets) (now : Progress) (command : Command) (r : ReplicaState) (of
   ballot_is = ap (λ l. l.ballot) by.leads
 
   no_voters : (s : ℕ) → voters_of place.0 s ≡ None
-  no_voters s = split (not place.0.running || (ltb s (next place.0) || false))
-    where
-      split : (b : Bool) → cond {A = Option (List ℕ)} b None None ≡ None
-      split true = refl
-      split false = refl
+  no_voters s = cond_both {A = Option (List ℕ)} (not place.0.running || (ltb s (next place.0) || false)) None None (λ o. o ≡ None) (λ _. refl) (λ _. refl)
 
   opens : (who : ℕ) → is_member (open_nodes (entered command r).sets) who ≡ true → IsOpen at now.course.newest who
   opens who e =
@@ -104,9 +100,9 @@ module _ (at : Sets) (now : Progress) (command : Command) (r : ReplicaState) (of
   heir : least_of (members (entered command r)) ≡ r.me
   heir = may.least ∙ same_me
 
-  goes : Elects at now then r.me (Some (Tells slot)) (λ who. marks_for (name_of r) who place.1)
+  goes : Elects at now then r.me (Some (Teaches slot)) (λ who. marks_for (name_of r) who place.1)
   goes = record {
-    mark = Tells slot;
+    mark = Teaches slot;
     takes = refl;
     last = (slot, m.last, inl refl);
     idle = m.idle;
@@ -143,9 +139,9 @@ module _ (at : Sets) (now : Progress) (command : Command) (r : ReplicaState) (of
       may = record {
         ballot = refl;
         sets = subst (λ n. AreAt at n (entered command r).sets) (sym by.reaches) m.sets;
-        low = (let is = newest_is in let b = m.bound in omega (arith, is, b));
-        high = (let is = newest_is in let b = m.bound in omega (arith, is, b));
-        taken = λ s least most. absurd (let is = newest_is in let b = m.bound in omega (arith, is, b, least, most));
+        low = (let fact = newest_is in let b = m.bound in omega (arith, fact, b));
+        high = (let fact = newest_is in let b = m.bound in omega (arith, fact, b));
+        taken = λ s least most. absurd (let fact = newest_is in let b = m.bound in omega (arith, fact, b, least, most));
         free = λ s least. refl;
       };
     };
@@ -155,12 +151,9 @@ module _ (at : Sets) (now : Progress) (command : Command) (r : ReplicaState) (of
     executed = cond-true (eqb place.0.me r.me) (next place.0) (now.next place.0.me) (eq-eqb place.0.me r.me same_me);
     promise = cond-true (eqb place.0.me r.me) place.0.acceptor.promised (now.promise place.0.me) (eq-eqb place.0.me r.me same_me);
     voters = λ s. refl;
-    polled = λ s voters e. absurd (none_some (voters_of place.0 s) (no_voters s) e);
+    polled = λ s voters e. (let none : None ≡ Some voters = sym (no_voters s) ∙ e in cc);
     counted = λ node. refl;
   }
-    where
-      none_some : {x : List ℕ} (o : Option (List ℕ)) → o ≡ None → o ≡ Some x → ⊥
-      none_some o e f = cc
 
   orderly_then : IsOrderly place.0
   orderly_then = record { apart = tt; single = λ s from some. refl; alone = λ s other c from e act from_other some. absurd (true≢false (sym some)); plain = refl; asked = λ s from some. absurd (true≢false (sym some)) }

@@ -1,7 +1,7 @@
 -- Whom a replica's table takes for the leader is what the mark of a mail says.
-use Rattle.std.proofs.Common.{◌≡◌, ℕ, suc, ◌+◌, ◌<◌, ◌≤◌, ◌||◌, not, eqb, ltb, Bool, true, false, true≢false, cond, List, [], length, Option, Some, None, ◌⊎◌, inl, inr, refl, sym, ◌∙◌, ap, subst, arith}
+use Rattle.std.proofs.Common.{◌≡◌, ℕ, suc, ◌+◌, ◌<◌, ◌≤◌, not, eqb, Bool, true, false, true≢false, cond, List, [], length, Option, Some, None, ◌⊎◌, inl, inr, refl, sym, ◌∙◌, ap, subst, arith}
 use Rattle.std.specs.Prelude.{is_some}
-use Rattle.std.proofs.lemmas.Bool.{cases_eq, eqb-true, eq-eqb, le-ltb, lt-leb, or_from, not_from_true}
+use Rattle.std.proofs.lemmas.Bool.{cases_eq, eqb-true, lt-leb}
 use Rattle.sc_node_table.specs.Values.{Ballot, Command, Base, Route, Mail, Report}
 use Rattle.sc_base.specs.Definitions.{is_member, least_of}
 use Rattle.sc_words.specs.declared.paxos.answers.AcceptAnswer.TheVariants as Asked
@@ -14,7 +14,7 @@ use Rattle.sc_law_walks.proofs.Lemmas.{idle_ready, idle_pump}
 use Rattle.sc_live_steps.specs.following.Definitions.{Asks, Installs, members_at, HintsFollow, IsHeir, HeirsElect, LeadersLeaveLast, IsInTime, Stays}
 use Rattle.sc_live_steps.proofs.FollowingProofs.HintRows.{nodes_heed}
 use Rattle.sc_live_steps.proofs.FollowingProofs.FollowerTables.{over, place2, over_off, looks, looked_same, told_is}
-use Rattle.sc_live_steps.proofs.FollowingProofs.MailTables.{saw_either, jumped_keeps, made_is}
+use Rattle.sc_live_steps.proofs.FollowingProofs.MailTables.{not_refused, saw_either, jumped_keeps, made_is}
 
 -- ---- Accept and Prepare
 
@@ -109,14 +109,9 @@ install_hint : (from slot : ℕ) (base : Base) (sets : List (List ℕ)) (r : Rep
     → (install_row from slot base sets (r, [])).0.hint ≡ Some from
 unfolding install_row took_over looked_up
 install_hint from slot base sets r fit off low sized mine =
-    subst (λ b. (cond {A = Place} b (r, []) (took_over from slot base sets (r, []))).0.hint ≡ Some from) (sym taken)
+    subst (λ b. (cond {A = Place} b (r, []) (took_over from slot base sets (r, []))).0.hint ≡ Some from) (sym (not_refused slot sets r fit low sized))
     (subst (λ (p : Place). (looked_up from (jumped slot base sets p.0, p.1)).0.hint ≡ Some from) (sym (ap (λ b. cond {A = Place} b (stopped (Some from) (r, [])) (r, [])) off))
     (subst (λ b. (cond {A = Place} b (record (jumped slot base sets r) { hint = Some from }, []) (looked (jumped slot base sets r, []))).0.hint ≡ Some from) (sym (ap (λ m. is_member m from) (jumped_keeps slot base sets r).2 ∙ mine)) refl))
-  where
-    taken : (not (eqb (length sets) (length r.sets)) || (ltb last_slot slot || ltb slot (next r))) ≡ false
-    taken =
-        or_from (not (eqb (length sets) (length r.sets))) (ltb last_slot slot || ltb slot (next r)) (not_from_true (eqb (length sets) (length r.sets)) (eq-eqb (length sets) (length r.sets) sized))
-        (or_from (ltb last_slot slot) (ltb slot (next r)) (le-ltb last_slot slot low) (le-ltb slot (next r) fit))
 
 -- ---- the whole
 
@@ -141,7 +136,7 @@ kept_after command r = (refl, refl, refl)
 
 -- A replica that learns an entry by which it is to lead next elects itself, if it has a later round, and by any other entry it does not.
 pub heirs_elect : HeirsElect
-heirs_elect at by now hints marks slot rest command r h is told = elim (nodes_heed.told at by now hints marks r.me slot rest h told.other is) [
+heirs_elect at by now hints marks slot rest command r h fact told = elim (nodes_heed.told at by now hints marks r.me slot rest h told.other fact) [
   | inl m ↦ inl (inl (hinted ∙ m))
   | inr (inl least) ↦ inl (inr (inl (λ e. least (ap least_of told.members_are ∙ (e ∙ kept.1)))))
   | inr (inr last) ↦ by_gone last (entered command r).group.core.gone refl
@@ -165,7 +160,7 @@ heirs_elect at by now hints marks slot rest command r h is told = elim (nodes_he
             last = last.1;
             may = λ round. record {
               stands = e;
-              hint = hinted ∙ subst (λ n. is_among (members_at at n) (hints r.me) ≡ false) newest (nodes_heed.last at by now hints marks r.me slot rest h last.0 stands is last.1);
+              hint = hinted ∙ subst (λ n. is_among (members_at at n) (hints r.me) ≡ false) newest (nodes_heed.last at by now hints marks r.me slot rest h last.0 stands fact last.1);
               least = mine;
               round = (let same = ap (λ (b : Ballot). b.round) kept.2 in omega (arith, same, round));
             };
@@ -178,6 +173,6 @@ heirs_elect at by now hints marks slot rest command r h is told = elim (nodes_he
 pub leaders_leave_last : LeadersLeaveLast
 leaders_leave_last at by now taken r after was l counts alone = record {
   counts = counts;
-  stayed = λ slot least most. ap (is_member (members_at at (slot + 1))) was.led.mine ∙ l.stayed slot (let is = was.newest in omega (arith, least, is)) most;
+  stayed = λ slot least most. ap (is_member (members_at at (slot + 1))) was.led.mine ∙ l.stayed slot (let fact = was.newest in omega (arith, least, fact)) most;
   alone = alone;
 }

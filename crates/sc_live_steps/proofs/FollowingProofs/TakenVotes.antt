@@ -155,8 +155,8 @@ module _ (at : Sets) (now : Progress) (from : ℕ) (ballot : Ballot) (slot : ℕ
     at_this : (voters : List ℕ) → voters_of polling slot ≡ Some voters → (kept_voters voters2 ≡ voters) × (voters_of r slot ≡ Some (kept_voters flight.voters))
     at_this voters e =
         let v = voters_fly polling slot voters e in
-        let is : Some (record flight { voters = voters2 }) ≡ Some v.flight = sym (polled_here slot voters2 r.leader.flights ∙ ap (λ o. option_map (λ (f : Flight Command). record f { voters = voters2 }) o) found) ∙ v.found in
-        (flight_is v.flight is ∙ v.votes, fly_voters r slot flight was.led.running least v.ready found)
+        let fact : Some (record flight { voters = voters2 }) ≡ Some v.flight = sym (polled_here slot voters2 r.leader.flights ∙ ap (λ o. option_map (λ (f : Flight Command). record f { voters = voters2 }) o) found) ∙ v.found in
+        (flight_is v.flight fact ∙ v.votes, fly_voters r slot flight was.led.running least v.ready found)
       where
         flight_is : (f : Flight Command) → Some (record flight { voters = voters2 }) ≡ Some f → kept_voters voters2 ≡ kept_voters f.voters
         flight_is f i = (let there : (record flight { voters = voters2 }) ≡ f = cc in ap (λ (x : Flight Command). kept_voters x.voters) there)
@@ -169,13 +169,13 @@ module _ (at : Sets) (now : Progress) (from : ℕ) (ballot : Ballot) (slot : ℕ
       same_me = refl;
       same_name = refl;
       same_promise = refl;
-      kept = λ s voters e away. polling_same s (λ is. away.0 is) ∙ e;
+      kept = λ s voters e away. polling_same s (λ fact. away.0 fact) ∙ e;
       grown = λ s voters e. elim (cases_eq s slot) [
-        | inl is ↦ subst (λ n. IsCounted at now.course vote n voters) (sym is) (here voters (subst (λ n. voters_of polling n ≡ Some voters) is e))
+        | inl fact ↦ subst (λ n. IsCounted at now.course vote n voters) (sym fact) (here voters (subst (λ n. voters_of polling n ≡ Some voters) fact e))
         | inr ne ↦ elsewhere s voters ne (sym (polling_same s ne) ∙ e)
       ];
       polled = λ s voters e. elim (cases_eq s slot) [
-        | inl is ↦ subst (λ n. IsPolled (at n) voters) (sym is) (polled_this voters (subst (λ n. voters_of polling n ≡ Some voters) is e))
+        | inl fact ↦ subst (λ n. IsPolled (at n) voters) (sym fact) (polled_this voters (subst (λ n. voters_of polling n ≡ Some voters) fact e))
         | inr ne ↦ was.polled s voters (sym (polling_same s ne) ∙ e)
       ];
       counted = λ who m. m;
@@ -203,8 +203,8 @@ module _ (at : Sets) (now : Progress) (from : ℕ) (ballot : Ballot) (slot : ℕ
 
             own : (node : ℕ) → vote ≡ Some (Votes node now.course.ballot slot) → is_member (at slot) node ≡ true → voters_of r slot ≡ Some (kept_voters flight.voters) → is_member (kept_voters voters2) node ≡ true
             own node taken m old =
-                let is : from ≡ node = cc in
-                subst (λ n. is_member (kept_voters voters2) n ≡ true) is ((has_voted (ap (is_member (at slot)) is ∙ m) old).own)
+                let fact : from ≡ node = cc in
+                subst (λ n. is_member (kept_voters voters2) n ≡ true) fact ((has_voted (ap (is_member (at slot)) fact ∙ m) old).own)
 
         polled_this : (voters : List ℕ) → voters_of polling slot ≡ Some voters → IsPolled (at slot) voters
         polled_this voters e = (let t = at_this voters e in subst (IsPolled (at slot)) t.0 (record { few = few t.1; undecided = undecided }))
@@ -238,7 +238,7 @@ module _ (at : Sets) (now : Progress) (from : ℕ) (ballot : Ballot) (slot : ℕ
 
     led_deciding : IsLed at now.course deciding
     led_deciding = led_with at now.course r was.led (without_flight slot r.leader.flights) (with_slot r.ready slot flight.value) (λ s. elim (cases_eq s slot) [
-      | inl is ↦ subst (λ n. is_some (taken_at deciding n) ≡ is_some (taken_at r n)) (sym is) (deciding_there ∙ sym was_there)
+      | inl fact ↦ subst (λ n. is_some (taken_at deciding n) ≡ is_some (taken_at r n)) (sym fact) (deciding_there ∙ sym was_there)
       | inr ne ↦ ap is_some (taken_same s ne)
     ])
 
@@ -256,7 +256,7 @@ module _ (at : Sets) (now : Progress) (from : ℕ) (ballot : Ballot) (slot : ℕ
 
     -- so what flies then is elsewhere
     away : (s : ℕ) (voters : List ℕ) → voters_of deciding s ≡ Some voters → s ≡ slot → ⊥
-    away s voters e is = over voters (subst (λ n. voters_of deciding n ≡ Some voters) is e)
+    away s voters e fact = over voters (subst (λ n. voters_of deciding n ≡ Some voters) fact e)
 
     counts_deciding : Counts at now vote r deciding
     counts_deciding = record {
@@ -266,7 +266,7 @@ module _ (at : Sets) (now : Progress) (from : ℕ) (ballot : Ballot) (slot : ℕ
       same_me = refl;
       same_name = refl;
       same_promise = refl;
-      kept = λ s voters e apart. deciding_same s (λ is. apart.0 is) ∙ e;
+      kept = λ s voters e apart. deciding_same s (λ fact. apart.0 fact) ∙ e;
       grown = λ s voters e. (let ne = away s voters e in elsewhere s voters ne (sym (deciding_same s ne) ∙ e));
       polled = λ s voters e. was.polled s voters (sym (deciding_same s (away s voters e)) ∙ e);
       counted = λ who m. m;
@@ -279,13 +279,13 @@ module _ (at : Sets) (now : Progress) (from : ℕ) (ballot : Ballot) (slot : ℕ
     -- what is ready then was in flight or ready
     ready_before : (s : ℕ) (c : Command) → at_slot deciding.ready s ≡ Some c → (flying r s ≡ Some c) ⊎ (at_slot r.ready s ≡ Some c)
     ready_before s c e = elim (cases_eq s slot) [
-      | inl is ↦ (let there : Some flight.value ≡ Some c = sym (slot_in slot flight.value r.ready) ∙ subst (λ n. at_slot (with_slot r.ready slot flight.value) n ≡ Some c) is e in
-          inl (ap (flying r) is ∙ (ap (λ o. option_map (λ (f : Flight Command). f.value) o) found ∙ there)))
+      | inl fact ↦ (let there : Some flight.value ≡ Some c = sym (slot_in slot flight.value r.ready) ∙ subst (λ n. at_slot (with_slot r.ready slot flight.value) n ≡ Some c) fact e in
+          inl (ap (flying r) fact ∙ (ap (λ o. option_map (λ (f : Flight Command). f.value) o) found ∙ there)))
       | inr ne ↦ inr (sym (slot_over slot s flight.value r.ready ne) ∙ e)
     ]
 
     ready_next : slot ≡ next r → at_slot deciding.ready (next deciding) ≡ Some flight.value
-    ready_next is = subst (λ n. at_slot (with_slot r.ready slot flight.value) n ≡ Some flight.value) is (slot_in slot flight.value r.ready)
+    ready_next fact = subst (λ n. at_slot (with_slot r.ready slot flight.value) n ≡ Some flight.value) fact (slot_in slot flight.value r.ready)
 
     decided : counted from ballot slot (at slot) r.leader ≡ (Chosen flight.value, without_flight_at slot r.leader) → P (readied slot flight.value (record r { leader = without_flight_at slot r.leader }, []))
     unfolding readied
@@ -293,12 +293,12 @@ module _ (at : Sets) (now : Progress) (from : ℕ) (ballot : Ballot) (slot : ℕ
       where
         by : (b : Bool) → (eqb slot (next r) && has_room r) ≡ b → P (cond b (executed true flight.value (deciding, [])) (childless (deciding, [])))
         by true t =
-            let is : slot ≡ next r = eqb-true slot (next r) (and_parts (eqb slot (next r)) (has_room r) t).0 in
-            execution flight.value deciding counts_deciding (ready_next is) (decides flight.value (without_flight_at slot r.leader) is chosen) ready_before (λ o. decided_orderly r o slot flight found)
+            let fact : slot ≡ next r = eqb-true slot (next r) (and_parts (eqb slot (next r)) (has_room r) t).0 in
+            execution flight.value deciding counts_deciding (ready_next fact) (decides flight.value (without_flight_at slot r.leader) fact chosen) ready_before (λ o. decided_orderly r o slot flight found)
         by false f = plain deciding counts_deciding (λ o. decided_orderly r o slot flight found)
 
     tallies : counted from ballot slot (at slot) r.leader ≡ tallied slot flight.value (at slot) voters2 r.leader → P (vote_tallied slot (tallied slot flight.value (at slot) voters2 r.leader) (r, []))
-    tallies is = by (is_majority (at slot) (kept_voters voters2)) refl is
+    tallies fact = by (is_majority (at slot) (kept_voters voters2)) refl fact
       where
         yet : Counted Command × LeaderState Command
         yet = (NotYet (length (kept_voters voters2)), record r.leader { flights = with_voters slot voters2 r.leader.flights })
@@ -323,8 +323,8 @@ module _ (at : Sets) (now : Progress) (from : ℕ) (ballot : Ballot) (slot : ℕ
   in_flight same set e (Some flight) i =
       let least : next r ≤ slot = elim (cases_lt slot (next r)) [ inl lt ↦ absurd (closed lt) | inr ge ↦ ge ] in
       let most : slot < now.course.bound = elim (cases_lt slot now.course.bound) [ inl lt ↦ lt | inr ge ↦ absurd (free (none_taken r slot (was.led.may.free slot ge)).0) ] in
-      let is : set ≡ at slot = same_set (sym e ∙ set_is at now.course r slot was.led.may least most) in
-      subst (λ l. P (vote_tallied slot (tallied slot flight.value l (voters_after l from flight.voters) r.leader) (r, []))) (sym is)
+      let fact : set ≡ at slot = same_set (sym e ∙ set_is at now.course r slot was.led.may least most) in
+      subst (λ l. P (vote_tallied slot (tallied slot flight.value l (voters_after l from flight.voters) r.leader) (r, []))) (sym fact)
       (tallies flight i least most same (counted_is (at slot) same ∙ ap (λ o. vote_at from slot (at slot) o r.leader) i))
     where
       closed : slot < next r → ⊥

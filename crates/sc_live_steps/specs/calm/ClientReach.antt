@@ -7,8 +7,8 @@ use Rattle.sc_client_table.specs.declared.lookup.ways.Way.{Way}
 use Rattle.sc_mail.specs.declared.bodies.AnswerBody.TheVariants as Says
 use Rattle.sc_client_table.specs.table.Definitions.{Client as ClientState, ClientStep, started, waits_for, was_asked, got}
 use Rattle.sc_live_steps.specs.calm.Clients.{requests_owe, AsksWithin, IsInTurn, unknown}
-use Rattle.sc_live_steps.specs.calm.ExecutedEntries.{AreBounded}
-use Rattle.sc_live_steps.specs.calm.Potential.{Ways, answer_owes, mail_owes}
+use Rattle.sc_live_steps.specs.calm.HarmlessEntries.{AreBounded}
+use Rattle.sc_live_steps.specs.calm.CalmPotential.{Ways, answer_owes, mail_owes}
 
 -- The groups that stand; for each group, how many groups that are gone lie on the way from it to one that stands; and a bound of how often a client is sent on to another group.
 pub record Reach : Type 0 where

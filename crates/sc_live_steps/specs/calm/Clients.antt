@@ -6,8 +6,8 @@ use Rattle.sc_client_table.specs.lookup.Definitions.{KnownGroups, way_to, target
 use Rattle.sc_client_table.specs.declared.lookup.ways.Way.{Way}
 use Rattle.sc_mail.specs.declared.bodies.AnswerBody.TheVariants as Says
 use Rattle.sc_client_table.specs.table.Definitions.{Client as ClientState, ClientStep, started, waits_for, was_asked, got}
-use Rattle.sc_live_steps.specs.calm.ExecutedEntries.{AreBounded}
-use Rattle.sc_live_steps.specs.calm.Potential.{Ways, answer_owes, mail_owes}
+use Rattle.sc_live_steps.specs.calm.HarmlessEntries.{AreBounded}
+use Rattle.sc_live_steps.specs.calm.CalmPotential.{Ways, answer_owes, mail_owes}
 
 -- 1 where a request waits for its answer, else 0.
 abbrev pub waiting_one : Option ℕ → ℕ

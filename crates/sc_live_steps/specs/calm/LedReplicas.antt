@@ -3,7 +3,7 @@ use Rattle.std.specs.Prelude.{◌≡◌, ℕ, ◌+◌, ◌≤◌, true, false, L
 use Rattle.sc_node_table.specs.Values.{Draw, Command, Route, MailBody, Learn}
 use Rattle.sc_node_table.specs.Definitions.{entered, executed_one, NodeState, on_mail, ReplicaState, Place, name_of, next, mailed}
 use Rattle.sc_live_steps.specs.calm.NodePotential.{IsTaken, after_mail}
-use Rattle.sc_live_steps.specs.calm.Potential.{Ways, body_owes, mail_owes, replica_owes}
+use Rattle.sc_live_steps.specs.calm.CalmPotential.{Ways, body_owes, mail_owes, replica_owes}
 use Rattle.sc_live_steps.specs.calm.PartyPotential.{Elsewhere, party_owes, party_turn_owes}
 
 -- What is owed at a replica during its row: by its work and by the mails that the row has sent, without what its group owes.

@@ -2,8 +2,8 @@
 use Rattle.std.specs.Prelude.{◌≡◌, ℕ, ◌+◌, ◌*◌, ◌≤◌, true, false, List, [], sum_by, Some, None}
 use Rattle.sc_node_table.specs.Values.{Draw, Base, OrderLine, Mail, MailBody, Request, Answer, Prepare, Promise, Accept, Accepted, Nack, Learn, Ask, Install, TxPrepare, TxVote, TxOutcome, TxElsewhere, TxWatch, TxWatched, Told}
 use Rattle.sc_node_table.specs.Definitions.{NodeState, replica_of, group_of_mail, may_come, on_mail, group_of_order, on_order, ordered_row, ReplicaState, Place, mailed, made_by}
-use Rattle.sc_live_steps.specs.calm.Laws.{Lowers, MayPump}
-use Rattle.sc_live_steps.specs.calm.Potential.{Ways, body_owes, mail_owes, replica_owes, idle_owes}
+use Rattle.sc_live_steps.specs.calm.PotentialLaws.{Lowers, MayPump}
+use Rattle.sc_live_steps.specs.calm.CalmPotential.{Ways, body_owes, mail_owes, replica_owes, idle_owes}
 
 -- What a node owes: what all its replicas still have to do. `most` is the bound of ways.
 abbrev pub node_owes : ℕ → NodeState → ℕ

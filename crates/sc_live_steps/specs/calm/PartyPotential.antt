@@ -3,9 +3,9 @@ use Rattle.std.specs.Prelude.{◌≡◌, ℕ, ◌+◌, ◌*◌, ◌≤◌, Bool,
 use Rattle.sc_base.specs.Definitions.{Each}
 use Rattle.sc_node_table.specs.Values.{Draw, OrderLine, Mail, MailBody}
 use Rattle.sc_node_table.specs.Definitions.{NodeState, replica_of, on_mail, group_of_order, on_order, ordered_row, ReplicaState, name_of}
-use Rattle.sc_live_steps.specs.calm.Laws.{Lowers, MayPump}
+use Rattle.sc_live_steps.specs.calm.PotentialLaws.{Lowers, MayPump}
 use Rattle.sc_live_steps.specs.calm.NodePotential.{node_owes, group_owes, IsTaken, after_mail}
-use Rattle.sc_live_steps.specs.calm.Potential.{Ways, body_owes, mail_owes, election}
+use Rattle.sc_live_steps.specs.calm.CalmPotential.{Ways, body_owes, mail_owes, election}
 
 -- What a group owes: nothing where a replica of it leads or is gone at another node; else what its replica at this node says.
 abbrev pub idle_with : Bool → Option ReplicaState → ℕ

@@ -5,9 +5,9 @@ use Rattle.sc_node_table.specs.Values.{OrderLine, Node, Client, Seat, Line}
 use Rattle.sc_actor.specs.Definitions.{value, are_apart, IsLawful, is_quiet, unsettled}
 use Rattle.sc_live_orderly.specs.Definitions.{HasRoom, deliveries, AreSpaced, Nothing, AreInTime, orders_given}
 use Rattle.sc_meaning.specs.sound.Definitions.{Player, player_table}
-use Rattle.sc_live_steps.specs.calm.Charts.{players, Chart, run_owes}
+use Rattle.sc_live_steps.specs.calm.ChartedPotential.{players, Chart, run_owes}
 use Rattle.sc_live_steps.specs.calm.RowPremises.{KeepCalm}
-use Rattle.sc_live_steps.specs.calm.QuietJournals.{IsAtRest}
+use Rattle.sc_live_steps.specs.calm.QuietPlayers.{IsAtRest}
 use Rattle.sc_live_steps.specs.calm.Totals.{Rows, is_led}
 
 -- Each replica of the node has nothing to do, or the client has no request that waits.

@@ -8,12 +8,12 @@ use Rattle.sc_live_orderly.specs.Definitions.{deliveries, under_way, AreInTime, 
 use Rattle.sc_node_table.specs.Definitions.{NodeState, replica_of, group_of_mail, may_come, group_of_order, ReplicaState, name_of, next}
 use Rattle.sc_law_walks.specs.Definitions.{GoesOn}
 use Rattle.sc_meaning.specs.sound.Definitions.{Player, player_table}
-use Rattle.sc_live_steps.specs.calm.Charts.{players, Chart, run_owes, MayFollow}
-use Rattle.sc_live_steps.specs.calm.ExecutedEntries.{AreBounded, ServesAll, FliesAlone}
-use Rattle.sc_live_steps.specs.calm.Laws.{Lowers, MayPump, Follows, Points, AsksAs}
+use Rattle.sc_live_steps.specs.calm.ChartedPotential.{players, Chart, run_owes, MayFollow}
+use Rattle.sc_live_steps.specs.calm.HarmlessEntries.{AreBounded, ServesAll, FliesAlone}
+use Rattle.sc_live_steps.specs.calm.PotentialLaws.{Lowers, MayPump, Follows, Points, AsksAs}
 use Rattle.sc_live_steps.specs.calm.LedReplicas.{LearnsLed}
 use Rattle.sc_live_steps.specs.calm.NodePotential.{group_owes, IsTaken, after_mail, IsDelivered, MayMiss}
-use Rattle.sc_live_steps.specs.calm.Potential.{Ways}
+use Rattle.sc_live_steps.specs.calm.CalmPotential.{Ways}
 use Rattle.sc_live_steps.specs.calm.PartyPotential.{Elsewhere, StandsOnce, IsCalmOrder}
 use Rattle.sc_live_steps.specs.calm.ClientReach.{IsUnbegun, HearsCalmly}
 use Rattle.sc_live_steps.specs.calm.UntakenMail.{IsMadeBehind}
@@ -96,10 +96,10 @@ pub record MissesCalmly (group : Draw) (body : MailBody) (node : NodeState) : Ty
 -- A mail that may be delivered to a node: its replica takes it, or learns an entry by it; or the node creates a replica by it, or has none;
 -- or the mail is for no group, or comes from one that may not send it.
 pub data IsCalmMailAt (ways : Ways) (groups : List Draw) (elsewhere : Elsewhere) (from : ℕ) (body : MailBody) (node : NodeState) : Type 0 where
-  Takes : (group : Draw) (r : ReplicaState) (once : StandsOnce group groups) (is : TakesCalmly ways elsewhere from group body r node) → IsCalmMailAt ways groups elsewhere from body node
-  Learns : (group : Draw) (r : ReplicaState) (is : LearnsCalmly elsewhere from group body r node) → IsCalmMailAt ways groups elsewhere from body node
-  Makes : (group : Draw) (is : MakesCalmly groups elsewhere from group body node) → IsCalmMailAt ways groups elsewhere from body node
-  Misses : (group : Draw) (is : MissesCalmly group body node) → IsCalmMailAt ways groups elsewhere from body node
+  Takes : (group : Draw) (r : ReplicaState) (once : StandsOnce group groups) (fact : TakesCalmly ways elsewhere from group body r node) → IsCalmMailAt ways groups elsewhere from body node
+  Learns : (group : Draw) (r : ReplicaState) (fact : LearnsCalmly elsewhere from group body r node) → IsCalmMailAt ways groups elsewhere from body node
+  Makes : (group : Draw) (fact : MakesCalmly groups elsewhere from group body node) → IsCalmMailAt ways groups elsewhere from body node
+  Misses : (group : Draw) (fact : MissesCalmly group body node) → IsCalmMailAt ways groups elsewhere from body node
   Strays : (delivered : IsDelivered body) (none : group_of_mail body ≡ None) → IsCalmMailAt ways groups elsewhere from body node
   IsBarred : (delivered : IsDelivered body) (barred : may_come from body ≡ false) → IsCalmMailAt ways groups elsewhere from body node
 
@@ -115,16 +115,16 @@ MayGoNow chart (Client client) = IsUnbegun chart.reach client
 
 -- A player that may be given an order: a client; a node without a replica of the order's group;
 -- or a node with one that may pump, of a group that has begun.
-abbrev pub MayBeTold : Chart → Elsewhere → OrderLine → Player → Type 0
-MayBeTold chart elsewhere line (Node node) =
+abbrev pub MayBeOrdered : Chart → Elsewhere → OrderLine → Player → Type 0
+MayBeOrdered chart elsewhere line (Node node) =
     (replica_of (group_of_order line.order) node.replicas ≡ None) ⊎ ((r : ReplicaState) × StandsOnce (group_of_order line.order) chart.groups × IsCalmOrder elsewhere line r node)
-MayBeTold chart elsewhere line (Client client) = Unit {0}
+MayBeOrdered chart elsewhere line (Client client) = Unit {0}
 
 -- What an event of a player has to find after these rows. No condition is set on a tick, a crash, a loss or a repeat, since none comes in a calm journal.
 abbrev pub FindsCalm : Chart → List (Seat Player) → Rows → Seat Player → Event OrderLine → Type 0
 FindsCalm chart births rows seat (Deliver number) = (mail : Mail) → numbered (mails rows) number ≡ Some mail → IsCalmFor chart (led_elsewhere births rows seat.who) mail (value player_table seat rows)
 FindsCalm chart births rows seat Go = MayGoNow chart (value player_table seat rows)
-FindsCalm chart births rows seat (Told line) = MayBeTold chart (led_elsewhere births rows seat.who) line (value player_table seat rows)
+FindsCalm chart births rows seat (Told line) = MayBeOrdered chart (led_elsewhere births rows seat.who) line (value player_table seat rows)
 FindsCalm chart births rows seat Tick = Unit {0}
 FindsCalm chart births rows seat Crash = Unit {0}
 FindsCalm chart births rows seat (Drop mail) = Unit {0}

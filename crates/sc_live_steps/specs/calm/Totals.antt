@@ -6,7 +6,7 @@ use Rattle.sc_actor.specs.Definitions.{value, are_apart, row_of}
 use Rattle.sc_node_table.specs.Definitions.{NodeState, replica_of, ReplicaState}
 use Rattle.sc_meaning.specs.sound.Definitions.{Player, player_table}
 use Rattle.sc_live_steps.specs.calm.NodePotential.{node_owes}
-use Rattle.sc_live_steps.specs.calm.Potential.{Ways, election}
+use Rattle.sc_live_steps.specs.calm.CalmPotential.{Ways, election}
 use Rattle.sc_live_steps.specs.calm.PartyPotential.{Elsewhere, party_owes}
 
 -- The rows of a journal of nodes and clients.

@@ -3,7 +3,7 @@ use Rattle.std.specs.Prelude.{◌≡◌, ℕ, ◌+◌, ◌≤◌, true, false, L
 use Rattle.sc_node_table.specs.Values.{Draw, Base, MailBody, Install}
 use Rattle.sc_node_table.specs.Definitions.{NodeState, replica_of, group_of_mail, may_come, on_mail, made_by}
 use Rattle.sc_live_steps.specs.calm.NodePotential.{IsDelivered, MayMiss}
-use Rattle.sc_live_steps.specs.calm.Potential.{Ways, body_owes}
+use Rattle.sc_live_steps.specs.calm.CalmPotential.{Ways, body_owes}
 use Rattle.sc_live_steps.specs.calm.PartyPotential.{Elsewhere, party_owes, party_turn_owes, StandsOnce}
 
 -- The mail from this sender lowers what is owed by the node and these groups by at least one.

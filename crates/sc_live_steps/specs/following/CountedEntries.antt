@@ -5,9 +5,9 @@ use Rattle.sc_base.specs.Definitions.{IsRoster, is_member}
 use Rattle.sc_node_table.specs.Definitions.{entered, executed_one, ReplicaState, Place, name_of, next, members, slots_ahead, without_slot}
 use Rattle.sc_words.specs.paxos.Definitions.{new_leader, without_flight_at}
 use Rattle.sc_live_steps.specs.following.MailUnderWay.{Course, Sets, members_at}
-use Rattle.sc_live_steps.specs.following.Tables.{marks_for}
+use Rattle.sc_live_steps.specs.following.PaxosTables.{marks_for}
 use Rattle.sc_live_steps.specs.following.Offers.{MayOffer}
-use Rattle.sc_live_steps.specs.following.Rows.{reported_of}
+use Rattle.sc_live_steps.specs.following.LeaderRows.{reported_of}
 
 -- The replica leads in this course's ballot; its group stands, it is a member, and its members and open slots are those that `at` and the course say.
 pub record IsLed (at : Sets) (course : Course) (r : ReplicaState) : Type 0 where
@@ -23,7 +23,7 @@ pub record IsLed (at : Sets) (course : Course) (r : ReplicaState) : Type 0 where
 
 -- The command for the replica's next slot: after it the group has the members that `at` says, one to nine nodes, and keeps its name.
 pub record IsNext (at : Sets) (command : Command) (r : ReplicaState) : Type 0 where
-  pub is : members_at at (next r + 1) ≡ members (entered command r)
+  pub fact : members_at at (next r + 1) ≡ members (entered command r)
   pub roster : IsRoster (members (entered command r))
   pub named : name_of (entered command r) ≡ name_of r
 
@@ -41,13 +41,13 @@ pub record IsOn (command : Command) (r after : ReplicaState) : Type 0 where
   pub stays : is_member (members (entered command r)) r.me ≡ true
   pub acts : List Command
   pub backlog : List Command
-  pub is : after ≡ led_on command acts backlog r
+  pub fact : after ≡ led_on command acts backlog r
 
 -- The replica executes the command and stops leading: its group is gone, or it is no member any more.
 pub record IsOff (command : Command) (r after : ReplicaState) : Type 0 where
   pub over : ((into : Route) × ((entered command r).group.core.gone ≡ Some into)) ⊎ (((entered command r).group.core.gone ≡ None) × (is_member (members (entered command r)) r.me ≡ false))
   pub hint : Option ℕ
-  pub is : after ≡ led_off command hint r
+  pub fact : after ≡ led_off command hint r
 
 -- The leader sends what `reported_of` says of the entry, and no other Paxos mail; then it leads on or stops.
 pub record LeadsPast (at : Sets) (course : Course) (command : Command) (place after : Place) : Type 0 where

@@ -7,9 +7,9 @@ use Rattle.sc_words.specs.paxos.Definitions.{flight_at}
 use Rattle.sc_law_walks.specs.Definitions.{IfThere}
 use Rattle.sc_live_steps.specs.following.MailUnderWay.{Mark, Asks, Course, Sets, members_at}
 use Rattle.sc_live_steps.specs.following.CountedEntries.{IsLed, IsNext}
-use Rattle.sc_live_steps.specs.following.Tables.{marks_for}
+use Rattle.sc_live_steps.specs.following.PaxosTables.{marks_for}
 use Rattle.sc_live_steps.specs.following.Offers.{IsBegun, to_bound}
-use Rattle.sc_live_steps.specs.following.Rows.{IsOffer, told_from}
+use Rattle.sc_live_steps.specs.following.LeaderRows.{IsOffer, taught_from}
 
 -- The entries that are ready from the replica's next slot on, at most as many as this list is long, are each one that `IsNext` allows.
 abbrev pub AreNext : Sets → List (ℕ × Command) → Place → Type 0
@@ -33,7 +33,7 @@ pub record IsStopped (after : ReplicaState) : Type 0 where
   pub over : ((into : Route) × (after.group.core.gone ≡ Some into)) ⊎ ((after.group.core.gone ≡ None) × (is_member (members after) after.me ≡ false))
 
 -- A leader executes a number of entries that were ready, and is a member after each but the last.
--- It sends what `told_from` says of them; if it leads on, it then offers at the slots from the bound up to a new bound.
+-- It sends what `taught_from` says of them; if it leads on, it then offers at the slots from the bound up to a new bound.
 pub record LeadsBy (at : Sets) (course : Course) (place after : Place) : Type 0 where
   pub executed : ℕ
   pub within : next place.0 + executed ≤ course.bound
@@ -48,7 +48,7 @@ pub record LeadsBy (at : Sets) (course : Course) (place after : Place) : Type 0 
   pub bound : ℕ
   pub up : course.bound ≤ bound
   pub offers : ℕ → List Mark
-  pub sends : (who : ℕ) → marks_for (name_of place.0) who after.1 ≡ marks_for (name_of place.0) who place.1 ++ (told_from at course (next place.0) executed who ++ offers who)
+  pub sends : (who : ℕ) → marks_for (name_of place.0) who after.1 ≡ marks_for (name_of place.0) who place.1 ++ (taught_from at course (next place.0) executed who ++ offers who)
   pub asks : (who : ℕ) → Each (IsOffer at (to_bound bound course) course.bound who) (offers who)
   pub asked : (slot node : ℕ) → course.bound ≤ slot → slot < bound → is_member (at slot) node ≡ true → Among (Asks course.ballot slot) (offers node)
   pub state : IsStill at course bound place.0 after.0 ⊎ (IsStopped after.0 × (1 ≤ executed) × (bound ≡ course.bound))

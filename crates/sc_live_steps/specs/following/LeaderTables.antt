@@ -10,8 +10,8 @@ use Rattle.sc_law_walks.specs.Definitions.{GoesOn}
 use Rattle.sc_live_steps.specs.following.MailUnderWay.{Mark, Asks, Votes, Promises, Course, Progress, Sets, members_at}
 use Rattle.sc_live_steps.specs.following.CountedEntries.{IsLed, IsNext}
 use Rattle.sc_live_steps.specs.following.ExecutedEntries.{AreNext}
-use Rattle.sc_live_steps.specs.following.Tables.{marks_for, IsInTime}
-use Rattle.sc_live_steps.specs.following.Rows.{Leads}
+use Rattle.sc_live_steps.specs.following.PaxosTables.{marks_for, IsInTime}
+use Rattle.sc_live_steps.specs.following.LeaderRows.{Leads}
 
 -- The nodes whose votes a running leader has counted for what is in flight at a slot; `None` where nothing is in flight, or the slot is executed or ready, or the replica does not run.
 abbrev pub voters_of : ReplicaState → ℕ → Option (List ℕ)

@@ -11,7 +11,7 @@ use Rattle.sc_words.specs.paxos.Definitions.{IsAtLeast}
 pub data Mark : Type 0 where
   Asks : (ballot : Ballot) (slot : ℕ) → Mark
   Votes : (node : ℕ) (ballot : Ballot) (slot : ℕ) → Mark
-  Tells : (slot : ℕ) → Mark
+  Teaches : (slot : ℕ) → Mark
   Installs : (slot : ℕ) → Mark
   Prepares : (ballot : Ballot) → Mark
   Promises : (node : ℕ) (ballot : Ballot) → Mark
@@ -25,7 +25,7 @@ named_mark name group mark = if same_draw group name then Some mark else None
 abbrev pub mark_of : Draw → ℕ → MailBody → Option Mark
 mark_of name from (Accept group ballot slot command) = named_mark name group (Asks ballot slot)
 mark_of name from (Accepted group ballot slot) = named_mark name group (Votes from ballot slot)
-mark_of name from (Learn group slot command) = named_mark name group (Tells slot)
+mark_of name from (Learn group slot command) = named_mark name group (Teaches slot)
 mark_of name from (Install group slot base sets) = named_mark name group (Installs slot)
 mark_of name from (Prepare group ballot from_slot) = named_mark name group (Prepares ballot)
 mark_of name from (Promise group ballot reports) = named_mark name group (Promises from ballot)
@@ -48,7 +48,7 @@ marks_of name (mail ∷ mails) = listed (mark_of name mail.from mail.body) ++ ma
 
 -- The next slot of a node, 0 where it has no replica, after it took a mail with this mark.
 abbrev pub next_by : ℕ → Mark → ℕ
-next_by next (Tells slot) = suc slot
+next_by next (Teaches slot) = suc slot
 next_by next (Installs slot) = suc slot
 next_by next (Asks ballot slot) = next
 next_by next (Votes node ballot slot) = next
@@ -60,7 +60,7 @@ abbrev pub promise_by : Ballot → Mark → Ballot
 promise_by promise (Prepares ballot) = ballot
 promise_by promise (Asks ballot slot) = promise
 promise_by promise (Votes node ballot slot) = promise
-promise_by promise (Tells slot) = promise
+promise_by promise (Teaches slot) = promise
 promise_by promise (Installs slot) = promise
 promise_by promise (Promises node ballot) = promise
 
@@ -79,7 +79,7 @@ pledged promise (mark ∷ marks) = pledged (promise_by promise mark) marks
 -- A node without a replica takes a state before anything else.
 abbrev pub IsFit : ℕ → Ballot → Mark → Type 0
 IsFit next promise (Asks ballot slot) = (1 ≤ next) × (next ≤ slot) × (ballot ≡ promise)
-IsFit next promise (Tells slot) = (1 ≤ next) × (slot ≡ next)
+IsFit next promise (Teaches slot) = (1 ≤ next) × (slot ≡ next)
 IsFit next promise (Installs slot) = next ≤ slot
 IsFit next promise (Prepares ballot) = (1 ≤ next) × IsAtLeast ballot promise
 IsFit next promise (Votes node ballot slot) = Unit {0}
@@ -94,7 +94,7 @@ AreFit next promise (mark ∷ marks) = IsFit next promise mark × AreFit (next_b
 abbrev pub IsNoAsk : ℕ → Mark → Type 0
 IsNoAsk slot (Asks ballot other) = other ≡ slot → ⊥
 IsNoAsk slot (Votes node ballot other) = Unit {0}
-IsNoAsk slot (Tells other) = Unit {0}
+IsNoAsk slot (Teaches other) = Unit {0}
 IsNoAsk slot (Installs other) = Unit {0}
 IsNoAsk slot (Prepares ballot) = Unit {0}
 IsNoAsk slot (Promises node ballot) = Unit {0}
@@ -104,7 +104,7 @@ abbrev pub AreAskedFirst : List Mark → Type 0
 AreAskedFirst [] = Unit {0}
 AreAskedFirst (Votes node ballot slot ∷ marks) = Each (IsNoAsk slot) marks × AreAskedFirst marks
 AreAskedFirst (Asks ballot slot ∷ marks) = AreAskedFirst marks
-AreAskedFirst (Tells slot ∷ marks) = AreAskedFirst marks
+AreAskedFirst (Teaches slot ∷ marks) = AreAskedFirst marks
 AreAskedFirst (Installs slot ∷ marks) = AreAskedFirst marks
 AreAskedFirst (Prepares ballot ∷ marks) = AreAskedFirst marks
 AreAskedFirst (Promises node ballot ∷ marks) = AreAskedFirst marks
@@ -149,7 +149,7 @@ abbrev pub IsKnown : Course → Mark → Type 0
 IsKnown course (Asks ballot slot) = slot < course.bound
 IsKnown course (Votes node ballot slot) = slot < course.bound
 IsKnown course (Prepares ballot) = IsAtLeast course.ballot ballot
-IsKnown course (Tells slot) = Unit {0}
+IsKnown course (Teaches slot) = Unit {0}
 IsKnown course (Installs slot) = Unit {0}
 IsKnown course (Promises node ballot) = Unit {0}
 

@@ -4,8 +4,8 @@ use Rattle.sc_base.specs.Definitions.{Among, Each, is_member}
 use Rattle.sc_node_table.specs.Values.{Command, Flight}
 use Rattle.sc_node_table.specs.Definitions.{pumped, ReplicaState, Place, name_of, next, taken_at}
 use Rattle.sc_live_steps.specs.following.MailUnderWay.{Mark, Asks, Course, Sets}
-use Rattle.sc_live_steps.specs.following.Tables.{marks_for}
-use Rattle.sc_live_steps.specs.following.Rows.{IsOffer}
+use Rattle.sc_live_steps.specs.following.PaxosTables.{marks_for}
+use Rattle.sc_live_steps.specs.following.LeaderRows.{IsOffer}
 
 -- These lists are the members of the slots from this one on.
 abbrev pub AreAt : Sets → ℕ → List (List ℕ) → Type 0
@@ -39,7 +39,7 @@ pub record OffersBy (at : Sets) (course : Course) (place after : Place) : Type 0
   pub begun : List (Flight Command)
   pub acts : List Command
   pub backlog : List Command
-  pub is : after.0 ≡ record place.0 { leader = record place.0.leader { flights = place.0.leader.flights ++ begun }; acts = acts; backlog = backlog }
+  pub fact : after.0 ≡ record place.0 { leader = record place.0.leader { flights = place.0.leader.flights ++ begun }; acts = acts; backlog = backlog }
   pub fly : Each (IsBegun course.bound bound) begun
   pub goes_on : MayOffer at (to_bound bound course) after.0
   pub offers : ℕ → List Mark

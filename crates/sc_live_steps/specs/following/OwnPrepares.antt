@@ -5,17 +5,17 @@ use Rattle.sc_node_table.specs.Values.{Ballot}
 use Rattle.sc_node_table.specs.Definitions.{ReplicaState, Place}
 use Rattle.sc_words.specs.paxos.Definitions.{IsAtLeast}
 use Rattle.sc_live_steps.specs.following.PrepareSlots.{IsNoPrepare}
-use Rattle.sc_live_steps.specs.following.MailUnderWay.{Mark, Asks, Votes, Tells, Installs, Prepares, Promises, Course, Progress, Sets, members_at, IsFollowing}
+use Rattle.sc_live_steps.specs.following.MailUnderWay.{Mark, Asks, Votes, Teaches, Installs, Prepares, Promises, Course, Progress, Sets, members_at, IsFollowing}
 use Rattle.sc_live_steps.specs.following.LeaderTables.{IsLeadOf, progress_by, LeadsInto}
 use Rattle.sc_live_steps.specs.following.FlightOrder.{IsOrderly}
-use Rattle.sc_live_steps.specs.following.Rows.{IsRow, IsIdle, Takes, Leads, Elects, begun}
+use Rattle.sc_live_steps.specs.following.LeaderRows.{IsRow, IsIdle, Takes, Leads, Elects, begun}
 
 -- The mark is no Prepare of this ballot.
 abbrev pub IsOtherPrepare : Ballot → Mark → Type 0
 IsOtherPrepare ballot (Prepares other) = other ≡ ballot → ⊥
 IsOtherPrepare ballot (Asks other slot) = Unit {0}
 IsOtherPrepare ballot (Votes node other slot) = Unit {0}
-IsOtherPrepare ballot (Tells slot) = Unit {0}
+IsOtherPrepare ballot (Teaches slot) = Unit {0}
 IsOtherPrepare ballot (Installs slot) = Unit {0}
 IsOtherPrepare ballot (Promises node other) = Unit {0}
 
@@ -24,7 +24,7 @@ abbrev pub IsOwnPrepare : Ballot → Mark → Type 0
 IsOwnPrepare ballot (Prepares other) = other ≡ ballot
 IsOwnPrepare ballot (Asks other slot) = Unit {0}
 IsOwnPrepare ballot (Votes node other slot) = Unit {0}
-IsOwnPrepare ballot (Tells slot) = Unit {0}
+IsOwnPrepare ballot (Teaches slot) = Unit {0}
 IsOwnPrepare ballot (Installs slot) = Unit {0}
 IsOwnPrepare ballot (Promises node other) = Unit {0}
 
@@ -33,7 +33,7 @@ abbrev pub IsHome : Course → ℕ → Mark → Type 0
 IsHome course who (Promises node ballot) = (ballot.node ≡ who) × IsAtLeast course.ballot ballot
 IsHome course who (Asks ballot slot) = Unit {0}
 IsHome course who (Votes node ballot slot) = Unit {0}
-IsHome course who (Tells slot) = Unit {0}
+IsHome course who (Teaches slot) = Unit {0}
 IsHome course who (Installs slot) = Unit {0}
 IsHome course who (Prepares ballot) = Unit {0}
 
@@ -43,14 +43,14 @@ ArePromisedLast [] = Unit {0}
 ArePromisedLast (Promises node ballot ∷ marks) = Each (IsOtherPrepare ballot) marks × ArePromisedLast marks
 ArePromisedLast (Asks ballot slot ∷ marks) = ArePromisedLast marks
 ArePromisedLast (Votes node ballot slot ∷ marks) = ArePromisedLast marks
-ArePromisedLast (Tells slot ∷ marks) = ArePromisedLast marks
+ArePromisedLast (Teaches slot ∷ marks) = ArePromisedLast marks
 ArePromisedLast (Installs slot ∷ marks) = ArePromisedLast marks
 ArePromisedLast (Prepares ballot ∷ marks) = ArePromisedLast marks
 
 -- No Prepare stands behind the entry before this slot, where that entry is under way to be learnt.
 abbrev pub AreLearntLast : ℕ → List Mark → Type 0
 AreLearntLast newest [] = Unit {0}
-AreLearntLast newest (Tells slot ∷ marks) = (suc slot ≡ newest → Each IsNoPrepare marks) × AreLearntLast newest marks
+AreLearntLast newest (Teaches slot ∷ marks) = (suc slot ≡ newest → Each IsNoPrepare marks) × AreLearntLast newest marks
 AreLearntLast newest (Promises node ballot ∷ marks) = AreLearntLast newest marks
 AreLearntLast newest (Asks ballot slot ∷ marks) = AreLearntLast newest marks
 AreLearntLast newest (Votes node ballot slot ∷ marks) = AreLearntLast newest marks
@@ -84,7 +84,7 @@ pub record CountsOwn (now after : Progress) (taken : Option Mark) : Type 0 where
 -- A node that elects itself has counted no promise, and learns the last entry by this row.
 pub record CountsNone (now after : Progress) (taken : Option Mark) : Type 0 where
   pub none : (who : ℕ) → after.course.counted who ≡ false
-  pub told : (slot : ℕ) × (suc slot ≡ now.course.newest) × (taken ≡ Some (Tells slot))
+  pub told : (slot : ℕ) × (suc slot ≡ now.course.newest) × (taken ≡ Some (Teaches slot))
 
 -- Each row of this kind keeps `IsOwnFirst`.
 abbrev pub KeepsOwn : (Sets → Progress → Progress → ℕ → Option Mark → (ℕ → List Mark) → Type 0) → OwnKind → Type 0

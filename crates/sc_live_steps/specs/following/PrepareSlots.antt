@@ -5,10 +5,10 @@ use Rattle.sc_base.specs.Definitions.{Each, Drawer, IsRoster}
 use Rattle.sc_node_table.specs.Values.{Ballot, Draw, Command, OrderLine, Mail, MailBody, Request, Answer, Prepare, Promise, Accept, Accepted, Nack, Learn, Ask, Install, TxPrepare, TxVote, TxOutcome, TxElsewhere, TxWatch, TxWatched, Told, Report}
 use Rattle.sc_node_table.specs.declared.ReplicaInput.TheVariants as Given
 use Rattle.sc_node_table.specs.Definitions.{entered, ReplicaState, listed, name_of, next, last_slot, mailed, stepped}
-use Rattle.sc_live_steps.specs.following.MailUnderWay.{Mark, Asks, Votes, Tells, Installs, Prepares, Promises, mark_of, next_by, Progress, Sets, IsFollowing}
-use Rattle.sc_live_steps.specs.following.Rows.{IsIdle, Takes, Leads, Elects}
+use Rattle.sc_live_steps.specs.following.MailUnderWay.{Mark, Asks, Votes, Teaches, Installs, Prepares, Promises, mark_of, next_by, Progress, Sets, IsFollowing}
+use Rattle.sc_live_steps.specs.following.LeaderRows.{IsIdle, Takes, Leads, Elects}
 use Rattle.sc_live_steps.specs.following.LeaderTables.{IsLeadOf, IsAside, DecidesNext}
-use Rattle.sc_live_steps.specs.following.Tables.{marks_for, IsInTime, MayElect}
+use Rattle.sc_live_steps.specs.following.PaxosTables.{marks_for, IsInTime, MayElect}
 
 -- A mark with a slot: where the mark is a Prepare, the first slot that it asks about. Otherwise the slot is not read.
 abbrev pub Dated : Type 0
@@ -52,7 +52,7 @@ abbrev pub IsLow : ℕ → Mark → ℕ → Type 0
 IsLow next (Prepares ballot) from = next ≤ from
 IsLow next (Asks ballot slot) from = Unit {0}
 IsLow next (Votes node ballot slot) from = Unit {0}
-IsLow next (Tells slot) from = Unit {0}
+IsLow next (Teaches slot) from = Unit {0}
 IsLow next (Installs slot) from = Unit {0}
 IsLow next (Promises node ballot) from = Unit {0}
 
@@ -66,7 +66,7 @@ abbrev pub IsNoPrepare : Mark → Type 0
 IsNoPrepare (Prepares ballot) = ⊥
 IsNoPrepare (Asks ballot slot) = Unit {0}
 IsNoPrepare (Votes node ballot slot) = Unit {0}
-IsNoPrepare (Tells slot) = Unit {0}
+IsNoPrepare (Teaches slot) = Unit {0}
 IsNoPrepare (Installs slot) = Unit {0}
 IsNoPrepare (Promises node ballot) = Unit {0}
 
@@ -115,7 +115,7 @@ pub record PreparesAreKnown : Type 0 where
 -- A replica that elects itself by the last entry asks from the slot after that entry on.
 abbrev pub ElectionsAskNext : Type 0
 ElectionsAskNext =
-    (from slot : ℕ) (command : Command) (r : ReplicaState) → IsInTime (Tells slot) r → r.running ≡ false → r.leader.flights ≡ [] → slot ≤ last_slot → MayElect (entered command r) → name_of (entered command r) ≡ name_of r
+    (from slot : ℕ) (command : Command) (r : ReplicaState) → IsInTime (Teaches slot) r → r.running ≡ false → r.leader.flights ≡ [] → slot ≤ last_slot → MayElect (entered command r) → name_of (entered command r) ≡ name_of r
     → (who : ℕ) → Each (λ d. suc slot ≤ d.1) (dated_for (name_of r) who (mailed from (Learn (name_of r) slot command) (r, [])).0.1)
 
 -- Whatever the receivers' next slots are, each Prepare among these mails asks from no slot below its receiver's next slot at that time, since a state comes before it.

@@ -11,7 +11,7 @@ use Rattle.sc_node_table.specs.Definitions.{before_of, went_on}
 use Rattle.sc_node_table.specs.declared.Before.{Before}
 use Rattle.sc_live_steps.specs.orders.Scenes.{Turn, First, Lone, Next, is_watch, Bond, Unbound, Asking, Bound, Errand, Question, Reply, IsOnly}
 use Rattle.sc_live_steps.specs.orders.Stages.{bound_by}
-use Rattle.sc_live_steps.specs.orders.Rows.{results}
+use Rattle.sc_live_steps.specs.orders.OrderStageRows.{results}
 use Rattle.sc_live_steps.specs.orders.Parts.{bond_of, errands_for}
 
 -- After a command's effect the group has this bond, and a leader that counted the command sends these errands and no others.

@@ -8,7 +8,7 @@ use Rattle.sc_node_table.specs.Definitions.{executed, ordered_command, ordered_r
 use Rattle.sc_live_steps.specs.orders.Scenes.{Work, IsOnly}
 use Rattle.sc_live_steps.specs.orders.Parts.{work_by, works_in, works, errands_for}
 use Rattle.sc_live_steps.specs.orders.Stages.{IsOrder}
-use Rattle.sc_live_steps.specs.orders.Tables.{IsUnbound, Works, MayFile}
+use Rattle.sc_live_steps.specs.orders.OrderTables.{IsUnbound, Works, MayFile}
 
 -- A leader with one command, ready at its next slot: nothing is in flight, no other work waits, and no report binds it.
 pub record IsLone (command : Command) (r : ReplicaState) : Type 0 where
@@ -53,7 +53,7 @@ pub record Decides (flight : Flight Command) (r : ReplicaState) (after : Place) 
   pub lone : IsLone flight.value readied
   pub group : readied.group ≡ r.group
   pub me : readied.me ≡ r.me
-  pub is : after ≡ (executed true flight.value (readied, [])).0
+  pub fact : after ≡ (executed true flight.value (readied, [])).0
 
 -- A vote at a leader with one command in flight leaves its work as it was, or decides the command.
 abbrev pub VotesCountAlone : Type 0

@@ -3,7 +3,7 @@ use Rattle.std.specs.Prelude.{◌≡◌, ℕ, Bool, true, List, ◌⊎◌, Optio
 use Rattle.sc_node_table.specs.Values.{Draw}
 use Rattle.sc_live_steps.specs.orders.Scenes.{Turn, First, Lone, Next, Errand, Work, Opens, Scene}
 use Rattle.sc_live_steps.specs.orders.Stages.{Deal, Mailed, Filed, Party, Stage, Still, Ordered, Asks, SentOn, Weighs, Replied, Recorded, Closes, ClosesBoth, IsAt}
-use Rattle.sc_live_steps.specs.orders.Rows.{IsRow, Kind, Rests, IsTold, PassesOn, AsksOn, Files, Changed, Opened, Voted, Aborted, Decided, Heard, Ended}
+use Rattle.sc_live_steps.specs.orders.OrderStageRows.{IsRow, Kind, Rests, IsTold, PassesOn, AsksOn, Files, Changed, Opened, Voted, Aborted, Decided, Heard, Ended}
 
 -- A relation of a row's group and the stages before and after the row.
 abbrev pub Step : Type 1

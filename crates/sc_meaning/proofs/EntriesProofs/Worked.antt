@@ -9,7 +9,7 @@ use Rattle.sc_words.specs.declared.commands.cores.Base.{Base}
 use Rattle.sc_words.specs.declared.commands.cores.Lock.TheVariants.{Free}
 use Rattle.sc_group_table.specs.machine.Definitions.{Group}
 use Rattle.sc_meaning.specs.declared.entries.LogEntry.{LogEntry}
-use Rattle.sc_meaning.specs.entries.Definitions.{effective, StoreWorld, told}
+use Rattle.sc_meaning.specs.entries.Definitions.{effective, StoreWorld, recorded}
 use Rattle.sc_meaning.specs.declared.entries.Cut.{Cut}
 
 -- a name
@@ -80,4 +80,4 @@ shape_of world = shape world.ring (records_of world world.ring)
 -- the shapes of a world before any entry and after each
 abbrev pub shapes : StoreWorld → List LogEntry → List Shape
 shapes world [] = shape_of world ∷ []
-shapes world (entry ∷ entries) = shape_of world ∷ shapes (told world entry) entries
+shapes world (entry ∷ entries) = shape_of world ∷ shapes (recorded world entry) entries

@@ -18,7 +18,7 @@ use Rattle.sc_words.proofs.IdealProofs.Lemmas.{get-part}
 use Rattle.sc_group_table.specs.machine.Definitions.{Group, group_of, applied, done, served_by_note}
 use Rattle.sc_group_table.proofs.MachineProofs.Lemmas.{pairs_again}
 use Rattle.sc_meaning.specs.declared.entries.LogEntry.{LogEntry}
-use Rattle.sc_meaning.specs.entries.Definitions.{effective, StoreWorld, first_world, world_of, world_after, with_result, told}
+use Rattle.sc_meaning.specs.entries.Definitions.{effective, StoreWorld, first_world, world_of, world_after, with_result, recorded}
 use Rattle.sc_meaning.proofs.EntriesProofs.Worked.{draw, born, entry}
 
 -- a group that has the whole ring puts x at a and y at m, and splits at m
@@ -71,10 +71,10 @@ first_is_new = ap (λ (o : Option Noted). served_by_note o start 1 1 put_a) (get
 second_is_new : applied next (Call 1 2 put_m) ≡ done next 1 2 put_m
 second_is_new = ap (λ (o : Option Noted). served_by_note o next 1 2 put_m) (get-insert nat_cmp_total start.clients 1 note 1)
 
-world_is : world_of (lone ∷ []) entries ≡ told called splits
+world_is : world_of (lone ∷ []) entries ≡ recorded called splits
 world_is =
     ap (λ (result : Group × Effect). world_after (with_result (first_world (lone ∷ [])) start (Call 1 1 put_a) result) (entry (draw 0 1) 2 (Call 1 2 put_m) ∷ splits ∷ [])) first_is_new
-    ∙ ap (λ (result : Group × Effect). told (with_result (with_result (first_world (lone ∷ [])) start (Call 1 1 put_a) (done start 1 1 put_a)) next (Call 1 2 put_m) result) splits) second_is_new
+    ∙ ap (λ (result : Group × Effect). recorded (with_result (with_result (first_world (lone ∷ [])) start (Call 1 1 put_a) (done start 1 1 put_a)) next (Call 1 2 put_m) result) splits) second_is_new
 
 -- what was put
 at_a : get pairs key_a ≡ Some (120 ∷ [])

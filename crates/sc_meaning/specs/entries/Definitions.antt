@@ -5,4 +5,4 @@ pub use Rattle.sc_meaning.specs.entries.Effective.{effective, effective_by, is_o
 pub use Rattle.sc_meaning.specs.entries.Laws.{BirthsAreChildren}
 pub use Rattle.sc_meaning.specs.entries.Parts.{IsPlaced, HoldsItsPart, ServesItsCut}
 pub use Rattle.sc_meaning.specs.entries.Rings.{Covers, arc_in, both_arcs, is_cut_of, recut, ring_decided, ring_merged, ring_moved, ring_divided, parts_of, first_cut, ring_after, decided_by, HaveArcs}
-pub use Rattle.sc_meaning.specs.entries.Worlds.{StoreWorld, named_group, is_named, after_command, world_of, first_world, with_result, groups_after, with_group, told, world_after, CoverThroughout}
+pub use Rattle.sc_meaning.specs.entries.Worlds.{StoreWorld, named_group, is_named, after_command, world_of, first_world, with_result, groups_after, with_group, recorded, world_after, CoverThroughout}

@@ -12,7 +12,7 @@ use Rattle.sc_meaning.specs.entries.Worlds.{StoreWorld}
 pub record IsPlaced (world : StoreWorld) (cut : Cut) : Type 0 where
   -- the effective record of the range's group
   pub group : Group
-  pub is : effective world cut.group ≡ Some group
+  pub fact : effective world cut.group ≡ Some group
   -- the group is not gone
   pub here : group.core.gone ≡ None
   -- the group has the arc of the range

@@ -61,12 +61,12 @@ after_command world None command = world
 after_command world (Some group) command = with_result world group command (applied group command)
 
 -- the world after one entry
-abbrev pub told : StoreWorld → LogEntry → StoreWorld
-told world entry = after_command world (named_group entry.group world.groups) entry.command
+abbrev pub recorded : StoreWorld → LogEntry → StoreWorld
+recorded world entry = after_command world (named_group entry.group world.groups) entry.command
 
 -- the world after a list of entries, in their order
 abbrev pub world_after : StoreWorld → List LogEntry → StoreWorld
-world_after = fold told
+world_after = fold recorded
 
 -- the world that a list of entries makes of the groups of a scenario
 abbrev pub world_of : List Base → List LogEntry → StoreWorld

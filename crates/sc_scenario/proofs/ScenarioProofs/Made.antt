@@ -7,7 +7,7 @@ use Rattle.std.proofs.lemmas.List.Elements.{All-nil, All-cons, All-push}
 use Rattle.std.proofs.lemmas.List.Folds.{list_any-append}
 use Rattle.std.proofs.lemmas.List.Quantifiers.{all_pairs_push}
 use Rattle.sc_base.specs.Definitions.{Each, most_requests, IsRoster}
-use Rattle.sc_texts.specs.chance.Words.{two_words}
+use Rattle.sc_texts.specs.chance.KeyStream.{two_words}
 use Rattle.sc_scenario.specs.scenario.Definitions.{is_client, made_op, made_ops, made_clients, made_groups, made_goes, made_scenario, IsUpTo, IsBounded, IsBoundedGroup, IsShortOp, IsBoundedClient, IsBoundedLine}
 use Rattle.sc_scenario.specs.declared.scenario.drafts.GroupLine.{GroupLine}
 use Rattle.sc_scenario.specs.declared.scenario.scenarios.Asks.{Asks}

@@ -367,4 +367,4 @@ written_bounded scenario valid = lines_are (is_too_long valid.text) (lines_of va
 -- so is what is made
 pub texts_bounded : ValidScenariosAreBounded
 texts_bounded scenario (inl written) = written_bounded scenario written
-texts_bounded scenario (inr made) = subst IsBounded made.is (made_bounded made.n made.seed made.few)
+texts_bounded scenario (inr made) = subst IsBounded made.fact (made_bounded made.n made.seed made.few)

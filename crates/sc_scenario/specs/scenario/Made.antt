@@ -4,7 +4,7 @@ use Rattle.std.specs.Fmt.{decimal}
 use Rattle.sc_base.specs.Definitions.{most_requests}
 use Rattle.sc_base.specs.declared.ops.Op.{Op}
 use Rattle.sc_base.specs.declared.ops.Op.TheVariants.{Get, Put, Del}
-use Rattle.sc_texts.specs.chance.Words.{two_words}
+use Rattle.sc_texts.specs.chance.KeyStream.{two_words}
 use Rattle.sc_scenario.specs.scenario.Groups.{bases_of}
 use Rattle.sc_scenario.specs.declared.scenario.drafts.GroupLine.{GroupLine}
 use Rattle.sc_scenario.specs.declared.scenario.scenarios.Asks.{Asks}
@@ -70,4 +70,4 @@ pub record IsMade (scenario : Scenario) : Type 0 where
   pub seed : ℕ
   pub some : 1 ≤ n
   pub few : n ≤ most_requests
-  pub is : made_scenario n seed ≡ scenario
+  pub fact : made_scenario n seed ≡ scenario

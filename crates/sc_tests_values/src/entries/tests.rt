@@ -107,7 +107,7 @@ fn split(at: u32, child: Draw) -> Command {
 }
 
 // Returns the world after the entries.
-fn told(rt: &impl Abort, alloc: Global) -> StoreWorld {
+fn world_of_entries(rt: &impl Abort, alloc: Global) -> StoreWorld {
     let bases = [parent(rt, alloc)];
     let mut world = StoreWorld::first(alloc, &bases).expect(rt, "memory");
     forget(bases);
@@ -140,7 +140,7 @@ fn is_of_three(ring: &[Cut]) -> bool {
 
 #[test]
 fn a_child_that_splits_leaves_three_cuts(rt: HostRuntime) {
-    let world = told(&rt, rt.alloc());
+    let world = world_of_entries(&rt, rt.alloc());
     let is_of_three = is_of_three(world.ring());
     forget(world);
     assert!(rt; is_of_three);
@@ -164,7 +164,7 @@ fn around_parent(rt: &impl Abort, world: &StoreWorld) -> (Draw, Draw) {
 
 #[test]
 fn a_watcher_that_has_not_heard_has_the_new_neighbour_all_the_same(rt: HostRuntime) {
-    let world = told(&rt, rt.alloc());
+    let world = world_of_entries(&rt, rt.alloc());
     let before = before_parent(&rt, &world);
     let around = around_parent(&rt, &world);
     forget(world);
@@ -173,7 +173,7 @@ fn a_watcher_that_has_not_heard_has_the_new_neighbour_all_the_same(rt: HostRunti
 
 #[test]
 fn the_history_is_the_put(rt: HostRuntime) {
-    let world = told(&rt, rt.alloc());
+    let world = world_of_entries(&rt, rt.alloc());
     let history = world.history();
     let is_one = history.len() == 1;
     let is_legal = legal(rt.alloc(), history).expect(&rt, "memory");

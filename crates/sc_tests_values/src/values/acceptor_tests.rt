@@ -23,27 +23,31 @@ fn answer(
 
 /// Returns the promise that the acceptor, which has forgotten nothing, reports where it ignores a
 /// ballot.
-fn told(rt: &impl Abort, acceptor: &mut Acceptor<u32>, ballot: Ballot) -> Option<Ballot> {
+fn answered_ballot(
+    rt: &impl Abort,
+    acceptor: &mut Acceptor<u32>,
+    ballot: Ballot,
+) -> Option<Ballot> {
     assert!(rt; acceptor.floor() == 0);
     let answer = acceptor.on_prepare(ballot, 1).expect(rt, "memory");
-    let told = match &answer {
+    let answered = match &answer {
         PrepareAnswer::Promise { reports: _ } => None,
         PrepareAnswer::Ignored { promised } => Some(*promised),
     };
     forget(answer);
-    told
+    answered
 }
 
 #[test]
 fn a_promise_binds(rt: HostRuntime) {
     let promised = ballot(2, 2);
     let mut acceptor: Acceptor<u32> = Acceptor::born(rt.alloc(), promised);
-    let told = told(&rt, &mut acceptor, promised);
+    let answered = answered_ballot(&rt, &mut acceptor, promised);
     let lower = answer(&rt, &mut acceptor, ballot(1, 9), 1, 10);
     let same = answer(&rt, &mut acceptor, promised, 1, 10);
     let kept = acceptor.promised();
     forget(acceptor);
-    assert!(rt; told == Some(promised) && kept == promised);
+    assert!(rt; answered == Some(promised) && kept == promised);
     assert!(rt; lower == AcceptAnswer::Ignored { promised } && same == AcceptAnswer::Accepted);
 }
 

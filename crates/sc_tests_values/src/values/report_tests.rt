@@ -74,7 +74,7 @@ fn are_text(lines: &[ReportLine], text: &[u8]) -> bool {
 }
 
 // Returns whether this is the report of the summary.
-fn is_told(rt: &impl Abort, alloc: Global, brief: bool, report: &[u8]) -> bool {
+fn is_written_as(rt: &impl Abort, alloc: Global, brief: bool, report: &[u8]) -> bool {
     let summary = summary(rt, alloc, brief);
     let lines = lines(alloc, &summary).expect(rt, "memory");
     let is_so = are_text(lines.as_slice(), report);
@@ -85,7 +85,7 @@ fn is_told(rt: &impl Abort, alloc: Global, brief: bool, report: &[u8]) -> bool {
 
 #[test]
 fn a_summary_is_printed_line_by_line(rt: HostRuntime) {
-    let whole = is_told(&rt, rt.alloc(), false, REPORT);
-    let brief = is_told(&rt, rt.alloc(), true, BRIEF);
+    let whole = is_written_as(&rt, rt.alloc(), false, REPORT);
+    let brief = is_written_as(&rt, rt.alloc(), true, BRIEF);
     assert!(rt; whole && brief);
 }

@@ -28,9 +28,9 @@ fn is_group_read(groups: &GroupList) -> bool {
 
 // The node that gets an order, the order's number, whether it is a join, and the node and the group
 // of the join or leave.
-type Told = (u16, u32, bool, u16, Draw);
+type NodeOrder = (u16, u32, bool, u16, Draw);
 
-fn told(line: &SchedLine) -> Option<Told> {
+fn node_order(line: &SchedLine) -> Option<NodeOrder> {
     match line {
         SchedLine::Told { node, line } => match &line.order {
             Order::Join { node: other, group } => Some((*node, line.number, true, *other, *group)),
@@ -43,9 +43,9 @@ fn told(line: &SchedLine) -> Option<Told> {
     }
 }
 
-const JOIN: Told = (3, 1, true, 2, Draw { node: 0, count: 1 });
+const JOIN: NodeOrder = (3, 1, true, 2, Draw { node: 0, count: 1 });
 
-const LEAVE: Told = (
+const LEAVE: NodeOrder = (
     1,
     2,
     false,
@@ -60,8 +60,8 @@ fn is_early_form_read(scenario: &Scenario) -> bool {
     let lines = scenario.lines.as_slice();
     scenario.nodes == 3
         && lines.len() == 9
-        && told(&lines[6]) == Some(JOIN)
-        && told(&lines[7]) == Some(LEAVE)
+        && node_order(&lines[6]) == Some(JOIN)
+        && node_order(&lines[7]) == Some(LEAVE)
         && are_clients_read(&scenario.clients)
         && is_group_read(&scenario.groups)
 }

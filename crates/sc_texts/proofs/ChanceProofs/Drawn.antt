@@ -1,7 +1,7 @@
 -- The words of a step are the next two of the generator.
 use Rattle.std.proofs.Common.{◌≡◌, ℕ, ◌+◌, ◌*◌, ◌/◌, ◌%◌, ◌^◌, ◌<◌, List, ap, ◌∙◌, arith, ap₂}
 use Rattle.rand_chacha.specs.ChaCha.{ChaCha, word_at, next_word, key_of}
-use Rattle.sc_texts.specs.chance.Words.{seed_of, word_of, two_words}
+use Rattle.sc_texts.specs.chance.KeyStream.{seed_of, word_of, two_words}
 
 same_word : (key other : List ℕ) (stream place : ℕ) (at : ℕ) → key ≡ other → stream ≡ 0 → place ≡ at → word_at 4 key stream place ≡ word_at 4 other 0 at
 same_word key other stream place at k s p =

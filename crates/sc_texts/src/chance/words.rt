@@ -2,7 +2,7 @@
 ghost use Rattle.std.specs.Prelude.{◌≡◌, ◌+◌, ◌%◌, ◌^◌, ◌++◌, replicate};
 ghost use Rattle.std.specs.Int.{w64, to_le_bytes};
 ghost use Rattle.rand_chacha.specs.ChaCha.{word_at, next_word};
-ghost use Rattle.sc_texts.specs.chance.Words.{seed_of, two_words, after_step};
+ghost use Rattle.sc_texts.specs.chance.KeyStream.{seed_of, two_words, after_step};
 
 use rand_chacha::ChaCha8Rng;
 use rand_core::SeedableRng;
@@ -23,7 +23,7 @@ pub struct Chance {
 impl Model for Chance {
     ghost use Rattle.std.specs.Prelude.{◌≡◌, ◌*◌, ◌/◌, ◌<◌, ◌^◌};
     ghost use Rattle.rand_chacha.specs.ChaCha.{key_of};
-    ghost use Rattle.sc_texts.specs.chance.Words.{ChanceStep, seed_of};
+    ghost use Rattle.sc_texts.specs.chance.KeyStream.{ChanceStep, seed_of};
 
     ghost Value = { ChanceStep };
 

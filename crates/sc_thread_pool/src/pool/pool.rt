@@ -1,7 +1,7 @@
 //! The rounds of a pool.
 ghost use Rattle.std.specs.Prelude.{◌≤◌, Some};
 ghost use Rattle.sc_thread_workers.specs.Crews.{AreLater, IsCrew, crew_numbers};
-ghost use Rattle.sc_thread_workers.specs.Ends.{IsEnd, IfHeld};
+ghost use Rattle.sc_thread_workers.specs.RoundEnds.{IsEnd, IfHeld};
 ghost use Rattle.sc_thread_workers.specs.Holders.{PhasesHaveOneHolder};
 
 use sc_actor::{Actor, Gate};

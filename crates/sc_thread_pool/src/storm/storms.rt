@@ -1,6 +1,6 @@
 //! Storms, whose steps are drawn.
 ghost use Rattle.std.specs.Prelude.{◌≡◌};
-ghost use Rattle.sc_texts.specs.chance.Words.{two_words, after_step};
+ghost use Rattle.sc_texts.specs.chance.KeyStream.{two_words, after_step};
 ghost use Rattle.sc_thread_ledger.specs.declared.spots.Look.{Look};
 ghost use Rattle.sc_thread_pool.specs.storm.Deeds.{deed_of, Shows};
 
@@ -17,7 +17,7 @@ pub struct Storm {
 }
 
 impl Model for Storm {
-    ghost use Rattle.sc_texts.specs.chance.Words.{ChanceStep};
+    ghost use Rattle.sc_texts.specs.chance.KeyStream.{ChanceStep};
 
     ghost Value = { ChanceStep };
 

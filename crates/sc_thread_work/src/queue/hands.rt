@@ -3,7 +3,7 @@ ghost use Rattle.std.specs.Prelude.{◌≡◌, ◌<◌, ◌≤◌, ◌-◌, ◌+
 ghost use Rattle.crossbeam_queue.specs.Fifo.{Held};
 ghost use Rattle.crossbeam_queue.specs.Passes.{view, IsPassOf, ruled_capacity};
 ghost use Rattle.sc_thread_work.specs.queue.Hands.{all_parts, hand, opener, taker, numbered, works, with_put, KnowsWhole, IsWorkedOff};
-ghost use Rattle.sc_thread_work.specs.queue.Working.{AllGiven, AllInside, AllFree, AllThere, Did, Gathers, filled};
+ghost use Rattle.sc_thread_work.specs.queue.TakenItems.{AllGiven, AllInside, AllFree, AllThere, Did, Gathers, filled};
 
 use crate::queue::rule::{Cut, Hand, Item, OneHolder, Puts, Takes};
 use crossbeam_queue::{Pass, RuledArrayQueue};

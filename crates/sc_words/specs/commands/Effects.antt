@@ -3,7 +3,7 @@ use Rattle.std.specs.Prelude.{Bool, true, false, Option, Some, None}
 use Rattle.sc_words.specs.declared.commands.effects.Effect.{Effect}
 use Rattle.sc_words.specs.declared.commands.effects.Effect.TheVariants.{Done, Again, Stale, NotMine, Gone, NoEffect, Idle, Changed, Voted, Decided, Refused}
 use Rattle.sc_words.specs.declared.commands.orders.OrderResult.{OrderResult}
-use Rattle.sc_words.specs.declared.commands.orders.OrderResult.TheVariants as Tells
+use Rattle.sc_words.specs.declared.commands.orders.OrderResult.TheVariants as Results
 use Rattle.sc_words.specs.declared.commands.votes.Outcome.{Outcome}
 use Rattle.sc_words.specs.declared.commands.votes.Outcome.TheVariants.{Abort, Merged, Moved, Migrated, Divided}
 use Rattle.sc_words.specs.declared.commands.votes.Past.{Past}
@@ -24,7 +24,7 @@ is_changed (Refused why) = false
 
 -- the result to report of an order that was refused when it was executed, or None
 abbrev pub refused_result : Effect → Option OrderResult
-refused_result (Refused why) = Some (Tells.Refused why)
+refused_result (Refused why) = Some (Results.Refused why)
 refused_result (Done reply) = None
 refused_result (Again reply) = None
 refused_result (Stale last) = None
@@ -38,8 +38,8 @@ refused_result (Decided outcome) = None
 
 -- the result to report of an order that one entry carries out: a join, a leave, or the split of a group that is its own successor; None where the entry ends no order
 abbrev pub result_of : Effect → Option OrderResult
-result_of Changed = Some Tells.Done
-result_of (Refused why) = Some (Tells.Refused why)
+result_of Changed = Some Results.Done
+result_of (Refused why) = Some (Results.Refused why)
 result_of (Done reply) = None
 result_of (Again reply) = None
 result_of (Stale last) = None

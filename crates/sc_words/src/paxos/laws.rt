@@ -1,5 +1,5 @@
 //! Laws of ballots, choices and acceptors.
-ghost use Rattle.sc_words.specs.paxos.Laws.{BallotsAreOrdered, ChoiceIsFirstHighest, NoChoiceWithoutReport, PromisesNeverFall, AcceptedBallotsNeverFall, AcceptorsStayWhole};
+ghost use Rattle.sc_words.specs.paxos.BallotLaws.{BallotsAreOrdered, ChoiceIsFirstHighest, NoChoiceWithoutReport, PromisesNeverFall, AcceptedBallotsNeverFall, AcceptorsStayWhole};
 
 /// States that ballots are in one strict total order.
 pub fn ballots_are_ordered()

@@ -214,12 +214,12 @@ stay_push rows after knowns later known next all so_far one =
       same =
           map-append (λ (k : Known). k.base) later (next ∷ []) ∙ ap (λ (bs : List Base). bs ++ next.base ∷ []) stay.same
           ∙ ap (λ (b : Base). bases knowns ++ b ∷ []) stays.base_is ∙ sym (map-append (λ (k : Known). k.base) knowns (known ∷ []));
-      each = Each-push (IsKnown after) later next stay.each stays.is;
+      each = Each-push (IsKnown after) later next stay.each stays.fact;
       children = subst (Each (SameChildren rows after)) (sym (map-append (λ (k : Known). k.base) knowns (known ∷ []))) (Each-push (SameChildren rows after) (bases knowns) known.base stay.children (same_children parts.1 stays));
     }
   where
     same_children : IsKnown rows known → StaysKnown rows after known next → SameChildren rows after known.base
     same_children is stays =
         ap (λ (b : Base). children_by as_nodes after b) (sym stays.base_is)
-        ∙ ap (children_of (group_of next.base)) (sym (known_log after next stays.is))
+        ∙ ap (children_of (group_of next.base)) (sym (known_log after next stays.fact))
         ∙ stays.children_are ∙ ap (children_of (group_of known.base)) (known_log rows known is)

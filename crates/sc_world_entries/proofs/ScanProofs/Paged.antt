@@ -13,7 +13,7 @@ use Rattle.sc_law_entries.proofs.RingProofs.Finds.{Pairwise, pairwise_from}
 use Rattle.sc_world_entries.specs.scans.Laws.{PagesFollow}
 use Rattle.sc_world_entries.specs.scans.Order.{HaveKeysOnce, Pair}
 use Rattle.sc_world_entries.specs.scans.Pages.{after_key, behind_page, last_key, next_key, pages_from, past}
-use Rattle.sc_world_entries.proofs.ScanProofs.Pairs.{KeysDiffer}
+use Rattle.sc_world_entries.proofs.ScanProofs.PairsInArcs.{KeysDiffer}
 
 same_key : (key : List ℕ) → pointwise nat_eq key key ≡ true
 same_key key = (bytes_decides key key).1 refl

@@ -20,7 +20,7 @@ use Rattle.sc_words.specs.ideal.IdealStore.{holds_key}
 use Rattle.sc_words.proofs.PaxosProofs.ListLemmas.{Each-among, Each-filter, Each-from, from_filter}
 use Rattle.sc_law_entries.proofs.RingProofs.Finds.{Pairwise, all_pairs, pairwise_filter}
 use Rattle.sc_world_entries.specs.scans.Order.{ComesBefore, Pair, held, is_low, ordered}
-use Rattle.sc_world_entries.proofs.ScanProofs.Pairs.{pairwise_append}
+use Rattle.sc_world_entries.proofs.ScanProofs.PairsInArcs.{pairwise_append}
 
 -- ---- the position of a key, byte by byte
 

@@ -11,7 +11,7 @@ use Rattle.sc_meaning.specs.entries.Rings.{Covers}
 use Rattle.sc_world_entries.specs.declared.scans.walking.Part.{Part}
 use Rattle.sc_world_entries.specs.scans.Laws.{ShareNothing, IsWithinCut, WalksShareArcs}
 use Rattle.sc_world_entries.specs.scans.Walk.{first_part, holds_start, left_behind, parts_from, parts_in, reach, walk}
-use Rattle.sc_world_entries.proofs.ScanProofs.Circle.{behind, beyond, end_fits, fewer, near}
+use Rattle.sc_world_entries.proofs.ScanProofs.ArcDistances.{behind, beyond, end_fits, fewer, near}
 
 -- ---- the walk, step by step
 

@@ -1,6 +1,6 @@
 use Rattle.std.proofs.Common.{sym}
 use Rattle.std.proofs.lemmas.List.{take-append-drop}
-use Rattle.sc_json_fast.proofs.Digits.{spelled}
+use Rattle.sc_json_fast.proofs.NumberDigits.{spelled}
 use Rattle.sc_json_fast.proofs.numbers.number_at.Goals as goal
 
 pub returns-clause-text : goal.returns-clause-text

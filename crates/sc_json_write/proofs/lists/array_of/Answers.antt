@@ -1,4 +1,4 @@
-use Rattle.sc_json_write.proofs.Arrays.{array_full}
+use Rattle.sc_json_write.proofs.ListsAsArrays.{array_full}
 use Rattle.sc_json_write.proofs.lists.array_of.Goals as goal
 
 pub returns-clause-json : goal.returns-clause-json

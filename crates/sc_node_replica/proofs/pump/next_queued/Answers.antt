@@ -1,7 +1,7 @@
 use Rattle.std.proofs.Common.{List, [], Option, Some, sym, ap, ◌∙◌}
 use Rattle.sc_words.specs.declared.commands.commands.Command.{Command}
 use Rattle.sc_mail.specs.declared.bodies.Mail.{Mail}
-use Rattle.sc_node_parts.proofs.ReplicaProofs.Silence.{answered-others}
+use Rattle.sc_node_parts.proofs.ReplicaProofs.AppendedMail.{answered-others}
 use Rattle.sc_node_replica.proofs.Backlog.{next_queued-ends, next_queued-found, next_queued-goes}
 use Rattle.sc_node_replica.proofs.Unsent.{next_queued-silent, next_queued-unanswered}
 use Rattle.sc_node_replica.proofs.pump.next_queued.Goals as goal

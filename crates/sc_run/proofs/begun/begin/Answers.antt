@@ -1,6 +1,6 @@
 use Rattle.std.proofs.Common.{◌≡◌, ◌≤◌, ◌<◌, true, IfOk, sym, subst, All}
 use Rattle.sc_actor.specs.System.{are_apart}
-use Rattle.sc_thread_drive.specs.Working.{HasOpened}
+use Rattle.sc_thread_drive.specs.CompanyRows.{HasOpened}
 use Rattle.sc_meaning.specs.sound.Players.{most_actor}
 use Rattle.sc_run.proofs.begun.begin.Goals as goal
 

@@ -1,7 +1,7 @@
 use Rattle.std.proofs.Common.{◌≡◌, ℕ, List, Option, [], sym, subst, append-nil}
 use Rattle.std.specs.Prelude.{MatchOption}
 use Rattle.sc_actor.specs.declared.rows.Row.{Row}
-use Rattle.sc_texts.specs.chance.Words.{two_words}
+use Rattle.sc_texts.specs.chance.KeyStream.{two_words}
 use Rattle.sc_words.specs.declared.commands.cores.Base.{Base}
 use Rattle.sc_words.specs.declared.commands.orders.OrderLine.{OrderLine}
 use Rattle.sc_law_refusal.specs.refusal.Journals.{RefusesWithCause}
@@ -10,7 +10,7 @@ use Rattle.sc_mail.specs.declared.bodies.Mail.{Mail}
 use Rattle.sc_meaning.specs.sound.GroupsOf.{entries_at}
 use Rattle.sc_meaning.specs.sound.Players.{Lawful, as_nodes}
 use Rattle.sc_meaning.specs.sound.Soundness.{IsSoundThroughout}
-use Rattle.sc_world.specs.Replays.{IsBadRow}
+use Rattle.sc_world.specs.ReplayErrors.{IsBadRow}
 use Rattle.sc_run.proofs.explaining.explain_stored.Goals as goal
 
 pub explain-requires : goal.explain-requires

@@ -1,10 +1,10 @@
 use Rattle.std.proofs.Common.{◌≢◌, ◌≤◌, ◌∙◌, map, sym, ap, subst}
 use Rattle.sc_actor.specs.Counted.{journal_bytes}
 use Rattle.sc_actor.specs.declared.schedules.Played.TheVariants.{Ended, Full, OutOfMemory}
-use Rattle.sc_texts.specs.chance.Words.{two_words}
+use Rattle.sc_texts.specs.chance.KeyStream.{two_words}
 use Rattle.sc_thread_ports.specs.exchange.Ports.{seen}
 use Rattle.sc_thread_drive.specs.Goings.{SparesGoers}
-use Rattle.sc_thread_drive.specs.Working.{IsDriven, StaysWhole}
+use Rattle.sc_thread_drive.specs.CompanyRows.{IsDriven, StaysWhole}
 use Rattle.sc_meaning.specs.sound.Players.{births, as_nodes}
 use Rattle.sc_run.specs.Played.{mail_weight, IsPlayed}
 use Rattle.sc_run.proofs.Plays.{actors_of, ends, fills, no_out_of_memory}

@@ -1,7 +1,7 @@
 use Rattle.std.proofs.Common.{◌<◌, ◌^◌, ap, ◌∙◌, rules}
 use Rattle.sc_base.specs.Limits.{longest_key}
 use Rattle.sc_base.specs.TextErrors.{text_error}
-use Rattle.sc_scenario_make.proofs.Texts.{key_passes}
+use Rattle.sc_scenario_make.proofs.MadeTexts.{key_passes}
 use Rattle.sc_scenario_make.proofs.drawing.made_key.Goals as goal
 
 pub kept_key-requires : goal.kept_key-requires

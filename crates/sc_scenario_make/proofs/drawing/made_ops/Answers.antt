@@ -1,5 +1,5 @@
 use Rattle.std.proofs.Common.{◌≡◌, ◌+◌, ◌*◌, sym, ap, ◌∙◌, arith}
-use Rattle.sc_texts.specs.chance.Words.{ChanceStep}
+use Rattle.sc_texts.specs.chance.KeyStream.{ChanceStep}
 use Rattle.sc_scenario.proofs.ScenarioProofs.Made.{no_ops}
 use Rattle.sc_scenario_make.proofs.Steps.{one_more_op}
 use Rattle.sc_scenario_make.proofs.drawing.made_ops.Goals as goal

@@ -1,7 +1,7 @@
 use Rattle.std.proofs.Common.{◌<◌, ◌^◌, ap, ◌∙◌, rules}
 use Rattle.sc_base.specs.Limits.{longest_value}
 use Rattle.sc_base.specs.TextErrors.{text_error}
-use Rattle.sc_scenario_make.proofs.Texts.{value_passes}
+use Rattle.sc_scenario_make.proofs.MadeTexts.{value_passes}
 use Rattle.sc_scenario_make.proofs.drawing.made_value.Goals as goal
 
 pub kept_value-requires : goal.kept_value-requires

@@ -1,5 +1,5 @@
 use Rattle.std.proofs.Common.{◌≡◌, ℕ, ◌*◌, sym, ap, ◌∙◌, arith}
-use Rattle.sc_texts.specs.chance.Words.{ChanceStep}
+use Rattle.sc_texts.specs.chance.KeyStream.{ChanceStep}
 use Rattle.sc_scenario.proofs.ScenarioProofs.Made.{no_clients}
 use Rattle.sc_scenario_make.proofs.Steps.{one_more_client}
 use Rattle.sc_scenario_make.proofs.making.clients.Goals as goal

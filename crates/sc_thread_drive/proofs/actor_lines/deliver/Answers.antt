@@ -2,8 +2,8 @@ use Rattle.std.proofs.Common.{rules, ◌≡◌, sym, subst, None}
 use Rattle.sc_actor.specs.Walk.{line_row}
 use Rattle.sc_actor.specs.declared.schedules.Line.TheVariants.{Deliver}
 use Rattle.sc_thread_drive.specs.Stepping.{IsPlace, IsNowhere}
-use Rattle.sc_thread_drive.specs.Working.{RowEnds}
-use Rattle.sc_thread_drive.proofs.Working.{delivers_out, delivers_so, delivers_zero}
+use Rattle.sc_thread_drive.specs.CompanyRows.{RowEnds}
+use Rattle.sc_thread_drive.proofs.CompanyActs.{delivers_out, delivers_so, delivers_zero}
 use Rattle.sc_thread_drive.proofs.actor_lines.deliver.Goals as goal
 
 pub returns-then-k-eq0 : goal.returns-then-k-eq0

@@ -2,8 +2,8 @@ use Rattle.std.proofs.Common.{rules, ◌≡◌, sym, subst, None}
 use Rattle.sc_actor.specs.System.{acts}
 use Rattle.sc_actor.specs.declared.rows.Event.TheVariants.{Go}
 use Rattle.sc_thread_drive.specs.Stepping.{IsPlace, IsNowhere}
-use Rattle.sc_thread_drive.specs.Working.{RowEnds}
-use Rattle.sc_thread_drive.proofs.Working.{goes_out, goes_so}
+use Rattle.sc_thread_drive.specs.CompanyRows.{RowEnds}
+use Rattle.sc_thread_drive.proofs.CompanyActs.{goes_out, goes_so}
 use Rattle.sc_thread_drive.proofs.actor_lines.go.Goals as goal
 
 pub returns-in_default : goal.returns-in_default

@@ -1,7 +1,7 @@
 use Rattle.std.proofs.Common.{rules, ◌≡◌, sym, subst, None}
 use Rattle.sc_thread_drive.specs.Stepping.{IsPlace, IsNowhere, unless_crashed}
-use Rattle.sc_thread_drive.specs.Working.{RowEnds}
-use Rattle.sc_thread_drive.proofs.Working.{happens_out, happens_so}
+use Rattle.sc_thread_drive.specs.CompanyRows.{RowEnds}
+use Rattle.sc_thread_drive.proofs.CompanyActs.{happens_out, happens_so}
 use Rattle.sc_thread_drive.proofs.actor_lines.happen.Goals as goal
 
 pub returns-in_default : goal.returns-in_default

@@ -1,11 +1,11 @@
 use Rattle.std.proofs.Common.{rules, ◌≡◌, set, get_or, refl, ◌∙◌, subst}
 use Rattle.sc_thread_workers.specs.Crews.{AreStill}
-use Rattle.sc_thread_workers.proofs.Lists.{get_any}
+use Rattle.sc_thread_workers.proofs.ChangedLists.{get_any}
 use Rattle.sc_thread_drive.specs.Acts.{MetAndTook}
 use Rattle.sc_thread_drive.proofs.ActRows.{turn_leaves}
 use Rattle.sc_thread_drive.proofs.OneActed.{length_set}
 use Rattle.sc_thread_drive.proofs.OneMet.{others_met}
-use Rattle.sc_thread_drive.proofs.Kept.{all_of_acted, kept_acted, sound_after_turn}
+use Rattle.sc_thread_drive.proofs.GatheredExchange.{all_of_acted, kept_acted, sound_after_turn}
 use Rattle.sc_thread_drive.proofs.acts.act_by_turn.Goals as goal
 use Rattle.sc_thread_ports.proofs.ExchangeProofs.Knowing.{looked_trans, stays_trans}
 

@@ -1,10 +1,10 @@
 use Rattle.std.proofs.Common.{refl, subst}
 use Rattle.sc_thread_workers.specs.declared.answers.Rounds.TheVariants.{Quiet, Limit, Full}
 use Rattle.sc_thread_workers.specs.Crews.{crew_numbers}
-use Rattle.sc_thread_workers.specs.Ends.{IsEnd}
+use Rattle.sc_thread_workers.specs.RoundEnds.{IsEnd}
 use Rattle.sc_thread_workers.proofs.Crews.{all_of_on, still_sound}
 use Rattle.sc_thread_drive.proofs.FreeSteps.{frees_quiet, frees_cut, frees_full}
-use Rattle.sc_thread_drive.proofs.Kept.{kept_gone}
+use Rattle.sc_thread_drive.proofs.GatheredExchange.{kept_gone}
 use Rattle.sc_thread_drive.proofs.free_lines.run_free.Goals as goal
 
 pub returns-in-Quiet-clause-goes : goal.returns-in-Quiet-clause-goes

@@ -1,6 +1,6 @@
 use Rattle.std.proofs.Common.{refl}
 use Rattle.sc_thread_drive.proofs.NetworkKept.{changes_all_of}
-use Rattle.sc_thread_drive.proofs.Working.{network_acts}
+use Rattle.sc_thread_drive.proofs.CompanyActs.{network_acts}
 use Rattle.sc_thread_drive.proofs.network_lines.change.Goals as goal
 
 pub returns : goal.returns

@@ -1,7 +1,7 @@
 use Rattle.std.proofs.Common.{rules, ◌≡◌, ◌∙◌, refl, sym, subst, None}
 use Rattle.sc_thread_drive.specs.Stepping.{IsPlace, IsNowhere}
 use Rattle.sc_thread_drive.proofs.NetworkKept.{looked_crew}
-use Rattle.sc_thread_drive.proofs.Working.{loses_nothing, loses_out, loses_row, loses_zero}
+use Rattle.sc_thread_drive.proofs.CompanyActs.{loses_nothing, loses_out, loses_row, loses_zero}
 use Rattle.sc_thread_drive.proofs.network_lines.lose.Goals as goal
 use Rattle.sc_thread_workers.proofs.Crews.{all_of_later}
 

@@ -3,12 +3,12 @@ use Rattle.std.specs.Prelude.{is_none}
 use Rattle.std.proofs.lemmas.List.Elements.{Contains-get_or}
 use Rattle.sc_actor.specs.declared.schedules.Line.TheVariants.{Go as GoLine}
 use Rattle.sc_actor.specs.System.{system}
-use Rattle.sc_texts.specs.chance.Words.{two_words}
+use Rattle.sc_texts.specs.chance.KeyStream.{two_words}
 use Rattle.sc_thread_ports.specs.exchange.Ports.{seen}
 use Rattle.sc_thread_drive.proofs.Crashes.{never_crashed}
 use Rattle.sc_thread_drive.specs.Goings.{HasEnded}
 use Rattle.sc_thread_drive.proofs.Births.{company_born, nothing_seen}
-use Rattle.sc_thread_drive.proofs.Kept.{kept_then, on_gathered, on_then, together_on}
+use Rattle.sc_thread_drive.proofs.GatheredExchange.{kept_then, on_gathered, on_then, together_on}
 use Rattle.sc_thread_drive.proofs.WholeSchedules.{drive_begins, drive_on, drive_fills, drive_ends}
 use Rattle.sc_thread_workers.proofs.Crews.{stays_same}
 use Rattle.sc_thread_drive.proofs.schedules.drive.Goals as goal

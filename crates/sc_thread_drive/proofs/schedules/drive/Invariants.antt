@@ -2,9 +2,9 @@ use Rattle.std.proofs.Common.{List, drop}
 use Rattle.std.specs.List.{flat_map}
 use Rattle.sc_actor.specs.declared.actors.Seat.{Seat}
 use Rattle.sc_actor.specs.Walk.{tasks_of}
-use Rattle.sc_texts.specs.chance.Words.{two_words}
+use Rattle.sc_texts.specs.chance.KeyStream.{two_words}
 use Rattle.sc_thread_drive.specs.Goings.{HasReached, IsOn}
-use Rattle.sc_thread_drive.specs.Working.{HasOpened}
+use Rattle.sc_thread_drive.specs.CompanyRows.{HasOpened}
 use Rattle.sc_thread_drive.proofs.schedules.drive.Given as goal
 
 abbrev pub invariant-loop-line : goal.invariant-loop-line

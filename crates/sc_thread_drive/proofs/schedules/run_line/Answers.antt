@@ -1,5 +1,5 @@
 use Rattle.sc_actor.proofs.TaskLemmas.{one_of}
-use Rattle.sc_texts.specs.chance.Words.{two_words}
+use Rattle.sc_texts.specs.chance.KeyStream.{two_words}
 use Rattle.sc_thread_drive.proofs.SingleSteps.{calm_else}
 use Rattle.sc_thread_drive.proofs.schedules.run_line.Goals as goal
 

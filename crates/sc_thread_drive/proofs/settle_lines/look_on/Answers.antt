@@ -7,7 +7,7 @@ use Rattle.sc_thread_workers.proofs.Serving.{numbers_go}
 use Rattle.sc_thread_drive.specs.Lowest.{IsFirstPlaced}
 use Rattle.sc_thread_drive.proofs.Companies.{company_still}
 use Rattle.sc_thread_drive.proofs.FirstCopies.{finds_spots}
-use Rattle.sc_thread_drive.proofs.Kept.{on_gathered}
+use Rattle.sc_thread_drive.proofs.GatheredExchange.{on_gathered}
 use Rattle.sc_thread_drive.proofs.settle_lines.look_on.Goals as goal
 
 pub gather-requires-clause-exchange : goal.gather-requires-clause-exchange

@@ -1,6 +1,6 @@
 use Rattle.std.proofs.Common.{refl}
 use Rattle.std.proofs.lemmas.Result.{IfOk-weaker}
-use Rattle.sc_thread_drive.proofs.Working.{found_then, rested, together_rested}
+use Rattle.sc_thread_drive.proofs.CompanyActs.{found_then, rested, together_rested}
 use Rattle.sc_thread_drive.proofs.settle_lines.lowest.Goals as goal
 
 pub placed-requires-clause-together : goal.placed-requires-clause-together

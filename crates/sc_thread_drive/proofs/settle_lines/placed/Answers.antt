@@ -2,7 +2,7 @@ use Rattle.std.proofs.Common.{rules, ◌≡◌, None, Some, sym, subst}
 use Rattle.sc_thread_drive.specs.Lowest.{IsReceiverAt}
 use Rattle.sc_thread_drive.specs.Stepping.{IsNowhere, IsPlace}
 use Rattle.sc_thread_drive.proofs.LowestMail.{finds_so}
-use Rattle.sc_thread_drive.proofs.Working.{rested_same}
+use Rattle.sc_thread_drive.proofs.CompanyActs.{rested_same}
 use Rattle.sc_thread_drive.proofs.settle_lines.placed.Goals as goal
 
 pub returns-in_default-clause-found : goal.returns-in_default-clause-found

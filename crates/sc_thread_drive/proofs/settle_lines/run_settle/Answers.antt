@@ -4,7 +4,7 @@ use Rattle.sc_thread_ledger.specs.declared.errors.PostError.{PostError}
 use Rattle.sc_thread_ledger.specs.declared.errors.PostError.TheVariants.{JournalFull}
 use Rattle.sc_thread_drive.specs.Lowest.{FindsLowest}
 use Rattle.sc_thread_drive.proofs.Settled.{cut_settles, line_refused_then, line_rested, line_then, quiet_settles, together_after}
-use Rattle.sc_thread_drive.proofs.Working.{same_stop}
+use Rattle.sc_thread_drive.proofs.CompanyActs.{same_stop}
 use Rattle.sc_thread_drive.proofs.settle_lines.run_settle.Goals as goal
 
 pub loop-found-init : goal.loop-found-init

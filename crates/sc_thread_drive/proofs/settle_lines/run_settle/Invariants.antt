@@ -1,7 +1,7 @@
 use Rattle.std.proofs.Common.{[], ◌∷◌}
 use Rattle.sc_actor.specs.Walk.{Settles}
 use Rattle.sc_thread_drive.specs.Lowest.{FindsLowest}
-use Rattle.sc_thread_drive.specs.Working.{IsStaffed, LineEnded}
+use Rattle.sc_thread_drive.specs.CompanyRows.{IsStaffed, LineEnded}
 use Rattle.sc_thread_drive.proofs.settle_lines.run_settle.Given as goal
 
 abbrev pub invariant-loop-found : goal.invariant-loop-found

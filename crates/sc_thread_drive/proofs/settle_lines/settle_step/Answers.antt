@@ -1,6 +1,6 @@
 use Rattle.std.proofs.Common.{inl, inr, subst}
 use Rattle.sc_thread_drive.specs.Acts.{AfterTurn}
-use Rattle.sc_thread_drive.specs.Working.{ActedByTurn}
+use Rattle.sc_thread_drive.specs.CompanyRows.{ActedByTurn}
 use Rattle.sc_thread_drive.proofs.SettleSteps.{never_empty, never_spent}
 use Rattle.sc_thread_drive.proofs.Settled.{full_settles, served_together, settled_one}
 use Rattle.sc_thread_drive.proofs.settle_lines.settle_step.Goals as goal

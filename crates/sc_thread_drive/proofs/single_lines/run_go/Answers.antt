@@ -3,9 +3,9 @@ use Rattle.std.proofs.lemmas.Result.{on_ok_weaker}
 use Rattle.sc_actor.specs.System.{acts}
 use Rattle.sc_actor.specs.declared.rows.Event.TheVariants.{Go}
 use Rattle.sc_thread_drive.specs.Numbers.{is_in}
-use Rattle.sc_thread_drive.specs.Working.{RowEnded}
+use Rattle.sc_thread_drive.specs.CompanyRows.{RowEnded}
 use Rattle.sc_thread_drive.proofs.Singles.{go_made, go_refused, go_skipped}
-use Rattle.sc_thread_drive.proofs.Working.{same_stop}
+use Rattle.sc_thread_drive.proofs.CompanyActs.{same_stop}
 use Rattle.sc_thread_drive.proofs.single_lines.run_go.Goals as goal
 
 pub returns-in_err-go-clause-fills : goal.returns-in_err-go-clause-fills

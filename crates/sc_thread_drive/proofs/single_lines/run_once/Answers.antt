@@ -1,9 +1,9 @@
 use Rattle.std.proofs.Common.{subst}
 use Rattle.std.proofs.lemmas.Result.{on_ok_weaker}
 use Rattle.sc_actor.specs.Walk.{line_row}
-use Rattle.sc_thread_drive.specs.Working.{RowEnded}
+use Rattle.sc_thread_drive.specs.CompanyRows.{RowEnded}
 use Rattle.sc_thread_drive.proofs.Singles.{once_made, once_refused, once_skipped}
-use Rattle.sc_thread_drive.proofs.Working.{same_stop}
+use Rattle.sc_thread_drive.proofs.CompanyActs.{same_stop}
 use Rattle.sc_thread_drive.proofs.single_lines.run_once.Goals as goal
 
 pub returns-then-branch-clause-goes : goal.returns-then-branch-clause-goes

@@ -16,4 +16,4 @@ pub returns-in-Crash : goal.returns-in-Crash
 returns-in-Crash g c = rw c.in-Crash.is c.happen-in-Crash.ensures
 
 pub returns-in-Told : goal.returns-in-Told
-returns-in-Told g c = rw c.in-Told.is c.tell.ensures
+returns-in-Told g c = rw c.in-Told.is c.give_order.ensures

@@ -2,8 +2,8 @@ use Rattle.std.proofs.Common.{rules, ◌≡◌, [], ◌∷◌, ◌++◌, length,
 use Rattle.std.proofs.lemmas.List.{map-id}
 use Rattle.std.proofs.lemmas.Iterator.Adapters.{YieldsList-from_vec}
 use Rattle.std.proofs.lemmas.Iterator.Consumers.{YieldsList-so_far, YieldsList-turn, YieldsList-end}
-use Rattle.sc_thread_drive.specs.Ends.{Seated}
-use Rattle.sc_thread_drive.proofs.Seats.{Begun, not_given, begun_more, at_birth}
+use Rattle.sc_thread_drive.specs.ExchangeStarts.{Seated}
+use Rattle.sc_thread_drive.proofs.SeatsAtStart.{Begun, not_given, begun_more, at_birth}
 use Rattle.sc_thread_drive.proofs.start.open.Goals as goal
 
 pub seat_one-requires-clause-fresh : goal.seat_one-requires-clause-fresh

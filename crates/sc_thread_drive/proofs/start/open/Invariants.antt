@@ -1,4 +1,4 @@
-use Rattle.sc_thread_drive.proofs.Seats.{Begun}
+use Rattle.sc_thread_drive.proofs.SeatsAtStart.{Begun}
 use Rattle.sc_thread_drive.proofs.start.open.Given as goal
 
 -- the shells of the seats so far

@@ -2,7 +2,7 @@ use Rattle.std.proofs.Common.{Option, refl, subst}
 use Rattle.std.specs.Prelude.{IfSome}
 use Rattle.sc_actor.specs.declared.schedules.Line.{Line}
 use Rattle.sc_thread_drive.specs.Goings.{IsCalm}
-use Rattle.sc_thread_drive.proofs.Kept.{on_same}
+use Rattle.sc_thread_drive.proofs.GatheredExchange.{on_same}
 use Rattle.sc_thread_drive.proofs.storm_lines.run_deed.Goals as goal
 
 pub step_line-requires-clause-calm : goal.step_line-requires-clause-calm

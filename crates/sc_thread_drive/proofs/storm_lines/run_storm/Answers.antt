@@ -1,13 +1,13 @@
 use Rattle.std.proofs.Common.{◌≡◌, ◌+◌, ◌<◌, ◌-◌, ◌^◌, Err, [], ◌∷◌, sym, ◌∙◌, ap, subst, arith, mod-eq_of_lt}
 use Rattle.sc_actor.specs.Walk.{Storms, storm_steps}
-use Rattle.sc_texts.specs.chance.Words.{ChanceStep, two_words, after_step}
+use Rattle.sc_texts.specs.chance.KeyStream.{ChanceStep, two_words, after_step}
 use Rattle.sc_thread_workers.specs.Crews.{crew_numbers}
 use Rattle.sc_thread_ledger.specs.declared.errors.PostError.TheVariants.{JournalFull}
-use Rattle.sc_thread_drive.specs.Working.{LineEnded, LineRefused}
-use Rattle.sc_thread_drive.proofs.Kept.{kept_then, on_same, on_then}
+use Rattle.sc_thread_drive.specs.CompanyRows.{LineEnded, LineRefused}
+use Rattle.sc_thread_drive.proofs.GatheredExchange.{kept_then, on_same, on_then}
 use Rattle.sc_thread_drive.proofs.Settled.{together_after}
 use Rattle.sc_thread_drive.proofs.StormSteps.{storm_begins, storm_goes, storm_fills, storm_ends}
-use Rattle.sc_thread_drive.proofs.Working.{same_stop}
+use Rattle.sc_thread_drive.proofs.CompanyActs.{same_stop}
 use Rattle.sc_thread_drive.proofs.storm_lines.run_storm.Goals as goal
 
 pub loop-done-init : goal.loop-done-init

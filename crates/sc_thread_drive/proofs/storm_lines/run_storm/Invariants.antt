@@ -1,7 +1,7 @@
 use Rattle.std.proofs.Common.{◌≡◌, ◌-◌}
 use Rattle.sc_actor.specs.Walk.{storm_steps}
-use Rattle.sc_texts.specs.chance.Words.{two_words}
-use Rattle.sc_thread_drive.specs.Working.{LineEnded}
+use Rattle.sc_texts.specs.chance.KeyStream.{two_words}
+use Rattle.sc_thread_drive.specs.CompanyRows.{LineEnded}
 use Rattle.sc_thread_drive.proofs.storm_lines.run_storm.Given as goal
 
 abbrev pub invariant-loop-done : goal.invariant-loop-done

@@ -4,7 +4,7 @@ use Rattle.sc_thread_ports.specs.exchange.Ports.{seen}
 use Rattle.sc_thread_ports.specs.exchange.Answers.{IsLook}
 use Rattle.sc_thread_ports.proofs.ExchangeProofs.Knowing.{looked_trans}
 use Rattle.sc_actor.specs.Mail.{mails}
-use Rattle.sc_texts.specs.chance.Words.{two_words}
+use Rattle.sc_texts.specs.chance.KeyStream.{two_words}
 use Rattle.sc_thread_ledger.specs.declared.spots.Look.{Look}
 use Rattle.sc_thread_ledger.specs.Spots.{spots_of}
 use Rattle.sc_thread_pool.specs.storm.Deeds.{deed_of, deed_line}
@@ -14,7 +14,7 @@ use Rattle.sc_thread_drive.specs.Goings.{IsCalm}
 use Rattle.sc_thread_drive.specs.Storming.{IsStormLine}
 use Rattle.sc_thread_drive.proofs.Companies.{company_still}
 use Rattle.sc_thread_drive.proofs.FirstCopies.{nothing_more}
-use Rattle.sc_thread_drive.proofs.Kept.{on_gathered}
+use Rattle.sc_thread_drive.proofs.GatheredExchange.{on_gathered}
 use Rattle.sc_thread_drive.proofs.StormSteps.{calm_deed, storm_line_is}
 use Rattle.sc_thread_drive.proofs.storm_lines.storm_line.Goals as goal
 

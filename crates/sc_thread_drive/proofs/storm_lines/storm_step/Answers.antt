@@ -1,6 +1,6 @@
-use Rattle.sc_texts.specs.chance.Words.{two_words}
+use Rattle.sc_texts.specs.chance.KeyStream.{two_words}
 use Rattle.sc_thread_drive.proofs.Singles.{storm_ended, storm_refused}
-use Rattle.sc_thread_drive.proofs.Working.{same_stop, together_rested}
+use Rattle.sc_thread_drive.proofs.CompanyActs.{same_stop, together_rested}
 use Rattle.sc_thread_drive.proofs.storm_lines.storm_step.Goals as goal
 
 pub run_deed-requires-clause-together : goal.run_deed-requires-clause-together

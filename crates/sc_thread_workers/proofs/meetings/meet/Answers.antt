@@ -1,6 +1,6 @@
 use Rattle.std.proofs.Common.{rules, ◌≡◌, length, sym, subst}
 use Rattle.sc_thread_workers.specs.Crews.{AreStill, HaveMet}
-use Rattle.sc_thread_workers.proofs.Lists.{whole_slice}
+use Rattle.sc_thread_workers.proofs.ChangedLists.{whole_slice}
 use Rattle.sc_thread_workers.proofs.meetings.meet.Goals as goal
 
 pub returns-clause-still : goal.returns-clause-still

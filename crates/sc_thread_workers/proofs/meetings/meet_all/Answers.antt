@@ -1,7 +1,7 @@
 use Rattle.std.proofs.Common.{rules, arith, get_or, subst, sym}
 use Rattle.sc_thread_ports.specs.exchange.Ports.{SameExchange}
 use Rattle.sc_thread_workers.specs.Crews.{Still, Met, HasMet, IsAhead}
-use Rattle.sc_thread_workers.proofs.Lists.{changed_more, left_more, item_was}
+use Rattle.sc_thread_workers.proofs.ChangedLists.{changed_more, left_more, item_was}
 use Rattle.sc_thread_workers.proofs.Crews.{has_later, ahead_before, of_later, all_partly, still_same}
 use Rattle.sc_thread_workers.proofs.meetings.meet_all.Goals as goal
 use Rattle.sc_thread_ports.proofs.ExchangeProofs.Knowing.{looked_trans}

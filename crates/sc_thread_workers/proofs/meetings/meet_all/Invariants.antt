@@ -1,7 +1,7 @@
 use Rattle.std.proofs.Common.{ℕ, ◌<◌, slice_index_or}
 use Rattle.sc_thread_ports.specs.exchange.Ports.{Looked}
 use Rattle.sc_thread_workers.specs.Crews.{Still, HasMet, IsAhead}
-use Rattle.sc_thread_workers.proofs.Lists.{AllBelow, IsLeft}
+use Rattle.sc_thread_workers.proofs.ChangedLists.{AllBelow, IsLeft}
 use Rattle.sc_thread_workers.proofs.meetings.meet_all.Given as goal
 
 -- the shells before the index have met the port, and the others are as they were

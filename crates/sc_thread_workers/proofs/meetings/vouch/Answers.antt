@@ -1,6 +1,6 @@
 use Rattle.std.proofs.Common.{rules, ◌≡◌, length, sym, subst}
 use Rattle.sc_thread_workers.specs.Crews.{AllMet, AreStill, HaveVouched}
-use Rattle.sc_thread_workers.proofs.Lists.{whole_slice}
+use Rattle.sc_thread_workers.proofs.ChangedLists.{whole_slice}
 use Rattle.sc_thread_workers.proofs.meetings.vouch.Goals as goal
 
 pub vouch_all-requires-clause-met : goal.vouch_all-requires-clause-met

@@ -1,7 +1,7 @@
 use Rattle.std.proofs.Common.{ℕ, ◌<◌, ◌≡◌, slice_index_or}
 use Rattle.sc_thread_ports.specs.exchange.Ports.{Looked, seen}
 use Rattle.sc_thread_workers.specs.Crews.{Still, IsOver}
-use Rattle.sc_thread_workers.proofs.Lists.{AllBelow, IsLeft}
+use Rattle.sc_thread_workers.proofs.ChangedLists.{AllBelow, IsLeft}
 use Rattle.sc_thread_workers.proofs.meetings.vouch_all.Given as goal
 
 -- the shells before the index have vouched for what the port has seen, and the others are as they were

@@ -1,7 +1,7 @@
 use Rattle.std.proofs.Common.{rules, ◌≡◌, ◌<◌, ◌≤◌, ◌*◌, arith, length, ap, sym, subst, ◌∙◌}
 use Rattle.sc_thread_work.specs.queue.Hands.{IsWorkedOff, known}
 use Rattle.sc_thread_workers.specs.Phases.{AllServed}
-use Rattle.sc_thread_workers.proofs.Holding.{one_holder}
+use Rattle.sc_thread_workers.proofs.HeldShells.{one_holder}
 use Rattle.sc_thread_workers.proofs.Phasing.{most_served, phase_played}
 use Rattle.sc_thread_workers.proofs.phases.phase.Goals as goal
 

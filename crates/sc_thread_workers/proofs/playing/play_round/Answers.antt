@@ -1,8 +1,8 @@
 use Rattle.std.proofs.Common.{rules, inr, ◌≡◌, ◌+◌, ◌-◌, ◌*◌, ◌≤◌, sum_by, sym, ap, ◌∙◌, subst, length, arith}
 use Rattle.sc_thread_workers.specs.Crews.{did, rows_made, HasPlayed}
 use Rattle.sc_thread_workers.proofs.Crews.{took_rows, took_short}
-use Rattle.sc_thread_workers.proofs.Working.{all_passed_worked}
-use Rattle.sc_thread_workers.proofs.Lists.{whole_slice}
+use Rattle.sc_thread_workers.proofs.ShellTurns.{all_passed_worked}
+use Rattle.sc_thread_workers.proofs.ChangedLists.{whole_slice}
 use Rattle.sc_thread_workers.proofs.playing.play_round.Goals as goal
 
 pub returns-then-is_empty-clause-played : goal.returns-then-is_empty-clause-played

@@ -1,6 +1,6 @@
 use Rattle.std.proofs.Common.{rules, ◌≡◌, ℕ, ◌+◌, Option, None, Some, ◌∙◌, sym, subst, arith}
 use Rattle.sc_thread_workers.specs.Crews.{crew_numbers, rows_made, AllSound, AreLater}
-use Rattle.sc_thread_workers.specs.Ends.{CanBegin, IsGathered, HasRefusedShell, IfHeld, IfCalm}
+use Rattle.sc_thread_workers.specs.RoundEnds.{CanBegin, IsGathered, HasRefusedShell, IfHeld, IfCalm}
 use Rattle.sc_thread_workers.specs.Services.{AllServe}
 use Rattle.sc_thread_workers.specs.declared.answers.Rounds.{Rounds}
 use Rattle.sc_thread_workers.specs.declared.answers.Rounds.TheVariants.{OutOfMemory}

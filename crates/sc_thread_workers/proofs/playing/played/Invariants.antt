@@ -1,7 +1,7 @@
 use Rattle.std.proofs.Common.{◌≡◌, ◌<◌, ◌+◌, ◌-◌}
 use Rattle.sc_thread_work.specs.lend.Offices.{IsLenderOf}
 use Rattle.sc_thread_workers.specs.Crews.{AllSound, AreLater, rows_made}
-use Rattle.sc_thread_workers.specs.Ends.{CanBegin}
+use Rattle.sc_thread_workers.specs.RoundEnds.{CanBegin}
 use Rattle.sc_thread_workers.specs.Services.{AllServe}
 use Rattle.sc_thread_workers.proofs.playing.played.Given as goal
 

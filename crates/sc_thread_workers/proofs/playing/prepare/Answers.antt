@@ -1,7 +1,7 @@
 use Rattle.std.proofs.Common.{rules, ◌≡◌, true, false, refl, ap, ◌∙◌, arith}
 use Rattle.std.specs.List.{list_any}
 use Rattle.sc_thread_workers.specs.Crews.{HaveMet}
-use Rattle.sc_thread_workers.specs.Ends.{any_waits}
+use Rattle.sc_thread_workers.specs.RoundEnds.{any_waits}
 use Rattle.sc_thread_workers.proofs.Crews.{all_met_later, all_of_on, are_still_looked, are_still_then, still_later}
 use Rattle.sc_thread_workers.proofs.Ending.{any_found, gathered_so, waits_same}
 use Rattle.sc_thread_workers.proofs.playing.prepare.Goals as goal

@@ -1,8 +1,8 @@
 use Rattle.std.proofs.Common.{rules, Some, ◌≡◌, ◌+◌, ◌-◌, ◌∙◌, subst, arith}
 use Rattle.sc_thread_workers.specs.Crews.{HasRefusal, AllSound, AllAhead, rows_made}
-use Rattle.sc_thread_workers.specs.Ends.{IsGathered, CanBegin}
+use Rattle.sc_thread_workers.specs.RoundEnds.{IsGathered, CanBegin}
 use Rattle.sc_thread_workers.proofs.Crews.{all_go_trans, all_of_go, all_of_later, all_of_on, later_then, still_all_go, still_later, still_rows, still_sound}
-use Rattle.sc_thread_workers.proofs.Working.{later_worked, worked_all_go}
+use Rattle.sc_thread_workers.proofs.ShellTurns.{later_worked, worked_all_go}
 use Rattle.sc_thread_workers.proofs.Refusing.{full_so, full_from}
 use Rattle.sc_thread_workers.proofs.Serving.{delivers_one}
 use Rattle.sc_thread_workers.proofs.Attending.{round_serves}

@@ -1,7 +1,7 @@
 use Rattle.std.proofs.Common.{rules, ◌≡◌, ◌<◌, ◌≤◌, ◌+◌, true, false, arith, length, ap, ◌∙◌}
 use Rattle.sc_thread_ports.specs.exchange.Ports.{made}
 use Rattle.sc_thread_workers.specs.Crews.{Took, Passed, Sound}
-use Rattle.sc_thread_workers.proofs.Lists.{changed_more, left_more, sum_set}
+use Rattle.sc_thread_workers.proofs.ChangedLists.{changed_more, left_more, sum_set}
 use Rattle.sc_thread_workers.proofs.Stopping.{took_all, stops_more, was_calm, short_so, less_more}
 use Rattle.sc_thread_workers.proofs.turns.in_order.Goals as goal
 

@@ -1,6 +1,6 @@
 use Rattle.std.proofs.Common.{ℕ, ◌<◌, ◌≤◌, ◌+◌, ◌≡◌, true, false, slice_index_or}
 use Rattle.sc_thread_workers.specs.Crews.{Passed, Sound, Took, HasStopped, rows_made}
-use Rattle.sc_thread_workers.proofs.Lists.{AllBelow, IsLeft}
+use Rattle.sc_thread_workers.proofs.ChangedLists.{AllBelow, IsLeft}
 use Rattle.sc_thread_workers.proofs.turns.in_order.Given as goal
 
 abbrev pub invariant-loop-shell : goal.invariant-loop-shell

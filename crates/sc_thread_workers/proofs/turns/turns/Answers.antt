@@ -1,6 +1,6 @@
 use Rattle.std.proofs.Common.{rules, arith}
 use Rattle.sc_thread_workers.specs.Crews.{Took}
-use Rattle.sc_thread_workers.proofs.Lists.{changed_more, left_more}
+use Rattle.sc_thread_workers.proofs.ChangedLists.{changed_more, left_more}
 use Rattle.sc_thread_workers.proofs.turns.turns.Goals as goal
 
 pub loop-shell-preserved : goal.loop-shell-preserved

@@ -1,5 +1,5 @@
 use Rattle.sc_thread_workers.specs.Crews.{Took}
-use Rattle.sc_thread_workers.proofs.Lists.{AllBelow, IsLeft}
+use Rattle.sc_thread_workers.proofs.ChangedLists.{AllBelow, IsLeft}
 use Rattle.sc_thread_workers.proofs.turns.turns.Given as goal
 
 -- the shells before the index took their turn, and the others are as they were

@@ -19,6 +19,6 @@ loop-mail-preserved c = record {
       ap (λ n. take n sent) one ∙ take-suc sent i c.mail-item.result (omega (arith, c.loop-mail-test.true)) ∙ ap (λ (x : Mail). take i sent ++ x ∷ []) (sym c.mail-item.is) in
       c.note.ensures.kept k (omega (arith, within, c.loop-mail.invariant.len))
       ∙ ap (λ (o : Option OrderResult). either o (reported_in_mail (k + 1) c.mail-item.result.body)) (c.loop-mail.invariant.kept k within)
-      ∙ either_assoc (get_or c.args.told.now k None) (reported_of (k + 1) (take i sent)) (reported_in_mail (k + 1) c.mail-item.result.body)
-      ∙ ap (either (get_or c.args.told.now k None)) (sym (told-last (k + 1) (take i sent) c.mail-item.result) ∙ sym (ap (reported_of (k + 1)) more));
+      ∙ either_assoc (get_or c.args.recorded.now k None) (reported_of (k + 1) (take i sent)) (reported_in_mail (k + 1) c.mail-item.result.body)
+      ∙ ap (either (get_or c.args.recorded.now k None)) (sym (told-last (k + 1) (take i sent) c.mail-item.result) ∙ sym (ap (reported_of (k + 1)) more));
 }

@@ -6,6 +6,6 @@ use Rattle.sc_world.proofs.orders.note_all.Given as goal
 -- what the mails so far report
 abbrev pub invariant-loop-mail : goal.invariant-loop-mail
 invariant-loop-mail l = record {
-  len : length l.told ≡ length l.initial.told;
-  kept : (k : ℕ) → k < length l.initial.told → get_or l.told k None ≡ either (get_or l.initial.told k None) (reported_of (k + 1) (take l.mail-index l.sent));
+  len : length l.recorded ≡ length l.initial.recorded;
+  kept : (k : ℕ) → k < length l.initial.recorded → get_or l.recorded k None ≡ either (get_or l.initial.recorded k None) (reported_of (k + 1) (take l.mail-index l.sent));
 }

@@ -7,6 +7,6 @@ use Rattle.sc_world.proofs.orders.note_rows.Given as goal
 -- what the rows so far report
 abbrev pub invariant-loop-row : goal.invariant-loop-row
 invariant-loop-row l = record {
-  len : length l.told ≡ length l.initial.told;
-  kept : (k : ℕ) → k < length l.initial.told → get_or l.told k None ≡ either (get_or l.initial.told k None) (reported_of (k + 1) (mails (take l.row-index l.rows)));
+  len : length l.recorded ≡ length l.initial.recorded;
+  kept : (k : ℕ) → k < length l.initial.recorded → get_or l.recorded k None ≡ either (get_or l.initial.recorded k None) (reported_of (k + 1) (mails (take l.row-index l.rows)));
 }

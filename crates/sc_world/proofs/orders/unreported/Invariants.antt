@@ -3,4 +3,4 @@ use Rattle.sc_world.proofs.orders.unreported.Given as goal
 
 -- as many as were pushed so far
 abbrev pub invariant-loop-number : goal.invariant-loop-number
-invariant-loop-number l = l.told.items ≡ replicate l._number None
+invariant-loop-number l = l.recorded.items ≡ replicate l._number None

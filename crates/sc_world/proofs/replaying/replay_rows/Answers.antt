@@ -1,6 +1,6 @@
 use Rattle.std.proofs.Common.{refl, subst}
 use Rattle.sc_world_replay.specs.Replays.{IsReplayed, IsBadRow, Leaves}
-use Rattle.sc_texts.specs.chance.Words.{two_words}
+use Rattle.sc_texts.specs.chance.KeyStream.{two_words}
 use Rattle.sc_meaning.specs.sound.Players.{as_nodes, system_of, schedule}
 use Rattle.sc_world.proofs.Held.{holds}
 use Rattle.sc_world.proofs.replaying.replay_rows.Goals as goal

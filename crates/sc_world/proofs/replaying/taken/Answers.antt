@@ -4,7 +4,7 @@ use Rattle.sc_words.specs.declared.commands.orders.OrderLine.{OrderLine}
 use Rattle.sc_actor.specs.declared.actors.Seat.{Seat}
 use Rattle.sc_actor.specs.declared.schedules.Line.{Line}
 use Rattle.sc_actor.specs.System.{are_apart, system}
-use Rattle.sc_texts.specs.chance.Words.{two_words}
+use Rattle.sc_texts.specs.chance.KeyStream.{two_words}
 use Rattle.sc_world_replay.specs.Replays.{IsReplayed}
 use Rattle.sc_meaning.specs.sound.Players.{Player, player_table, receiver_of, schedule}
 use Rattle.sc_world.proofs.replaying.taken.Goals as goal

@@ -1,4 +1,4 @@
-use Rattle.sc_world.proofs.Kept.{rings}
+use Rattle.sc_world.proofs.KeptMap.{rings}
 use Rattle.sc_world.proofs.shown.effective.Goals as goal
 
 pub store_world-requires : goal.store_world-requires

@@ -1,4 +1,4 @@
-use Rattle.sc_world.proofs.Kept.{rings}
+use Rattle.sc_world.proofs.KeptMap.{rings}
 use Rattle.sc_world.proofs.summing.sum_up.Goals as goal
 
 pub ring_of-requires : goal.ring_of-requires

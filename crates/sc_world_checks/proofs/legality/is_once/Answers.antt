@@ -1,5 +1,5 @@
 use Rattle.std.proofs.Common.{arith}
-use Rattle.sc_world_checks.proofs.Pairs.{twice, more_pairs}
+use Rattle.sc_world_checks.proofs.EntryNumbers.{twice, more_pairs}
 use Rattle.sc_world_checks.proofs.legality.is_once.Goals as goal
 
 pub returns-then-not-is_apart : goal.returns-then-not-is_apart

@@ -15,8 +15,8 @@ returns c =
     let kept : ℕ → List Acceptance = λ slot. listed_in (λ at. at.items) (get_by (nat_cmp slot) c.in_ok-index.index) in
     let no_log : c.new-log.result.items ≡ [] = search rules in
     let no_members : c.new-members.result.items ≡ [] = search rules in
-    let told =
+    let recorded =
     matches_first h c.args.base kept c.in_ok-found.found.items c.new-log.result.items c.new-members.result.items c.in_ok-state.state c.in_ok-behind.behind no_log no_members c.in_ok-found.ensures.found c.in_ok-index.ensures.index
     (c.in_ok-state.ensures ∙ ap group_of c.in_ok-one.ensures) (c.in_ok-behind.ensures ∙ ap group_of c.in_ok-other.ensures) in
-    let done = c.in_ok-_childless.ensures h told in
+    let done = c.in_ok-_childless.ensures h recorded in
     (known_is c.args.rows.now c.args.base _ done.0 done.1 done.2, done.1)

@@ -19,10 +19,10 @@ returns-then-slot-len c = λ calm rows after all is.
     let k = c.args.known.now in
     let h = accepts k.base.core.id rows in
     let kept : ℕ → List Acceptance = λ slot. listed_in (λ at. at.items) (get_by (nat_cmp slot) c.add.new.index) in
-    let told = one_more h k.base (kept_of k) kept k.log.items k.members.items k.state k.behind c.args.acceptance.now
+    let recorded = one_more h k.base (kept_of k) kept k.log.items k.members.items k.state k.behind c.args.acceptance.now
     (λ found indexed. subst (λ (a : Acceptance). IsIndexed kept (found ++ a ∷ [])) c.in_ok-dup.ensures (c.in_ok-add.ensures found indexed)) is.agrees
     (λ n v at got. absurd (omega (arith, at, slice_get_within k.log.items n v got, c.if-slot-len.true))) in
-    let done = c.in_ok-calm.ensures (step_of c.args.acceptance.now ∷ h) told in
+    let done = c.in_ok-calm.ensures (step_of c.args.acceptance.now ∷ h) recorded in
     stays_known rows after k _ (step_of c.args.acceptance.now ∷ h) done.1 all done.0 done.2 (done.3 calm)
 
 pub returns-then-slot-eq0 : goal.returns-then-slot-eq0
@@ -31,10 +31,10 @@ returns-then-slot-eq0 c = λ calm rows after all is.
     let h = accepts k.base.core.id rows in
     let a = c.args.acceptance.now in
     let kept : ℕ → List Acceptance = λ slot. listed_in (λ at. at.items) (get_by (nat_cmp slot) c.add.new.index) in
-    let told = one_more h k.base (kept_of k) kept k.log.items k.members.items k.state k.behind a
+    let recorded = one_more h k.base (kept_of k) kept k.log.items k.members.items k.state k.behind a
     (λ found indexed. subst (λ (x : Acceptance). IsIndexed kept (found ++ x ∷ [])) c.in_ok-dup.ensures (c.in_ok-add.ensures found indexed)) is.agrees
     (λ n v at got. absurd (omega (arith, at, c.if-slot-eq0.true))) in
-    stays_known rows after k _ (step_of a ∷ h) refl all told (ends_still (rule_of as_nodes k.base) a.node a.ballot a.slot a.command h k.log.items (omega (arith, c.if-slot-eq0.true)) is.ends) refl
+    stays_known rows after k _ (step_of a ∷ h) refl all recorded (ends_still (rule_of as_nodes k.base) a.node a.ballot a.slot a.command h k.log.items (omega (arith, c.if-slot-eq0.true)) is.ends) refl
 
 pub returns : goal.returns
 returns c = λ calm rows after all is.
@@ -43,6 +43,6 @@ returns c = λ calm rows after all is.
     let a = c.args.acceptance.now in
     let kept : ℕ → List Acceptance = λ slot. listed_in (λ at. at.items) (get_by (nat_cmp slot) c.add.new.index) in
     let index = λ (found : List Acceptance) (indexed : IsIndexed (kept_of k) found). subst (λ (x : Acceptance). IsIndexed kept (found ++ x ∷ [])) c.in_ok-dup.ensures (c.in_ok-add.ensures found indexed) in
-    let told = one_more h k.base (kept_of k) kept k.log.items k.members.items k.state k.behind a index is.agrees
+    let recorded = one_more h k.base (kept_of k) kept k.log.items k.members.items k.state k.behind a index is.agrees
     (still_chosen h k.base (kept_of k) kept k.log.items k.members.items k.state k.behind a index is.agrees (c.is_still_chosen.ensures calm)) in
-    stays_known rows after k _ (step_of a ∷ h) refl all told (ends_still (rule_of as_nodes k.base) a.node a.ballot a.slot a.command h k.log.items (omega (arith, c.if-slot-len.false)) is.ends) refl
+    stays_known rows after k _ (step_of a ∷ h) refl all recorded (ends_still (rule_of as_nodes k.base) a.node a.ballot a.slot a.command h k.log.items (omega (arith, c.if-slot-len.false)) is.ends) refl

@@ -1,7 +1,7 @@
 use Rattle.std.proofs.Common.{◌≡◌, ◌+◌, ◌++◌, [], ◌∷◌, cond, true, false, ◌∙◌, ap, sym, append-nil}
 use Rattle.sc_actor.specs.System.{numbers_of}
 use Rattle.sc_world_replay.specs.Opens.{copy_of, runs}
-use Rattle.sc_world_replay.proofs.Kept.{open_next}
+use Rattle.sc_world_replay.proofs.KeptStage.{open_next}
 use Rattle.sc_world_replay.proofs.appending.add_open.Goals as goal
 use Rattle.sc_world_replay.proofs.appending.add_open.Goals.{then-runs+in_ok-push, else-runs}
 

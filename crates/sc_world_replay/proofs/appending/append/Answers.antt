@@ -2,7 +2,7 @@ use Rattle.std.proofs.Common.{◌≡◌, ◌+◌, ◌++◌, length, replicate, �
 use Rattle.sc_actor.specs.Mail.{mails}
 use Rattle.sc_actor.specs.System.{numbers_of}
 use Rattle.sc_world_replay.specs.Opens.{opened, opens, runs}
-use Rattle.sc_world_replay.proofs.Kept.{kept-next}
+use Rattle.sc_world_replay.proofs.KeptStage.{kept-next}
 use Rattle.sc_world_replay.proofs.appending.append.Goals as goal
 
 pub returns-clause-kept : goal.returns-clause-kept

@@ -1,6 +1,6 @@
 use Rattle.sc_actor.proofs.TaskLemmas.{one_of}
 use Rattle.sc_world_replay.proofs.Checks.{no_row_next}
-use Rattle.sc_texts.specs.chance.Words.{two_words}
+use Rattle.sc_texts.specs.chance.KeyStream.{two_words}
 use Rattle.sc_world_replay.proofs.checking.check_line.Goals as goal
 
 pub returns-in-Settle-clause-is : goal.returns-in-Settle-clause-is

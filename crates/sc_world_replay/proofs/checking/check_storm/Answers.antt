@@ -2,7 +2,7 @@ use Rattle.std.proofs.Common.{◌≡◌, ◌+◌, ◌<◌, ◌^◌, [], ◌∷�
 use Rattle.std.specs.Prelude.{is_ok}
 use Rattle.std.proofs.lemmas.Bool.{false≢true}
 use Rattle.sc_actor.specs.Walk.{Storms}
-use Rattle.sc_texts.specs.chance.Words.{ChanceStep, two_words, after_step}
+use Rattle.sc_texts.specs.chance.KeyStream.{ChanceStep, two_words, after_step}
 use Rattle.sc_world_replay.specs.declared.checked.Checked.TheVariants.{On, Ended, Wrong}
 use Rattle.sc_world_replay.specs.Checks.{IsChecked}
 use Rattle.sc_world_replay.specs.Moves.{rules_of}

@@ -1,6 +1,6 @@
 use Rattle.std.proofs.Common.{◌≡◌, ◌-◌, length}
 use Rattle.sc_actor.specs.Walk.{storm_steps}
-use Rattle.sc_texts.specs.chance.Words.{two_words}
+use Rattle.sc_texts.specs.chance.KeyStream.{two_words}
 use Rattle.sc_world_replay.specs.Moves.{StageGoes, rules_of}
 use Rattle.sc_world_replay.specs.Checks.{IsTaking}
 use Rattle.sc_world_replay.proofs.checking.check_storm.Given as goal

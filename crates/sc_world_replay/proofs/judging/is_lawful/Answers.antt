@@ -2,7 +2,7 @@ use Rattle.std.proofs.Common.{subst, sym}
 use Rattle.std.specs.Prelude.{◌↔◌, IsTrue}
 use Rattle.sc_actor.specs.System.{system}
 use Rattle.sc_actor.specs.Walk.{IsLawful}
-use Rattle.sc_texts.specs.chance.Words.{two_words}
+use Rattle.sc_texts.specs.chance.KeyStream.{two_words}
 use Rattle.sc_world_replay.proofs.Judged.{judged}
 use Rattle.sc_world_replay.proofs.judging.is_lawful.Goals as goal
 

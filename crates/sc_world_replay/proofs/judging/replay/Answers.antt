@@ -4,7 +4,7 @@ use Rattle.sc_world_replay.specs.Checks.{IsChecked}
 use Rattle.sc_world_replay.specs.Moves.{rules_of, with_births}
 use Rattle.sc_world_replay.specs.Replays.{IsBadRow}
 use Rattle.sc_actor.specs.Walk.{tasks_of}
-use Rattle.sc_texts.specs.chance.Words.{two_words}
+use Rattle.sc_texts.specs.chance.KeyStream.{two_words}
 use Rattle.sc_world_replay.proofs.Checks.{taking_begin}
 use Rattle.sc_world_replay.proofs.Steps.{IsStageAt-begin, IsStageAt-line, IsStageAt-end}
 use Rattle.sc_world_replay.proofs.Judged.{judged_all, judged_ends, judged_breaks, late, leaves}

@@ -1,7 +1,7 @@
 use Rattle.std.proofs.Common.{◌≤◌, drop}
 use Rattle.std.specs.List.{flat_map}
 use Rattle.sc_actor.specs.Walk.{tasks_of}
-use Rattle.sc_texts.specs.chance.Words.{two_words}
+use Rattle.sc_texts.specs.chance.KeyStream.{two_words}
 use Rattle.sc_world_replay.specs.Checks.{IsTaking}
 use Rattle.sc_world_replay.specs.Moves.{IsStageAt, rules_of, with_births}
 use Rattle.sc_world_replay.proofs.judging.replay.Given as goal

@@ -1,7 +1,7 @@
 use Rattle.std.proofs.Common.{length, map, sym, ◌∙◌, ap}
 use Rattle.std.proofs.Math.ListN.{length-map}
 use Rattle.sc_actor.specs.System.{numbers_of}
-use Rattle.sc_world_replay.proofs.Kept.{pending-all}
+use Rattle.sc_world_replay.proofs.KeptStage.{pending-all}
 use Rattle.sc_world_replay.proofs.pending.count_pending.Goals as goal
 
 pub returns : goal.returns

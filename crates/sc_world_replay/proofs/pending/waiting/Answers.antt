@@ -1,7 +1,7 @@
 use Rattle.std.proofs.Common.{eqb, filter, map, sym, ◌∙◌, ap}
 use Rattle.sc_actor.specs.Mail.{pending}
 use Rattle.sc_actor.specs.System.{kth, numbers_of}
-use Rattle.sc_world_replay.proofs.Kept.{pending-all, pending-for, known-some}
+use Rattle.sc_world_replay.proofs.KeptStage.{pending-all, pending-for, known-some}
 use Rattle.sc_world_replay.proofs.pending.waiting.Goals as goal
 
 pub returns-in-None-clause-number : goal.returns-in-None-clause-number

@@ -3,7 +3,7 @@ use Rattle.std.specs.Prelude.{IfOk}
 use Rattle.serde_json.specs.Data.{Data}
 use Rattle.serde_json.specs.Written.{compact_text, has_float}
 use Rattle.sc_scenario.specs.report.Report.{with_line_feed}
-use Rattle.sc_explain.proofs.FactsProofs.Whole.{birth_whole}
+use Rattle.sc_explain.proofs.FactsProofs.PlainFacts.{birth_whole}
 use Rattle.sc_explain.proofs.facts.lines.birth_line.Goals as goal
 
 pub line_of-requires : goal.line_of-requires

@@ -1,4 +1,4 @@
-use Rattle.sc_json_write.proofs.Arrays.{array_full}
+use Rattle.sc_json_write.proofs.ListsAsArrays.{array_full}
 use Rattle.sc_explain.specs.facts.Facts.{cut_json}
 use Rattle.sc_explain.proofs.facts.lines.cuts_json.Goals as goal
 

@@ -8,8 +8,8 @@ pub returns-in-Ok : goal.returns-in-Ok
 returns-in-Ok c =
     MatchResult-weaker c.after_entry.result c.after_entry.ensures
     (λ more done. (
-      c.in-Ok.ensures.told.0,
-      done.0 ∙ ap (λ (effect : Option Effect). c.args.taken.lines.items ++ entry_line c.args.row c.args.entry.now effect ∷ []) c.in-Ok.ensures.told.1,
-      λ same. done.1 c.args.world.now c.in-Ok.ensures.told.0 c.in-Ok.ensures.told.1 same,
+      c.in-Ok.ensures.recorded.0,
+      done.0 ∙ ap (λ (effect : Option Effect). c.args.taken.lines.items ++ entry_line c.args.row c.args.entry.now effect ∷ []) c.in-Ok.ensures.recorded.1,
+      λ same. done.1 c.args.world.now c.in-Ok.ensures.recorded.0 c.in-Ok.ensures.recorded.1 same,
     ))
     (λ error never is arcs. never is)

@@ -1,6 +1,6 @@
 use Rattle.std.proofs.Common.{◌∙◌, ap}
 use Rattle.serde_json.specs.Written.{has_float}
-use Rattle.sc_explain.proofs.TextsProofs.Whole.{command_whole}
+use Rattle.sc_explain.proofs.TextsProofs.PlainCommands.{command_whole}
 use Rattle.sc_explain.proofs.texts.commands.by_json.Goals as goal
 
 pub add_json-requires : goal.add_json-requires

@@ -1,6 +1,6 @@
 use Rattle.std.proofs.Common.{◌∙◌, sym}
 use Rattle.std.proofs.lemmas.Option.{none-some}
-use Rattle.sc_group_parts.proofs.TransactionsProofs.Rising.{with_last, no_error}
+use Rattle.sc_group_parts.proofs.TransactionsProofs.RisingNodes.{with_last, no_error}
 use Rattle.sc_group_parts.proofs.transactions.splits.put_last.Goals as goal
 
 pub unreachable-requires : goal.unreachable-requires

@@ -1,6 +1,6 @@
 use Rattle.std.proofs.Common.{◌+◌, ◌∙◌, sym}
 use Rattle.std.proofs.lemmas.List.{take_more}
-use Rattle.sc_group_parts.proofs.TransactionsProofs.Rising.{earlier, place_after}
+use Rattle.sc_group_parts.proofs.TransactionsProofs.RisingNodes.{earlier, place_after}
 use Rattle.sc_group_parts.proofs.transactions.splits.set_of.Goals as goal
 
 pub put_last-requires-clause-above : goal.put_last-requires-clause-above

@@ -1,7 +1,7 @@
 use Rattle.std.proofs.Common.{◌∙◌, ap}
 use Rattle.sc_json_text.specs.rows.Sets.{client_json, clients_json}
 use Rattle.sc_json_text.specs.rows.Shapes.{list_json}
-use Rattle.sc_json_write.proofs.Arrays.{array_full}
+use Rattle.sc_json_write.proofs.ListsAsArrays.{array_full}
 use Rattle.sc_json_write.proofs.sets.OrderedU16NotedToJson.to_json.Goals as goal
 
 pub returns-clause-json : goal.returns-clause-json

@@ -2,7 +2,7 @@ use Rattle.std.proofs.Common.{[], ◌++◌, get_or, sym, subst, ◌∙◌, ap, a
 use Rattle.sc_node_table.specs.Node.{NodeState, replica_of, taken_by}
 use Rattle.sc_node_table.specs.Rows.{mailed}
 use Rattle.sc_node.specs.Places.{StandsAt}
-use Rattle.sc_node.specs.Idle.{IsPassedBy}
+use Rattle.sc_node.specs.PassedInputs.{IsPassedBy}
 use Rattle.sc_node.proofs.Standing.{taken-at}
 use Rattle.sc_node.proofs.Passing.{passed_childless, passed-at}
 use Rattle.sc_node.proofs.node.NodeCore.hand_over.Goals as goal

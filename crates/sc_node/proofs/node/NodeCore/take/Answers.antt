@@ -1,5 +1,5 @@
 use Rattle.std.proofs.Common.{subst}
-use Rattle.sc_node.specs.Idle.{IsPassedByOne}
+use Rattle.sc_node.specs.PassedInputs.{IsPassedByOne}
 use Rattle.sc_node.proofs.Standing.{taken-nowhere}
 use Rattle.sc_node.proofs.node.NodeCore.take.Goals as goal
 

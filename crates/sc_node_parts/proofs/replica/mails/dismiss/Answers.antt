@@ -1,5 +1,5 @@
 use Rattle.std.proofs.Common.{[], ◌∙◌}
-use Rattle.sc_node_parts.proofs.ReplicaProofs.Silence.{dismissed-unreported}
+use Rattle.sc_node_parts.proofs.ReplicaProofs.AppendedMail.{dismissed-unreported}
 use Rattle.sc_node_parts.proofs.replica.mails.dismiss.Goals as goal
 
 pub returns-in_default-clause-none : goal.returns-in_default-clause-none

@@ -1,5 +1,5 @@
 use Rattle.std.proofs.Common.{arith, length, ◌<◌, ◌∙◌}
-use Rattle.sc_node_parts.proofs.ReplicaProofs.Silence.{dismissed_all-none, dismissed_all-more}
+use Rattle.sc_node_parts.proofs.ReplicaProofs.AppendedMail.{dismissed_all-none, dismissed_all-more}
 use Rattle.sc_node_parts.proofs.replica.mails.dismiss_all.Goals as goal
 
 pub returns-in_err-dismiss-clause-none : goal.returns-in_err-dismiss-clause-none

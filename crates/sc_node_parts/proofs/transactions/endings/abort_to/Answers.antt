@@ -1,5 +1,5 @@
 use Rattle.std.proofs.Common.{[], ◌∙◌}
-use Rattle.sc_node_parts.proofs.ReplicaProofs.Silence.{sent_all-none}
+use Rattle.sc_node_parts.proofs.ReplicaProofs.AppendedMail.{sent_all-none}
 use Rattle.sc_node_parts.proofs.transactions.endings.abort_to.Goals as goal
 
 pub returns-clause-none : goal.returns-clause-none

@@ -1,5 +1,5 @@
 use Rattle.sc_words.specs.commands.Effects.{decided_in}
-use Rattle.sc_node_parts.proofs.TransactionsProofs.Silence.{given-none, is_decided}
+use Rattle.sc_node_parts.proofs.TransactionsProofs.SilentTransactions.{given-none, is_decided}
 use Rattle.sc_node_parts.proofs.transactions.endings.give_up.Goals as goal
 
 pub returns-in_err-abort_to-clause-none : goal.returns-in_err-abort_to-clause-none

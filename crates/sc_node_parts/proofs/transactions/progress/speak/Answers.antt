@@ -1,4 +1,4 @@
-use Rattle.sc_node_parts.proofs.TransactionsProofs.Silence.{spoken-none}
+use Rattle.sc_node_parts.proofs.TransactionsProofs.SilentTransactions.{spoken-none}
 use Rattle.sc_node_parts.proofs.transactions.progress.speak.Goals as goal
 
 pub returns-in_err-report_begun-clause-none : goal.returns-in_err-report_begun-clause-none

@@ -1,6 +1,6 @@
 use Rattle.std.proofs.Common.{[], ap, ◌∙◌}
 use Rattle.sc_words.specs.declared.commands.links.Link.{Link}
-use Rattle.sc_node_parts.proofs.ReplicaProofs.Silence.{sent_all-none}
+use Rattle.sc_node_parts.proofs.ReplicaProofs.AppendedMail.{sent_all-none}
 use Rattle.sc_node_parts.proofs.transactions.questions.ask_all.Goals as goal
 
 pub returns-clause-none : goal.returns-clause-none

@@ -1,6 +1,6 @@
 use Rattle.std.proofs.Common.{sym, ap, ◌∙◌}
 use Rattle.sc_words.specs.declared.commands.cores.Core.{Core}
-use Rattle.sc_node_parts.proofs.TransactionsProofs.Silence.{promised-none, watching-none}
+use Rattle.sc_node_parts.proofs.TransactionsProofs.SilentTransactions.{promised-none, watching-none}
 use Rattle.sc_node_parts.proofs.transactions.reminders.remind.Goals as goal
 
 pub returns-in-Promised-clause-none : goal.returns-in-Promised-clause-none

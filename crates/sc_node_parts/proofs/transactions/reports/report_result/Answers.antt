@@ -1,4 +1,4 @@
-use Rattle.sc_node_parts.proofs.TransactionsProofs.Silence.{reported-unreported}
+use Rattle.sc_node_parts.proofs.TransactionsProofs.SilentTransactions.{reported-unreported}
 use Rattle.sc_node_parts.proofs.transactions.reports.report_result.Goals as goal
 
 pub returns-in-Some-clause-none : goal.returns-in-Some-clause-none

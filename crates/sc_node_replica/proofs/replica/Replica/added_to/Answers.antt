@@ -2,7 +2,7 @@ use Rattle.std.proofs.Common.{◌≡◌, true, ℕ, List, All, sym, ap, ◌∙�
 use Rattle.sc_base.specs.Roster.{is_member}
 use Rattle.sc_words.specs.declared.commands.cores.Core.{Core}
 use Rattle.sc_node_table.specs.Replica.{ReplicaState, members}
-use Rattle.sc_node_parts.proofs.ReplicaProofs.Silence.{filter-none}
+use Rattle.sc_node_parts.proofs.ReplicaProofs.AppendedMail.{filter-none}
 use Rattle.sc_node_replica.proofs.replica.Replica.added_to.Goals as goal
 
 pub returns-clause-none : goal.returns-clause-none

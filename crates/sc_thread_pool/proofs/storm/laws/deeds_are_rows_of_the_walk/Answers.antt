@@ -1,5 +1,5 @@
 use Rattle.sc_actor.specs.System.{system}
-use Rattle.sc_thread_pool.proofs.StormProofs.Rows.{makes_its_row}
+use Rattle.sc_thread_pool.proofs.StormProofs.StormRows.{makes_its_row}
 use Rattle.sc_thread_pool.proofs.storm.laws.deeds_are_rows_of_the_walk.Goals as goal
 
 pub returns : goal.returns

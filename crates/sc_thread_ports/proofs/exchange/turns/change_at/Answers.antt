@@ -2,7 +2,7 @@ use Rattle.std.proofs.Common.{rules, ◌≡◌, sym, ap, ◌∙◌, true, false}
 use Rattle.sc_thread_ports.specs.turn.Definitions.{known}
 use Rattle.sc_thread_ports.specs.exchange.Definitions.{may_change, change, all_addressed}
 use Rattle.sc_thread_ports.proofs.ExchangeProofs.Views.{seen_same, seen_row, turned_same, changed, bytes_row}
-use Rattle.sc_thread_ports.proofs.ExchangeProofs.Seats.{seat_looked, seat_same, seat_row}
+use Rattle.sc_thread_ports.proofs.ExchangeProofs.SeatsAfterTurns.{seat_looked, seat_same, seat_row}
 use Rattle.std.proofs.Common.{[]}
 use Rattle.sc_thread_ports.proofs.ExchangeProofs.Addressing.{addressed_push, change_addressed}
 use Rattle.sc_thread_ports.proofs.exchange.turns.change_at.Goals as goal

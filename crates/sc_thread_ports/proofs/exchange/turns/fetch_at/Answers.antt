@@ -4,7 +4,7 @@ use Rattle.sc_thread_ledger.specs.Definitions.{kth_pending}
 use Rattle.sc_thread_ports.specs.exchange.Definitions.{rows_from, IsFetch}
 use Rattle.sc_thread_ports.proofs.ExchangeProofs.Results.{ok_maps}
 use Rattle.sc_thread_ports.proofs.ExchangeProofs.Views.{seen_same}
-use Rattle.sc_thread_ports.proofs.ExchangeProofs.Seats.{seat_looked}
+use Rattle.sc_thread_ports.proofs.ExchangeProofs.SeatsAfterTurns.{seat_looked}
 use Rattle.sc_thread_ports.proofs.exchange.turns.fetch_at.Goals as goal
 
 pub returns-clause-found : goal.returns-clause-found

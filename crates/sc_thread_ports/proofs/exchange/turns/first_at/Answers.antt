@@ -2,7 +2,7 @@ use Rattle.std.proofs.Common.{ap, sym, ◌∙◌, subst}
 use Rattle.sc_thread_ports.specs.turn.Definitions.{known}
 use Rattle.sc_thread_ports.specs.exchange.Definitions.{IsFirstTo}
 use Rattle.sc_thread_ports.proofs.ExchangeProofs.Views.{seen_same}
-use Rattle.sc_thread_ports.proofs.ExchangeProofs.Seats.{seat_looked}
+use Rattle.sc_thread_ports.proofs.ExchangeProofs.SeatsAfterTurns.{seat_looked}
 use Rattle.sc_thread_ports.proofs.exchange.turns.first_at.Goals as goal
 
 pub returns-clause-first : goal.returns-clause-first

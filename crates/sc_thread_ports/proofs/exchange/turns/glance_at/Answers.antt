@@ -3,7 +3,7 @@ use Rattle.sc_thread_ports.specs.turn.Definitions.{known}
 use Rattle.sc_thread_ports.specs.exchange.Definitions.{IsGlance}
 use Rattle.sc_thread_ports.proofs.ExchangeProofs.Results.{ok_maps}
 use Rattle.sc_thread_ports.proofs.ExchangeProofs.Views.{seen_same}
-use Rattle.sc_thread_ports.proofs.ExchangeProofs.Seats.{seat_looked}
+use Rattle.sc_thread_ports.proofs.ExchangeProofs.SeatsAfterTurns.{seat_looked}
 use Rattle.sc_thread_ports.proofs.exchange.turns.glance_at.Goals as goal
 
 pub returns-clause-glance : goal.returns-clause-glance

@@ -2,7 +2,7 @@ use Rattle.std.proofs.Common.{ap, sym, ◌∙◌}
 use Rattle.sc_thread_ports.specs.turn.Definitions.{known}
 use Rattle.sc_thread_ledger.specs.Definitions.{kth_pending}
 use Rattle.sc_thread_ports.proofs.ExchangeProofs.Views.{seen_same}
-use Rattle.sc_thread_ports.proofs.ExchangeProofs.Seats.{seat_looked}
+use Rattle.sc_thread_ports.proofs.ExchangeProofs.SeatsAfterTurns.{seat_looked}
 use Rattle.sc_thread_ports.proofs.exchange.turns.kth_at.Goals as goal
 
 pub returns-clause-kth : goal.returns-clause-kth

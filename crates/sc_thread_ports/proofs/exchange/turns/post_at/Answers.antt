@@ -4,7 +4,7 @@ use Rattle.sc_actor.specs.Definitions.{row_bytes, journal_bytes}
 use Rattle.sc_thread_ledger.specs.Definitions.{IsCause}
 use Rattle.sc_thread_ports.proofs.ExchangeProofs.Results.{ok_with, err_maps, either}
 use Rattle.sc_thread_ports.proofs.ExchangeProofs.Views.{seen_same, seen_row, turned_same, turned_row, bytes_row}
-use Rattle.sc_thread_ports.proofs.ExchangeProofs.Seats.{seat_looked, seat_same, seat_row}
+use Rattle.sc_thread_ports.proofs.ExchangeProofs.SeatsAfterTurns.{seat_looked, seat_same, seat_row}
 use Rattle.std.proofs.Common.{[]}
 use Rattle.sc_thread_ports.specs.exchange.Definitions.{all_addressed}
 use Rattle.sc_thread_ports.proofs.ExchangeProofs.Addressing.{addressed_push, addressed_found}

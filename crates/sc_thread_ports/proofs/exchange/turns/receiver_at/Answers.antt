@@ -3,7 +3,7 @@ use Rattle.sc_thread_ports.specs.turn.Definitions.{known}
 use Rattle.std.specs.Option.{option_map}
 use Rattle.sc_actor.specs.Definitions.{mails, numbered}
 use Rattle.sc_thread_ports.proofs.ExchangeProofs.Views.{seen_same}
-use Rattle.sc_thread_ports.proofs.ExchangeProofs.Seats.{seat_looked}
+use Rattle.sc_thread_ports.proofs.ExchangeProofs.SeatsAfterTurns.{seat_looked}
 use Rattle.sc_thread_ports.proofs.exchange.turns.receiver_at.Goals as goal
 
 pub returns-clause-receiver : goal.returns-clause-receiver

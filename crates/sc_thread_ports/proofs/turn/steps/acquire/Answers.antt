@@ -1,5 +1,5 @@
 use Rattle.std.proofs.Common.{rules, ap, ◌∙◌}
-use Rattle.sc_thread_ports.proofs.TurnProofs.Keeps.{acquires}
+use Rattle.sc_thread_ports.proofs.TurnProofs.KeptTurnRule.{acquires}
 use Rattle.sc_thread_ports.proofs.turn.steps.acquire.Goals as goal
 
 pub compare_exchange-requires : goal.compare_exchange-requires

@@ -1,5 +1,5 @@
 use Rattle.std.proofs.Common.{rules}
-use Rattle.sc_thread_ports.proofs.TurnProofs.Keeps.{reads}
+use Rattle.sc_thread_ports.proofs.TurnProofs.KeptTurnRule.{reads}
 use Rattle.sc_thread_ports.proofs.TurnProofs.Leaving.{counts_one}
 use Rattle.sc_thread_ports.proofs.turn.steps.count_row.Goals as goal
 

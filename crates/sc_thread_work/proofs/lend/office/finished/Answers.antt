@@ -1,5 +1,5 @@
 use Rattle.std.proofs.Common.{refl}
-use Rattle.sc_thread_work.proofs.LendProofs.Keeps.{finished_same, finished_now}
+use Rattle.sc_thread_work.proofs.LendProofs.KeptLendRule.{finished_same, finished_now}
 use Rattle.sc_thread_work.proofs.lend.office.finished.Goals as goal
 
 pub returns-then-loan : goal.returns-then-loan

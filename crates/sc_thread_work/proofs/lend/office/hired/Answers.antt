@@ -1,7 +1,7 @@
 use Rattle.std.proofs.Common.{subst, sym, rules, ◌∙◌, All}
 use Rattle.std.proofs.lemmas.List.Elements.{All-push}
 use Rattle.crossbeam_queue.specs.Passes.{IsPassOf}
-use Rattle.sc_thread_work.proofs.LendProofs.Keeps.{hires}
+use Rattle.sc_thread_work.proofs.LendProofs.KeptLendRule.{hires}
 use Rattle.sc_thread_work.proofs.lend.office.hired.Goals as goal
 
 pub another-requires-clause-rule : goal.another-requires-clause-rule

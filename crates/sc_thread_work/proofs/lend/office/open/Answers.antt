@@ -1,4 +1,4 @@
-use Rattle.sc_thread_work.proofs.LendProofs.Keeps.{begins}
+use Rattle.sc_thread_work.proofs.LendProofs.KeptLendRule.{begins}
 use Rattle.sc_thread_work.proofs.lend.office.open.Goals as goal
 
 pub ruled-requires-clause-rule : goal.ruled-requires-clause-rule

@@ -1,7 +1,7 @@
 use Rattle.std.proofs.Common.{◌≡◌, ◌∙◌, sym, ap, arith, length, [], ◌∷◌, Some, slice_set}
 use Rattle.std.proofs.lemmas.Iterator.Adapters.{YieldsList-from_vec}
 use Rattle.std.proofs.lemmas.Iterator.Consumers.{YieldsList-turn}
-use Rattle.sc_thread_work.proofs.QueueProofs.Keeps.{filled_append, filled_length, inside_at}
+use Rattle.sc_thread_work.proofs.QueueProofs.KeptQueueRule.{filled_append, filled_length, inside_at}
 use Rattle.sc_thread_work.proofs.queue.hands.fill.Goals as goal
 
 pub keep-requires : goal.keep-requires

@@ -1,4 +1,4 @@
-use Rattle.sc_thread_work.proofs.QueueProofs.Keeps.{merges, gathers_more}
+use Rattle.sc_thread_work.proofs.QueueProofs.KeptQueueRule.{merges, gathers_more}
 use Rattle.crossbeam_queue.specs.Passes.{view}
 use Rattle.sc_thread_work.proofs.queue.hands.gather_one.Goals as goal
 

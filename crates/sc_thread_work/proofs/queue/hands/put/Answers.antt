@@ -1,5 +1,5 @@
 use Rattle.crossbeam_queue.specs.Passes.{view, ruled_capacity}
-use Rattle.sc_thread_work.proofs.QueueProofs.Keeps.{puts, rooms, no_room}
+use Rattle.sc_thread_work.proofs.QueueProofs.KeptQueueRule.{puts, rooms, no_room}
 use Rattle.sc_thread_work.proofs.queue.hands.put.Goals as goal
 
 pub push_as-requires-clause-rule : goal.push_as-requires-clause-rule

@@ -1,5 +1,5 @@
 use Rattle.std.proofs.Common.{◌≡◌, ◌∙◌, ap, arith, rules, [], ◌∷◌, ◌++◌}
-use Rattle.sc_thread_work.proofs.QueueProofs.Keeps.{takes, knows, did_none, did_more}
+use Rattle.sc_thread_work.proofs.QueueProofs.KeptQueueRule.{takes, knows, did_none, did_more}
 use Rattle.crossbeam_queue.specs.Passes.{view}
 use Rattle.sc_thread_work.proofs.queue.hands.work.Goals as goal
 

@@ -1,4 +1,4 @@
-use Rattle.sc_world_entries.proofs.ScanProofs.Telling.{entries_count}
+use Rattle.sc_world_entries.proofs.ScanProofs.ScanMeaning.{entries_count}
 use Rattle.sc_world_entries.proofs.scans.laws.entries_count_logs.Goals as goal
 
 pub returns : goal.returns

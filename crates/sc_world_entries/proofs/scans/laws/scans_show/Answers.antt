@@ -1,4 +1,4 @@
-use Rattle.sc_world_entries.proofs.ScanProofs.Telling.{scans_show}
+use Rattle.sc_world_entries.proofs.ScanProofs.ScanMeaning.{scans_show}
 use Rattle.sc_world_entries.proofs.scans.laws.scans_show.Goals as goal
 
 pub returns : goal.returns

@@ -1,7 +1,7 @@
 use Rattle.std.proofs.Common.{sym, ap, ◌∙◌, arith}
 use Rattle.sc_base.specs.Arc.{holds}
 use Rattle.sc_words.specs.ideal.IdealStore.{holds_key}
-use Rattle.sc_world_entries.proofs.ScanProofs.Pairs.{passes_some}
+use Rattle.sc_world_entries.proofs.ScanProofs.PairsInArcs.{passes_some}
 use Rattle.sc_world_entries.proofs.scans.orders.add_high.Goals as goal
 
 pub returns-in_err-add-clause-none : goal.returns-in_err-add-clause-none

@@ -10,8 +10,8 @@ use Rattle.sc_world_groups.specs.Places.{IsFirstNamed}
 use Rattle.sc_world_groups.proofs.Executing.{item-at}
 use Rattle.sc_world_groups.proofs.worlds.StoreWorld.take.Goals as goal
 
-pub returns-in-None-clause-told : goal.returns-in-None-clause-told
-returns-in-None-clause-told c =
+pub returns-in-None-clause-recorded : goal.returns-in-None-clause-recorded
+returns-in-None-clause-recorded c =
     let none : named_group c.args.entry.now.group c.args.self.now.groups ≡ None =
     ap (λ (world : StoreWorld). named_group c.args.entry.now.group world.groups) (sym c.self.view_is) ∙ ap (named_group c.args.entry.now.group) (sym c.as_slice.ensures.value) ∙ c.in-None.ensures in (
       sym (ap (λ found. after_command c.args.self.now found c.args.entry.now.command) none),
@@ -23,8 +23,8 @@ execute-requires c =
     subst (λ (world : StoreWorld). IsFirstNamed c.args.entry.now.group world.groups c.in-Some.at) c.self.view_is
     (subst (λ (groups : List Group). IsFirstNamed c.args.entry.now.group groups c.in-Some.at) c.as_slice.ensures.value c.in-Some.ensures)
 
-pub returns-in-Ok-clause-told : goal.returns-in-Ok-clause-told
-returns-in-Ok-clause-told c =
+pub returns-in-Ok-clause-recorded : goal.returns-in-Ok-clause-recorded
+returns-in-Ok-clause-recorded c =
     let entry = c.args.entry.now in let self = c.args.self.now in
     let stands : IsFirstNamed entry.group self.groups c.in-Some.at =
     subst (λ (world : StoreWorld). IsFirstNamed entry.group world.groups c.in-Some.at) c.self.view_is
@@ -36,8 +36,8 @@ returns-in-Ok-clause-told c =
       ap (λ (effect : Effect). Some effect) made.1 ∙ sym (ap (option_map (λ (group : Group). (applied group entry.command).1)) found),
     )
 
-pub returns-in-Err-clause-told : goal.returns-in-Err-clause-told
-returns-in-Err-clause-told c = λ same arcs.
+pub returns-in-Err-clause-recorded : goal.returns-in-Err-clause-recorded
+returns-in-Err-clause-recorded c = λ same arcs.
     let entry = c.args.entry.now in let self = c.args.self.now in
     let stands : IsFirstNamed entry.group self.groups c.in-Some.at =
     subst (λ (world : StoreWorld). IsFirstNamed entry.group world.groups c.in-Some.at) c.self.view_is

@@ -1,5 +1,5 @@
 use Rattle.std.proofs.Common.{rules, ap, ◌∙◌}
-use Rattle.sc_thread_ports.proofs.TurnProofs.Keeps.{notes, tells, looks}
+use Rattle.sc_thread_ports.proofs.TurnProofs.KeptTurnRule.{notes, tells, looks}
 use Rattle.sc_thread_ports.proofs.TurnProofs.Leaving.{true_of_seen}
 use Rattle.sc_thread_ports.proofs.turn.seat.TurnSeat.hear.Goals as goal
 

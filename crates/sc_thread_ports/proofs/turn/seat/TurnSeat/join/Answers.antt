@@ -1,6 +1,6 @@
 use Rattle.std.proofs.Common.{rules, ap, ◌∙◌}
 use Rattle.sc_thread_ports.proofs.TurnProofs.Leaving.{true_later, others_later}
-use Rattle.sc_thread_ports.proofs.TurnProofs.Keeps.{merges, reads}
+use Rattle.sc_thread_ports.proofs.TurnProofs.KeptTurnRule.{merges, reads}
 use Rattle.sc_thread_ports.proofs.turn.seat.TurnSeat.join.Goals as goal
 
 pub join_seat-requires : goal.join_seat-requires

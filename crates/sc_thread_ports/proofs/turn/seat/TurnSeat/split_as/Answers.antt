@@ -1,5 +1,5 @@
 use Rattle.std.proofs.Common.{rules, ◌≢◌, ℕ, sym, subst, ap, Contains}
-use Rattle.sc_thread_ports.proofs.TurnProofs.Keeps.{splits, reads}
+use Rattle.sc_thread_ports.proofs.TurnProofs.KeptTurnRule.{splits, reads}
 use Rattle.sc_thread_ports.proofs.TurnProofs.Leaving.{true_later}
 use Rattle.sc_thread_ports.proofs.turn.seat.TurnSeat.split_as.Goals as goal
 

@@ -1,7 +1,7 @@
 use Rattle.std.proofs.Common.{◌≡◌, [], ◌∷◌, ◌++◌, sym, ap, subst, ◌∙◌, Some}
 use Rattle.atomic_table.specs.Table.{opening}
 use Rattle.sc_thread_ports.specs.turn.Definitions.{opener, Kept}
-use Rattle.sc_thread_ports.proofs.TurnProofs.Keeps.{opens}
+use Rattle.sc_thread_ports.proofs.TurnProofs.KeptTurnRule.{opens}
 use Rattle.sc_thread_ports.proofs.turn.seat.TurnSeat.start.Goals as goal
 
 pub new-requires : goal.new-requires

@@ -1,5 +1,5 @@
 use Rattle.std.proofs.Common.{rules, ◌≡◌, ap, ◌∙◌}
-use Rattle.sc_thread_ports.proofs.TurnProofs.Keeps.{notes, tells, reads}
+use Rattle.sc_thread_ports.proofs.TurnProofs.KeptTurnRule.{notes, tells, reads}
 use Rattle.sc_thread_ports.proofs.TurnProofs.Leaving.{true_over}
 use Rattle.sc_thread_ports.proofs.turn.seat.TurnSeat.vouch.Goals as goal
 

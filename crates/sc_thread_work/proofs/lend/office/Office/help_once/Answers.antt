@@ -1,5 +1,5 @@
 use Rattle.crossbeam_queue.specs.Passes.{view}
-use Rattle.sc_thread_work.proofs.LendProofs.Keeps.{takes, finished_held}
+use Rattle.sc_thread_work.proofs.LendProofs.KeptLendRule.{takes, finished_held}
 use Rattle.sc_thread_work.proofs.lend.office.Office.help_once.Goals as goal
 
 pub pop_as-requires-clause-rule : goal.pop_as-requires-clause-rule

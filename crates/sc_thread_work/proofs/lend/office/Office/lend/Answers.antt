@@ -1,6 +1,6 @@
 use Rattle.std.proofs.Common.{refl, ap}
 use Rattle.sc_thread_work.specs.declared.lend.rule.Clerk.{Clerk}
-use Rattle.sc_thread_work.proofs.LendProofs.Keeps.{lends, is_out}
+use Rattle.sc_thread_work.proofs.LendProofs.KeptLendRule.{lends, is_out}
 use Rattle.sc_thread_work.proofs.lend.office.Office.lend.Goals as goal
 
 pub push_as-requires-clause-rule : goal.push_as-requires-clause-rule

@@ -1,0 +1,16 @@
+pub mod Lists
+pub mod Sums
+pub mod MailMarks
+pub mod LeaderMailOfGroups
+pub mod LeaderMarks
+pub mod MarkLists
+pub mod LeaderMailRows
+pub mod ReplicaRowMarks
+pub mod RowViews
+pub mod SlotCounts
+pub mod RepeatedMail
+pub mod PlainAcceptAndLearnRows
+pub mod Replicas
+pub mod ReplicaRows
+pub mod NodeRows
+pub mod NodeSeats
