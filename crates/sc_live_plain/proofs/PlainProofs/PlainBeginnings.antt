@@ -6,8 +6,7 @@ use Rattle.sc_node_table.specs.Values.{Draw, Base}
 use Rattle.sc_actor.specs.Definitions.{are_apart}
 use Rattle.sc_words.proofs.PaxosProofs.Lemmas.{Each-among, Each-from_All, one_of_name}
 use Rattle.sc_node_table.specs.Definitions.{numbers_from}
-use Rattle.sc_scenario.specs.scenario.Definitions.{base_at, bases_up_to, group_at, IsBounded, IsUpTo, IsBoundedGroup}
-use Rattle.sc_scenario.specs.declared.scenario.drafts.GroupLine.{GroupLine}
+use Rattle.sc_scenario.specs.scenario.Definitions.{base_at, group_at, IsBounded, IsBoundedGroup, IsUpTo}
 use Rattle.sc_scenario.specs.declared.scenario.scenarios.Asks.{Asks}
 use Rattle.sc_scenario.specs.declared.scenario.scenarios.Scenario.{Scenario}
 use Rattle.sc_meaning.specs.sound.Definitions.{node_seat, client_seat, client_seats, route_of, births, as_nodes}
