@@ -229,7 +229,7 @@ module _ (well : ScenariosAreWellBorn) (kept : ScenariosAreKeptBorn) (keeps : Re
     goes_through timely led =
         kept_by_all words all prefix Goes (λ rows seat event place born calm timely_ was. goes_on rows seat event place.more place.fact born calm timely_ was) (begin led) timely
 
-    pub led_through : AreInTime (players words (births as_nodes scenario)) prefix → IsLedOn at over by words all [] base → IsLedOn at over by words all prefix base × HasLeaders as_nodes by scenario journal prefix base
+    led_through : AreInTime (players words (births as_nodes scenario)) prefix → IsLedOn at over by words all [] base → IsLedOn at over by words all prefix base × HasLeaders as_nodes by scenario journal prefix base
     led_through timely led =
         let g = goes_through timely led in
         ((g.course, g.led), has_leaders prefix rest split (λ before row after e mail a. Each-among GivesAllowedOrder (mails prefix) mail g.sent (sent_before prefix before (row ∷ after) mail e a)) g.counted)

@@ -9,7 +9,7 @@ use Rattle.sc_group_table.specs.machine.Definitions.{child_by, Group, state_afte
 use Rattle.sc_words.specs.paxos.Definitions.{LeaderState, without_flight_at, counted, AcceptorState}
 use Rattle.sc_node_table.specs.Definitions.{elected, ended, stopped, entered, answer_of, answered_or_put_back, order_result, effect_reported, announced, learnt_to, welcomed, slot_lost, landed, left_gone, left, is_among, looked_for, looked, executed_one, child_at, next_child, has_room, next_ready, ending, executed_ready, executed, install_to, asked_to_promise, welcomed_all, sent, pumped, put_back, ReplicaState, Place, Executed, childless, name_of, next, members, flying, set_at, last_slot, forgotten, learn_row, mailed, with_slot, without_slot, before_of, spoken, leads, readied, vote_tallied, voted, accepted_row}
 use Rattle.sc_node_table.specs.declared.Before.{Before}
-use Rattle.sc_law_walks.proofs.Lemmas.{entered_next, either_way, grows}
+use Rattle.sc_law_walks.proofs.Lemmas.{entered_ready, entered_next, either_way, grows}
 use Rattle.sc_live_journals.proofs.RowsProofs.StillReplicas as beside
 use Rattle.sc_live_answers.proofs.ReplicasProofs.Parts.{pumps, announces, speaks, teaches, welcomes, loses, leaves, looks, prepare_rests, accept_rests, promise_rests, nack_rests, ask_rests}
 use Rattle.sc_law_walks.proofs.Lemmas.{back_any, entered_ready}

@@ -1,88 +1,33 @@
 -- What calls leave of a replica as they are executed and offered: what it saw and promised, and what it leads with but for its flights.
-use Rattle.std.proofs.Common.{◌≡◌, ℕ, ◌+◌, ◌&&◌, eqb, Bool, true, false, cond, List, [], ◌∷◌, ◌++◌, length, Option, Some, None, refl, sym, ◌∙◌, ap, subst}
+use Rattle.sc_live_steps.proofs.CalmStepsProofs.PumpInvariants.{pump_kept, frame as frame_of}
+use Rattle.std.proofs.Common.{◌≡◌, ℕ, ◌&&◌, eqb, true, List, [], ◌∷◌, ◌++◌, length, Option, Some, None, refl, sym, ◌∙◌, ap, subst}
 use Rattle.std.proofs.lemmas.Bool.{cond_both, eqb-true, and_parts}
-use Rattle.std.specs.Prelude.{is_some, nat_le}
-use Rattle.std.specs.List.{list_any}
+use Rattle.std.specs.Prelude.{nat_le}
 use Rattle.sc_base.specs.Definitions.{Among, Each, same_ballot, is_majority, is_member}
-use Rattle.sc_node_table.specs.Values.{Ballot, Op, Command, Call, Core, AnswerBody, Mail, Counted, Chosen, NotYet, Must, Gap, Flight, Report}
-use Rattle.sc_words.specs.declared.paxos.answers.Must.TheVariants.{Value, Free as Open}
-use Rattle.sc_words.specs.paxos.Definitions.{LeaderState, must, flight_at, without_flight_at, kept_voters, voters_after, with_voters, vote_at}
+use Rattle.sc_node_table.specs.Values.{Ballot, Op, Command, Call, Core, AnswerBody, Mail, Counted, Chosen, NotYet, Flight, Report}
+use Rattle.sc_words.specs.paxos.Definitions.{LeaderState, flight_at, without_flight_at, kept_voters, voters_after, with_voters, vote_at}
 use Rattle.sc_words.proofs.PaxosProofs.Lemmas.{Each-among, find_found, from_filter}
 use Rattle.sc_group_table.specs.machine.Definitions.{applied}
-use Rattle.sc_node_table.specs.Definitions.{entered, executed_one, has_room, next_ready, executed, Found, is_act, from_backlog, from_acts, from_queues, found_by, found_for, offered, pumped_from, pumped, queued_number, without_request, ReplicaState, Place, Executed, childless, next, settled, may_offer, set_at, taken_at, under_way, is_idle, forgotten, last_slot, queued, requested, refused_at, request_row, at_slot, with_slot, without_slot, leads, readied, vote_tallied, voted, accepted_row}
+use Rattle.sc_node_table.specs.Definitions.{entered, executed_one, has_room, next_ready, executed, pumped, queued_number, without_request, ReplicaState, Place, Executed, childless, next, set_at, forgotten, queued, requested, refused_at, request_row, at_slot, with_slot, without_slot, leads, readied, vote_tallied, voted, accepted_row}
 use Rattle.sc_law_walks.proofs.Lemmas.{cleared, executed_place, either_way}
 use Rattle.sc_live_plain.specs.Definitions.{Frame, IsFrame, Requests, IsPlainCommand, IsPlainCall, IsPlainFlight, IsPlainGroup}
 use Rattle.sc_live_plain.proofs.Lemmas.{at_found, out_each, with_each, recorded_after, counted_call, call_is, IsServed, call_plain, entered_frame}
 use Rattle.sc_live_steps.proofs.FollowingProofs.Lemmas.{entered_keeps}
 
--- ---- a pump leaves all but what is in flight and the queues
-
--- a replica but for these
-abbrev pub bare : ReplicaState → ReplicaState
-bare r = record r { leader = record r.leader { flights = [] }; acts = []; backlog = [] }
-
-calls_kept : (place : Place) → bare (from_backlog place).1.0 ≡ bare place.0
-unfolding from_backlog
-calls_kept place = refl
-
-either_kept : (b : Bool) (x y : Found) (r : ReplicaState) → bare x.1.0 ≡ bare r → bare y.1.0 ≡ bare r → bare (cond b x y).1.0 ≡ bare r
-either_kept true x y r p q = p
-either_kept false x y r p q = q
-
-acts_kept : (acts : List Command) (place : Place) → bare (from_acts acts place).1.0 ≡ bare place.0
-acts_kept [] place = calls_kept place
-acts_kept (act ∷ acts) place = either_kept (is_idle place.0) _ _ place.0 refl refl
-
-queues_kept : (place : Place) → bare (from_queues place).1.0 ≡ bare place.0
-unfolding from_queues
-queues_kept place = either_kept (list_any is_act (under_way place.0)) _ (from_acts place.0.acts place) place.0 refl (acts_kept place.0.acts place)
-
-by_kept : (what : Must Command) (place : Place) → bare (found_by what place).1.0 ≡ bare place.0
-by_kept (Value command) place = refl
-by_kept Gap place = refl
-by_kept Open place = queues_kept place
-
-found_kept : (slot : ℕ) (place : Place) → bare (found_for slot place).1.0 ≡ bare place.0
-unfolding found_for
-found_kept slot place = by_kept (must slot place.0.leader) place
-
-offered_kept : (slot : ℕ) (set : List ℕ) (command : Command) (place : Place) → bare (offered slot set command place).0 ≡ bare place.0
-unfolding offered
-offered_kept slot set command place = refl
-
--- one slot, by what is tested and found
-slot_kept : (taken may : Bool) (o : Option Command) (place next : Place) (on : Place → Place) (put : Command → Place)
-    → ((p : Place) → bare (on p).0 ≡ bare p.0) → bare next.0 ≡ bare place.0 → ((command : Command) → bare (put command).0 ≡ bare place.0)
-    → bare (cond taken (on place) (cond may (elim o [ None ↦ next | Some command ↦ on (put command) ]) place)).0 ≡ bare place.0
-slot_kept true may o place next on put rest kept offers = rest place
-slot_kept false true None place next on put rest kept offers = kept
-slot_kept false true (Some command) place next on put rest kept offers = rest (put command) ∙ offers command
-slot_kept false false o place next on put rest kept offers = refl
-
-slots_kept : (slot : ℕ) (sets : List (List ℕ)) (place : Place) → bare (pumped_from slot sets place).0 ≡ bare place.0
-unfolding pumped_from
-slots_kept slot [] place = refl
-slots_kept slot (set ∷ sets) place =
-    let found = found_for slot place in
-    slot_kept (is_some (taken_at place.0 slot)) (may_offer place.0 set) found.0 place found.1 (λ p. pumped_from (slot + 1) sets p) (λ command. offered slot set command found.1) (λ p. slots_kept (slot + 1) sets p) (found_kept slot place)
-    (λ command. offered_kept slot set command found.1 ∙ found_kept slot place)
-
-pub pump_kept : (place : Place) → bare (pumped place).0 ≡ bare place.0
-unfolding pumped
-pump_kept place = either_way (λ (p : Place). bare p.0 ≡ bare place.0) (settled place.0 && nat_le (next place.0) last_slot) (pumped_from (next place.0) place.0.sets place) place (slots_kept (next place.0) place.0.sets place) refl
+-- ---- what a pump leaves
 
 -- a request leaves the other parts of a replica
-pub request_kept : (client seq : ℕ) (op : Op) (r : ReplicaState) (mails : List Mail) → bare (request_row client seq op (r, mails)).0 ≡ bare r
+pub request_kept : (client seq : ℕ) (op : Op) (r : ReplicaState) (mails : List Mail) → frame_of (request_row client seq op (r, mails)).0 ≡ frame_of r
 unfolding request_row requested queued
 request_kept client seq op r mails = answered (refused_at r.group.core.gone op r)
   where
-    waits : (o : Option ℕ) → bare (queued o client seq op (r, mails)).0 ≡ bare r
+    waits : (o : Option ℕ) → frame_of (queued o client seq op (r, mails)).0 ≡ frame_of r
     waits None = pump_kept (record r { backlog = r.backlog ++ Call client seq op ∷ [] }, mails)
     waits (Some other) =
-        either_way (λ (p : Place). bare p.0 ≡ bare r) (nat_le seq other) (r, mails) (pumped (record r { backlog = without_request r.backlog client ++ Call client seq op ∷ [] }, mails)) refl
+        either_way (λ (p : Place). frame_of p.0 ≡ frame_of r) (nat_le seq other) (r, mails) (pumped (record r { backlog = without_request r.backlog client ++ Call client seq op ∷ [] }, mails)) refl
         (pump_kept (record r { backlog = without_request r.backlog client ++ Call client seq op ∷ [] }, mails))
 
-    answered : (o : Option AnswerBody) → bare (requested o client seq op (r, mails)).0 ≡ bare r
+    answered : (o : Option AnswerBody) → frame_of (requested o client seq op (r, mails)).0 ≡ frame_of r
     answered (Some answer) = refl
     answered None = waits (queued_number r.backlog client)
 
@@ -102,9 +47,9 @@ pub record Leaves (r after : ReplicaState) : Type 0 where
 pub leaves_itself : (r : ReplicaState) → Leaves r r
 leaves_itself r = record { top = refl; promised = refl; leader = refl; accepted = λ report a. a }
 
-pub leaves_bare : (r after : ReplicaState) → bare after ≡ bare r → Leaves r after
+pub leaves_bare : (r after : ReplicaState) → frame_of after ≡ frame_of r → Leaves r after
 leaves_bare r after e =
-    let l : Leaves r (bare after) = subst (Leaves r) (sym e) (record { top = refl; promised = refl; leader = refl; accepted = λ report a. a }) in
+    let l : Leaves r (frame_of after) = subst (Leaves r) (sym e) (record { top = refl; promised = refl; leader = refl; accepted = λ report a. a }) in
     record { top = l.top; promised = l.promised; leader = l.leader; accepted = l.accepted }
 
 -- an entry that is executed leaves it
@@ -171,10 +116,10 @@ module _ (begun : Requests) (frame : Frame) (fact : IsFrame frame) (first : Repl
   abbrev O : Option Command → Type 0
   O o = (command : Command) → o ≡ Some command → IsPlainCommand begun frame command
 
-  bared : (r : ReplicaState) → Goes r → Goes (bare r)
+  bared : (r : ReplicaState) → Goes r → Goes (frame_of r)
   bared r g = record { group = g.group; me_is = g.me_is; running = g.running; ready = g.ready; leaves = record { top = g.leaves.top; promised = g.leaves.promised; leader = g.leaves.leader; accepted = g.leaves.accepted } }
 
-  unbared : (r : ReplicaState) → Goes (bare r) → Goes r
+  unbared : (r : ReplicaState) → Goes (frame_of r) → Goes r
   unbared r g = record { group = g.group; me_is = g.me_is; running = g.running; ready = g.ready; leaves = record { top = g.leaves.top; promised = g.leaves.promised; leader = g.leaves.leader; accepted = g.leaves.accepted } }
 
   pub pumps : (place : Place) → F place → F (pumped place)

@@ -1,15 +1,29 @@
 -- What of a replica's table leaves its group and its log, and so is no entry.
-use Rattle.std.proofs.Common.{ℕ, ◌-◌, ◌^◌, ◌&&◌, not, nat_le, eqb, Bool, true, false, cond, List, [], ◌∷◌, Option, Some, None}
-use Rattle.std.specs.List.{filter}
-use Rattle.sc_node_table.specs.Values.{Ballot, Command, Noop, Call, Join, Leave, Split, Begin, Prepared, RecordVote, GiveUp, Finish, Watched, RecordWatch, Effect, Route, OrderResult, AnswerBody, PrepareAnswer, AcceptAnswer, Report}
+use Rattle.std.proofs.Common.{ℕ, ◌-◌, ◌^◌, ◌&&◌, not, nat_le, eqb, Bool, true, false, cond, List, [], ◌∷◌, Option, Some, None, ◌+◌}
+use Rattle.std.specs.List.{filter, list_any}
+use Rattle.sc_node_table.specs.Values.{Ballot, Command, Noop, Call, Join, Leave, Split, Begin, Prepared, RecordVote, GiveUp, Finish, Watched, RecordWatch, Effect, Route, OrderResult, AnswerBody, PrepareAnswer, AcceptAnswer, Report, Nack, Accepted, Promise, Mail, Must, Gap}
+use Rattle.std.specs.Prelude.{is_some}
 use Rattle.sc_mail.specs.declared.bodies.AnswerBody.TheVariants as Answers
 use Rattle.sc_base.specs.Definitions.{is_member, least_of}
 use Rattle.sc_words.specs.declared.paxos.answers.PrepareAnswer.TheVariants as Prepared
 use Rattle.sc_words.specs.declared.paxos.answers.AcceptAnswer.TheVariants as Asked
-use Rattle.sc_words.specs.paxos.Definitions.{AcceptorState, accepted as accepted_by, below, LeaderState, promise_counted, prepared}
-use Rattle.sc_node_table.specs.Definitions.{elected, ended, stopped, saw, answer_of, answered_or_put_back, order_result, effect_reported, announced, learnt_to, welcomed, slot_lost, left_gone, left, is_among, looked_for, looked, install_to, asked_to_promise, welcomed_all, offered, pumped, put_back, ReplicaState, Place, members, ask_row, spoken, hinted, promise_to, promised, prepare_row, accepted_to, took, accept_row, leads, promise_row, nack_row}
+use Rattle.sc_words.specs.paxos.Definitions.{AcceptorState, accepted as accepted_by, below, LeaderState, promise_counted, prepared, must}
+use Rattle.sc_node_table.specs.Definitions.{elected, ended, stopped, saw, answer_of, answered_or_put_back, order_result, effect_reported, announced, learnt_to, welcomed, slot_lost, left_gone, left, is_among, looked_for, looked, install_to, asked_to_promise, welcomed_all, offered, pumped, put_back, ReplicaState, Place, members, ask_row, spoken, hinted, promise_to, promised, prepare_row, accepted_to, took, accept_row, leads, promise_row, nack_row, name_of, sent, Found, is_act, from_backlog, from_acts, from_queues, found_by, found_for, pumped_from, next, settled, may_offer, taken_at, under_way, is_idle, last_slot}
+use Rattle.sc_words.specs.declared.paxos.answers.Must.TheVariants.{Value, Free as Open}
 use Rattle.sc_node_table.specs.declared.Before.{Before}
 use Rattle.sc_law_walks.proofs.Lemmas.{asked_place, pumped_freely, either_way}
+
+-- the answers of an acceptor: to a Prepare a promise or a refusal, to an Accept a vote or a refusal
+module _ (F : Place → Type 0) (from : ℕ) (ballot : Ballot) (r : ReplicaState) (mails : List Mail) where
+  pub promise_answers : (answer : PrepareAnswer Command × AcceptorState Command) → ((reports : List (Report Command)) → F (hinted ballot (record r { acceptor = answer.1 }), sent r.me from (Promise (name_of r) ballot reports) mails))
+      → ((was : Ballot) → F (record r { acceptor = answer.1 }, sent r.me from (Nack (name_of r) was) mails)) → F (promise_to from ballot answer (r, mails))
+  promise_answers (Prepared.Promise reports, acceptor) promises refuses = promises reports
+  promise_answers (Prepared.Ignored was, acceptor) promises refuses = refuses was
+
+  pub accept_answers : (slot : ℕ) (answer : AcceptAnswer × AcceptorState Command) → F (hinted ballot (record r { acceptor = answer.1 }), sent r.me from (Accepted (name_of r) ballot slot) mails)
+      → ((was : Ballot) → F (record r { acceptor = answer.1 }, sent r.me from (Nack (name_of r) was) mails)) → F (accepted_to from ballot slot answer (r, mails))
+  accept_answers slot (Asked.Accepted, acceptor) votes refuses = votes
+  accept_answers slot (Asked.Ignored was, acceptor) votes refuses = refuses was
 
 -- P speaks of a replica's group, its log and its number alone
 module _ (P : ReplicaState → Type 0) (any : (r : ReplicaState) (acceptor : AcceptorState Command) (hint : Option ℕ) (top : Ballot) (running : Bool) (leader : LeaderState Command) (ready : List (ℕ × Command)) (acts backlog : List Command) (waits : ℕ)
@@ -140,27 +154,21 @@ module _ (P : ReplicaState → Type 0) (any : (r : ReplicaState) (acceptor : Acc
   with_acceptor : (r : ReplicaState) (acceptor : AcceptorState Command) → P r → P (record r { acceptor = acceptor })
   with_acceptor r acceptor p = any r acceptor r.hint r.top r.running r.leader r.ready r.acts r.backlog r.waits p
 
-  promises_to : (from : ℕ) (ballot : Ballot) (answer : PrepareAnswer Command × AcceptorState Command) (place : Place) → F place → F (promise_to from ballot answer place)
-  promises_to from ballot (Prepared.Promise reports, acceptor) (r, mails) p = hints ballot (record r { acceptor = acceptor }) (with_acceptor r acceptor p)
-  promises_to from ballot (Prepared.Ignored was, acceptor) (r, mails) p = with_acceptor r acceptor p
-
   promises : (from : ℕ) (ballot : Ballot) (from_slot : ℕ) (place : Place) → F place → F (promised from ballot from_slot place)
   unfolding promised
   promises from ballot from_slot (r, mails) p =
-      either_way F (nat_le from_slot r.acceptor.floor) _ _ (state_sent from (r, mails) p) (promises_to from ballot (prepared ballot from_slot r.acceptor) (r, mails) p)
+      either_way F (nat_le from_slot r.acceptor.floor) _ _ (state_sent from (r, mails) p) (promise_answers F from ballot r mails (prepared ballot from_slot r.acceptor)
+      (λ reports. hints ballot (record r { acceptor = (prepared ballot from_slot r.acceptor).1 }) (with_acceptor r (prepared ballot from_slot r.acceptor).1 p)) (λ was. with_acceptor r (prepared ballot from_slot r.acceptor).1 p))
 
   pub prepare_rests : (from : ℕ) (ballot : Ballot) (from_slot : ℕ) (place : Place) → F place → F (prepare_row from ballot from_slot place)
   unfolding prepare_row
   prepare_rests from ballot from_slot place p = promises from ballot from_slot (saw ballot place) (sees ballot place p)
 
-  accepts_to : (from : ℕ) (ballot : Ballot) (slot : ℕ) (answer : AcceptAnswer × AcceptorState Command) (place : Place) → F place → F (accepted_to from ballot slot answer place)
-  accepts_to from ballot slot (Asked.Accepted, acceptor) (r, mails) p = hints ballot (record r { acceptor = acceptor }) (with_acceptor r acceptor p)
-  accepts_to from ballot slot (Asked.Ignored was, acceptor) (r, mails) p = with_acceptor r acceptor p
-
   takes_report : (from : ℕ) (report : Report Command) (place : Place) → F place → F (took from report place)
   unfolding took
   takes_report from report (r, mails) p =
-      either_way F (nat_le report.slot r.acceptor.floor) _ _ (state_sent from (r, mails) p) (accepts_to from report.ballot report.slot (accepted_by report r.acceptor) (r, mails) p)
+      either_way F (nat_le report.slot r.acceptor.floor) _ _ (state_sent from (r, mails) p) (accept_answers F from report.ballot r mails report.slot (accepted_by report r.acceptor)
+      (hints report.ballot (record r { acceptor = (accepted_by report r.acceptor).1 }) (with_acceptor r (accepted_by report r.acceptor).1 p)) (λ was. with_acceptor r (accepted_by report r.acceptor).1 p))
 
   pub accept_rests : (from : ℕ) (ballot : Ballot) (slot : ℕ) (command : Command) (place : Place) → F place → F (accept_row from ballot slot command place)
   unfolding accept_row

@@ -2,16 +2,17 @@
 use Rattle.std.proofs.Common.{◌≡◌, ℕ, ◌<◌, ◌&&◌, ◌||◌, not, nat_lt, eqb, Bool, true, false, true≢false, cond, List, [], ◌∷◌, ◌++◌, length, Option, Some, None, refl, sym, ◌∙◌, ap, subst}
 use Rattle.std.proofs.lemmas.Bool.{cond_both, lt-leb, eqb-true}
 use Rattle.sc_base.specs.Definitions.{same_ballot, is_member, is_majority}
-use Rattle.sc_node_table.specs.Values.{Ballot, Draw, Command, Base, Mail, MailBody, Request, Answer, Prepare, Promise, Accept, Accepted, Nack, Learn, Ask, Install, TxPrepare, TxVote, TxOutcome, TxElsewhere, TxWatch, TxWatched, Told, PrepareAnswer, AcceptAnswer, Counted, Chosen, NotYet, Flight, Report}
+use Rattle.sc_node_table.specs.Values.{Ballot, Draw, Command, Base, Mail, MailBody, Request, Answer, Prepare, Promise, Accept, Accepted, Nack, Learn, Ask, Install, TxPrepare, TxVote, TxOutcome, TxElsewhere, TxWatch, TxWatched, Told, PrepareAnswer, AcceptAnswer, Counted, Chosen, NotYet, Flight, Report, Offer, Watch, Prepared as PreparedAct, RecordVote, Finish, Watched, RecordWatch, Outcome, Past, Vote}
+use Rattle.sc_words.specs.declared.commands.votes.Past.TheVariants as Cast
+use Rattle.sc_words.specs.declared.commands.votes.Vote.TheVariants as Votes
 use Rattle.sc_law_entries.specs.names.Definitions.{Opt}
 use Rattle.sc_law_entries.proofs.NamesProofs.Lemmas.{opt_find, slot_with, flight_without, voters_with}
-use Rattle.sc_words.specs.declared.paxos.answers.PrepareAnswer.TheVariants as Prepared
-use Rattle.sc_words.specs.declared.paxos.answers.AcceptAnswer.TheVariants as Asked
 use Rattle.sc_words.specs.paxos.Definitions.{prepared, accepted as accepted_by, AcceptorState, below, LeaderState, flight_at, promise_counted, counted, tallied, vote_at, voters_after, kept_voters}
 use Rattle.sc_words.proofs.PaxosProofs.Lemmas.{Each-append}
-use Rattle.sc_node_table.specs.Definitions.{has_act, act_queued, ended, stopped, saw, looked, executed, has_room, install_to, named, jumped, sent, pumped, ReplicaState, Place, Executed, childless, name_of, next, members, set_at, last_slot, forgotten, installed_replica, learn_row, looked_up, took_over, install_row, mailed, made_by, with_slot, hinted, promise_to, promised, prepare_row, accepted_to, took, accept_row, leads, promise_row, readied, vote_tallied, voted, accepted_row, nack_row}
+use Rattle.sc_node_table.specs.Definitions.{has_act, act_queued, ended, stopped, saw, looked, executed, has_room, install_to, named, jumped, sent, pumped, ReplicaState, Place, Executed, childless, name_of, next, members, set_at, last_slot, forgotten, installed_replica, learn_row, looked_up, took_over, install_row, mailed, made_by, with_slot, hinted, promise_to, promised, prepare_row, accepted_to, took, accept_row, leads, promise_row, readied, vote_tallied, voted, accepted_row, nack_row, settled, asked_next, noted_outcome, standing_vote, sent_elsewhere, offered_by, offer_row, watched_by, watch_row, awaits_vote, awaits_watch, outcome_sent, vote_met, vote_row, watch_met, watched_row, elsewhere_row, is_bound, outcome_row}
 use Rattle.sc_law_walks.proofs.Lemmas.{either_way, TransactionParts}
 use Rattle.sc_law_walks.proofs.TransactionRows.{offer_keeps, watch_keeps, vote_keeps, watched_keeps, elsewhere_keeps, outcome_keeps}
+use Rattle.sc_live_answers.proofs.ReplicasProofs.Parts.{promise_answers, accept_answers}
 use Rattle.sc_live_answers.proofs.WorkProofs.Affairs.{Affair}
 use Rattle.sc_live_answers.proofs.WorkProofs.WorkMail.{one_sent, next_one_asked, vote_reported, watch_reported, outcome_said}
 use Rattle.sc_live_answers.proofs.WorkProofs.AffairParts.{Does, Fly, Held, Fine, Kids, saw_fine, stopped_fine, looked_fine, pumped_fine, executed_fine, executed_kids}
@@ -51,11 +52,6 @@ module _ (a : Affair) (g : Draw) where
   hinted_held : (ballot : Ballot) (r : ReplicaState) → Held a g r → Held a g (hinted ballot r)
   hinted_held ballot r k = either_way (Held a g) r.running r (record r { hint = Some ballot.node }) k k
 
-  promise_fine : (from : ℕ) (ballot : Ballot) (p : PrepareAnswer Command × AcceptorState Command) (place : Place) → F place → F (promise_to from ballot p place)
-  promise_fine from ballot (Prepared.Promise reports, acceptor) (r, mails) f =
-      (hinted_held ballot (record r { acceptor = acceptor }) f.0, one_sent a r.me from (Promise (name_of r) ballot reports) mails tt f.1)
-  promise_fine from ballot (Prepared.Ignored was, acceptor) (r, mails) f = (f.0, one_sent a r.me from (Nack (name_of r) was) mails tt f.1)
-
   -- the acceptor is none by a ballot that is seen
   saw_floor : (ballot : Ballot) (r : ReplicaState) (mails : List Mail) → (saw ballot (r, mails)).0.acceptor ≡ r.acceptor
   unfolding saw ended
@@ -67,7 +63,8 @@ module _ (a : Affair) (g : Draw) where
   promised_fine : (from : ℕ) (ballot : Ballot) (from_slot : ℕ) (place : Place) → place.0.acceptor.floor < from_slot → F place → F (promised from ballot from_slot place)
   unfolding promised
   promised_fine from ballot from_slot (r, mails) low f =
-      subst (λ b. F (cond b (install_to from (r, mails)) (promise_to from ballot (prepared ballot from_slot r.acceptor) (r, mails)))) (sym (lt-leb from_slot r.acceptor.floor low)) (promise_fine from ballot (prepared ballot from_slot r.acceptor) (r, mails) f)
+      subst (λ b. F (cond b (install_to from (r, mails)) (promise_to from ballot (prepared ballot from_slot r.acceptor) (r, mails)))) (sym (lt-leb from_slot r.acceptor.floor low)) (promise_answers F from ballot r mails (prepared ballot from_slot r.acceptor)
+      (λ reports. (hinted_held ballot (record r { acceptor = (prepared ballot from_slot r.acceptor).1 }) f.0, one_sent a r.me from (Promise (name_of r) ballot reports) mails tt f.1)) (λ was. (f.0, one_sent a r.me from (Nack (name_of r) was) mails tt f.1)))
 
   prepare_fine : (from : ℕ) (ballot : Ballot) (from_slot : ℕ) (place : Place) → place.0.acceptor.floor < from_slot → F place → F (prepare_row from ballot from_slot place)
   unfolding prepare_row
@@ -76,16 +73,12 @@ module _ (a : Affair) (g : Draw) where
 
   -- ---- Accept
 
-  accepted_to_fine : (from : ℕ) (ballot : Ballot) (slot : ℕ) (p : AcceptAnswer × AcceptorState Command) (place : Place) → F place → F (accepted_to from ballot slot p place)
-  accepted_to_fine from ballot slot (Asked.Accepted, acceptor) (r, mails) f =
-      (hinted_held ballot (record r { acceptor = acceptor }) f.0, one_sent a r.me from (Accepted (name_of r) ballot slot) mails tt f.1)
-  accepted_to_fine from ballot slot (Asked.Ignored was, acceptor) (r, mails) f = (f.0, one_sent a r.me from (Nack (name_of r) was) mails tt f.1)
-
   took_fine : (from : ℕ) (report : Report Command) (place : Place) → place.0.acceptor.floor < report.slot → F place → F (took from report place)
   unfolding took
   took_fine from report (r, mails) low f =
       subst (λ b. F (cond b (install_to from (r, mails)) (accepted_to from report.ballot report.slot (accepted_by report r.acceptor) (r, mails)))) (sym (lt-leb report.slot r.acceptor.floor low))
-      (accepted_to_fine from report.ballot report.slot (accepted_by report r.acceptor) (r, mails) f)
+      (accept_answers F from report.ballot r mails report.slot (accepted_by report r.acceptor)
+      (hinted_held report.ballot (record r { acceptor = (accepted_by report r.acceptor).1 }) f.0, one_sent a r.me from (Accepted (name_of r) report.ballot report.slot) mails tt f.1) (λ was. (f.0, one_sent a r.me from (Nack (name_of r) was) mails tt f.1)))
 
   accept_fine : (from : ℕ) (ballot : Ballot) (slot : ℕ) (command : Command) (place : Place) → place.0.acceptor.floor < slot → F place → F (accept_row from ballot slot command place)
   unfolding accept_row
@@ -186,10 +179,6 @@ module _ (a : Affair) (g : Draw) where
 
   -- ---- Nack, Learn and Install
 
-  nack_fine : (ballot : Ballot) (place : Place) → F place → F (nack_row ballot place)
-  unfolding nack_row
-  nack_fine ballot place f = saw_fine a g ballot place f
-
   learn_fine : (from slot : ℕ) (command : Command) (r : ReplicaState) (mails : List Mail) → Does a g command → (slot ≡ next r → r.leader.flights ≡ []) → F (r, mails) → F (learn_row from slot command (r, mails)).0
   unfolding learn_row
   learn_fine from slot command r mails c none f =
@@ -247,7 +236,7 @@ module _ (a : Affair) (g : Draw) where
   -- ---- all mail
 
   pub mailed_fine : (from : ℕ) (body : MailBody) (r : ReplicaState) (mails : List Mail) → Hears a r body → F (r, mails) → F (mailed from body (r, mails)).0
-  unfolding mailed
+  unfolding mailed nack_row
   mailed_fine from (Request group client seq op) r mails h f = absurd h
   mailed_fine from (Answer group seq answer) r mails h f = absurd h
   mailed_fine from (Ask group from_slot) r mails h f = absurd h
@@ -255,7 +244,7 @@ module _ (a : Affair) (g : Draw) where
   mailed_fine from (Promise group ballot reports) r mails h f = promise_row_fine from ballot reports (r, mails) h f
   mailed_fine from (Accept group ballot slot command) r mails h f = accept_fine from ballot slot command (r, mails) h f
   mailed_fine from (Accepted group ballot slot) r mails h f = accepted_fine from ballot slot (r, mails) f
-  mailed_fine from (Nack group ballot) r mails h f = nack_fine ballot (r, mails) f
+  mailed_fine from (Nack group ballot) r mails h f = saw_fine a g ballot (r, mails) f
   mailed_fine from (Learn group slot command) r mails h f = learn_fine from slot command r mails (subst (λ n. a.Does n command) f.0.0 h.0) h.1 f
   mailed_fine from (Install group slot base sets) r mails h f = install_row_fine from slot base sets (r, mails) (subst (λ n. a.Is n base.core) f.0.0 h) f
   mailed_fine from (TxPrepare tx offer) r mails h f = offer_keeps F transactions from tx offer (r, mails) (a.offer g tx offer h) f

@@ -76,9 +76,6 @@ module _ (words : ℕ → ℕ → ℕ × ℕ) (scenario : Scenario) (stage : IsS
   module _ (event : Event OrderLine) (fine : IsInOrder (system_of as_nodes words scenario) rows (client_actor asks.client) event) (after : ClientStep)
       (acted_is : acted player_table (value player_table (client_seat (route_of stage.first) asks) rows) (input_of (mails rows) event) ≡ (Client after.0, after.1))
       (grows : begun_ones c.client ≤ begun_ones after.0) where
-    became : value player_table (client_seat (route_of stage.first) asks) (rows ++ row_of player_table (client_seat (route_of stage.first) asks) rows event ∷ []) ≡ Client after.0
-    became = becomes words scenario stage rows asks a c.client c.fact event after acted_is
-
     more : IsMore (IsBegun scenario rows) (IsBegun scenario (rows ++ row_of player_table (client_seat (route_of stage.first) asks) rows event ∷ []))
     more = begins_more words scenario stage rows asks a c.client c.fact event after acted_is grows
 
@@ -101,7 +98,7 @@ module _ (words : ℕ → ℕ → ℕ × ℕ) (scenario : Scenario) (stage : IsS
           nodes = λ node low high. node_stays words scenario stage rows j r more node (node_away words scenario stage asks no_node node low high) (j.nodes node low high);
           clients = λ other b. elim (cases_eq (client_actor other.client) (client_actor asks.client)) [
             | inl fact ↦ subst (IsClientAt words scenario stage (rows ++ r ∷ [])) (sym (same_client scenario stage asks other a b fact))
-                (record { client = after.0; fact = became; plain = subst (λ g. IsPlainClient (frames_of scenario) asks g after.0) (sym is_gone) out.plain })
+                (record { client = after.0; fact = becomes words scenario stage rows asks a c.client c.fact event after acted_is; plain = subst (λ g. IsPlainClient (frames_of scenario) asks g after.0) (sym is_gone) out.plain })
             | inr ne ↦ client_stays words scenario stage rows j r other ne (j.clients other b)
           ];
           sent = sent_more words scenario stage rows j r more (subst (Each (IsPlainMail (IsBegun scenario (rows ++ r ∷ [])) (frames_of scenario))) (sym sent_is) out.said);

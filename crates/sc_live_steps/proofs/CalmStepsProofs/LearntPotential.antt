@@ -1,6 +1,7 @@
 -- A replica that learns an entry raises nothing, also where it is elected by it.
 use Rattle.std.proofs.Common.{◌≡◌, ℕ, zero, suc, ◌+◌, ◌-◌, ◌^◌, ◌≤◌, eqb, Bool, true, false, true≢false, cond, List, [], length, sum_by, Option, Some, None, refl, sym, ◌∙◌, ap, subst, arith}
 use Rattle.std.specs.Option.{option_map}
+use Rattle.std.proofs.lemmas.List.Sums.{length-filter, count_by-le-length}
 use Rattle.sc_base.specs.Definitions.{most_nodes, least_of}
 use Rattle.sc_node_table.specs.Values.{Ballot, Command, Effect, Route, OrderResult, Mail, Prepare, Told, Flight}
 use Rattle.sc_group_table.specs.policy.Definitions.{is_reported}

@@ -8,7 +8,7 @@ use Rattle.sc_law_walks.proofs.Lemmas.{pumped_freely}
 -- ---- a pump leaves all but what is in flight and the queues
 
 -- a replica but for these
-abbrev frame : ReplicaState → ReplicaState
+abbrev pub frame : ReplicaState → ReplicaState
 frame r = record r { leader = record r.leader { flights = [] }; acts = []; backlog = [] }
 
 -- what is offered is in flight, and no more
@@ -16,7 +16,7 @@ offered_kept : (r : ReplicaState) (slot : ℕ) (set : List ℕ) (command : Comma
 unfolding offered
 offered_kept r slot set command place e = e
 
-pump_kept : (place : Place) → frame (pumped place).0 ≡ frame place.0
+pub pump_kept : (place : Place) → frame (pumped place).0 ≡ frame place.0
 pump_kept place = pumped_freely (λ (p : Place). frame p.0 ≡ frame place.0) (λ r mails more acts backlog e. e) (offered_kept place.0) place refl
 
 framed : (r : ReplicaState) → MayGoOn r → MayGoOn (frame r)

@@ -1,6 +1,7 @@
 -- What the entries of splits and transactions say, and whom they add.
 use Rattle.std.proofs.Common.{◌≡◌, ℕ, ◌+◌, ◌*◌, ◌≤◌, not, Bool, true, false, true≢false, cond, List, [], ◌∷◌, length, take, drop, sum_by, Option, Some, None, refl, sym, ◌∙◌, ap, subst, arith, take-append-drop}
 use Rattle.std.specs.List.{filter}
+use Rattle.std.proofs.lemmas.List.Sums.{length-filter, count_by-le-length}
 use Rattle.sc_base.specs.Definitions.{Among, is_member, with_member, least_of, united}
 use Rattle.sc_node_table.specs.Values.{Draw, Body, Offer, Watch, Command, Noop, Call, Join, Leave, Split, Begin, Prepared, RecordVote, GiveUp, Finish, Watched, RecordWatch, Core, Lock, Free, Promised, Watching, Effect, Link, Route, OrderRefusal, OrderResult, Heard, No, Outcome, Past, Vote, AnswerBody, Mail, TxPrepare, TxVote, TxOutcome, TxWatched}
 use Rattle.sc_words.specs.commands.Definitions.{is_alone, is_changed, decided_in, cast_in}
