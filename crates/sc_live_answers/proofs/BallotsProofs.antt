@@ -2,7 +2,7 @@ pub mod PrepareSlots
 pub mod AcceptedReports
 pub mod PrepareSlotRows
 pub mod Ballots
-pub mod MarkLists
+pub mod HintedMarks
 pub mod NewestReplicas
 pub mod WellPlayers
 pub mod RowHints

@@ -24,7 +24,7 @@ use Rattle.sc_live_answers.proofs.ReplicasProofs.PlayerEvents.{IsTurn, TurnRests
 use Rattle.sc_live_answers.specs.Definitions.{AreFated}
 use Rattle.sc_live_answers.proofs.LedMailProofs.FormerMembers.{idle_fates, takes_fates, leads_fates, elects_fates}
 use Rattle.sc_live_answers.proofs.BallotsProofs.RowHints.{told_fit, own_body, none_flies, told_or, takes_by}
-use Rattle.sc_live_answers.proofs.BallotsProofs.MarkLists.{round_most, member_open}
+use Rattle.sc_live_answers.proofs.BallotsProofs.HintedMarks.{round_most, member_open}
 use Rattle.sc_live_answers.proofs.BallotsProofs.SeenBallotBounds.{topped}
 use Rattle.std.proofs.lemmas.Option.{same_Some, none-some}
 

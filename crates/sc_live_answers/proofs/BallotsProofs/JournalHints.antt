@@ -20,7 +20,7 @@ use Rattle.sc_live_journals.specs.logs.Definitions.{logged_sets}
 use Rattle.sc_live_answers.specs.Definitions.{over_at, slot_leaders_at, AreBornAsBegun, GroupsAreBornAsBegun, IsSentThrough, top_in, IsSeen, GroupsBeginRising, NextRowsRise, IsRisingOn}
 use Rattle.sc_live_journals.specs.mail.Definitions.{JournalsKeepIdle}
 use Rattle.sc_live_answers.proofs.BallotsProofs.SeenBallots.{refuses_old, seen_then}
-use Rattle.sc_live_answers.proofs.BallotsProofs.MarkLists.{member_open}
+use Rattle.sc_live_answers.proofs.BallotsProofs.HintedMarks.{member_open}
 use Rattle.sc_live_answers.proofs.BallotsProofs.HintInvariant.{fated_then}
 use Rattle.sc_live_answers.proofs.BallotsProofs.PromisedBallots.{topped_then}
 

@@ -19,7 +19,7 @@ use Rattle.sc_live_journals.proofs.GroupsProofs.Lemmas.{replicas_kept, scenarios
 use Rattle.sc_live_journals.specs.mail.Definitions.{JournalsKeepIdle}
 use Rattle.sc_live_answers.proofs.BallotsProofs.SeenBallotBounds.{Shows, ShowsNone, ShowsAsked, ShowsRefused, ShowsOwn, shown}
 use Rattle.sc_live_answers.proofs.BallotsProofs.SeenBallots.{RefusesOld, promise_then}
-use Rattle.sc_live_answers.proofs.BallotsProofs.MarkLists.{member_open, pledged_rises, fit_behind}
+use Rattle.sc_live_answers.proofs.BallotsProofs.HintedMarks.{member_open, pledged_rises, fit_behind}
 
 -- ---- no promise falls
 

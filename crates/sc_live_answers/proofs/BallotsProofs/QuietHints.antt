@@ -16,7 +16,7 @@ use Rattle.sc_live_journals.specs.groups.Definitions.{Ends, hint_in, hints_at, I
 use Rattle.sc_live_journals.proofs.GroupsProofs.Lemmas.{replicas_kept, scenarios_kept_born}
 use Rattle.sc_live_answers.specs.Definitions.{IsSentThrough, IsPassed, IsFated, QuietHintsRise, IsRisingOn}
 use Rattle.sc_live_answers.proofs.QuietProofs.EvenReplicas.{has_one as even_has, leader as even_leader, over_then as even_over}
-use Rattle.sc_live_answers.proofs.BallotsProofs.MarkLists.{round_most, open_or}
+use Rattle.sc_live_answers.proofs.BallotsProofs.HintedMarks.{round_most, open_or}
 use Rattle.std.proofs.lemmas.Option.{same_Some}
 
 -- a group that says that it is gone

@@ -21,7 +21,7 @@ use Rattle.sc_live_answers.specs.Definitions.{IsSentThrough, IsSentStep, MustLea
 use Rattle.sc_live_answers.proofs.BallotsProofs.PrepareSlotRows.{leader_moves}
 use Rattle.sc_live_answers.proofs.LedGroupsProofs.JoiningMembers.{HasAct}
 use Rattle.sc_live_answers.proofs.OrdersProofs.ActsUnderOrders.{has_work}
-use Rattle.sc_live_answers.proofs.BallotsProofs.MarkLists.{round_most}
+use Rattle.sc_live_answers.proofs.BallotsProofs.HintedMarks.{round_most}
 use Rattle.sc_live_answers.proofs.BallotsProofs.HintInvariant.{next_round}
 use Rattle.sc_live_answers.proofs.WorkProofs.Stages.{Before, work_leads, must_lead, step_back}
 

@@ -27,7 +27,7 @@ use Rattle.sc_live_journals.proofs.GroupsProofs.Lemmas.{replicas_kept, scenarios
 use Rattle.sc_live_journals.proofs.MailProofs.Lemmas.{replicas_last}
 use Rattle.sc_live_answers.specs.Definitions.{top_in, IsSeen, AsksSeen, RefusesSeen}
 use Rattle.sc_live_answers.specs.SeenBallots.{AreSeen}
-use Rattle.sc_live_answers.proofs.BallotsProofs.MarkLists.{pledged_rises}
+use Rattle.sc_live_answers.proofs.BallotsProofs.HintedMarks.{pledged_rises}
 use Rattle.sc_live_answers.proofs.BallotsProofs.Refusals.{IsRefusal, AreSaid}
 use Rattle.sc_live_answers.proofs.BallotsProofs.PlayerRefusals.{MayRefuse, input_said}
 use Rattle.sc_live_journals.proofs.RowsProofs.OwnGroupMail.{Refuses}

@@ -10,7 +10,7 @@ use Rattle.sc_live_steps.specs.following.Definitions.{Mark, promise_by, reached,
 use Rattle.sc_live_steps.proofs.FollowingProofs.Lemmas.{hinted-append, counts_of, reached-append, pledged-append, reached-least, pledged-most, rises, offers-reached}
 use Rattle.sc_live_answers.proofs.BallotsProofs.PrepareSlots.{MovesLast}
 use Rattle.sc_live_answers.specs.Definitions.{IsPassed, IsFated, EndsGone, AreFated}
-use Rattle.sc_live_answers.proofs.BallotsProofs.MarkLists.{round_most, Silent, none_silent, counts_silent, open_or, member_open, told_nothing, told_all, offered_nothing}
+use Rattle.sc_live_answers.proofs.BallotsProofs.HintedMarks.{round_most, Silent, none_silent, counts_silent, open_or, member_open, told_nothing, told_all, offered_nothing}
 use Rattle.sc_live_answers.proofs.BallotsProofs.PromisedBallots.{others_rise}
 
 module _ (at : Sets) (by : SlotLeaders) (now after : Progress) (node : ℕ) (taken : Option Mark) (sent marks marks_after : ℕ → List Mark) (hints hints_after : ℕ → Option ℕ) (row : IsRow now after node taken sent marks marks_after)

@@ -20,7 +20,7 @@ use Rattle.sc_live_journals.proofs.ScenesProofs.Lemmas.{asked_fresh}
 use Rattle.sc_live_answers.specs.Definitions.{IsSentThrough, top_in, HasMembers, StaysGone, OrdersKeepRounds, RequestsKeepBallots, SameViewsKeepBallot, RoundsAreSeen}
 use Rattle.sc_live_answers.proofs.QuietProofs.EvenReplicas.{leader, has_one, even, over_then}
 use Rattle.sc_live_answers.proofs.BallotsProofs.JournalHints.{calm_of}
-use Rattle.sc_live_answers.proofs.BallotsProofs.MarkLists.{round_most, member_open}
+use Rattle.sc_live_answers.proofs.BallotsProofs.HintedMarks.{round_most, member_open}
 use Rattle.sc_live_answers.proofs.BallotsProofs.RoundBounds.{works_lead, gone_then, on_then, told_then, round_then}
 
 -- the one that leads is the same, and has its ballot
