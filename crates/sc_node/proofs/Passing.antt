@@ -1,5 +1,5 @@
 -- A mail that is passed by makes no child.
-use Rattle.std.proofs.Common.{◌≡◌, ℕ, ◌<◌, Bool, true, false, ◌&&◌, ◌||◌, ◌==◌, not, nat_lt, List, [], Option, Some, None, refl, ◌∙◌, arith, if◌then◌else◌, ◌⊎◌, inl, inr, get_or, subst}
+use Rattle.std.proofs.Common.{◌≡◌, ℕ, Bool, true, false, ◌&&◌, ◌||◌, ◌==◌, not, nat_lt, List, [], Option, Some, None, refl, arith, get_or, subst, if◌then◌else◌}
 use Rattle.std.proofs.lemmas.Bool.{ltb-true, ne_eqb}
 use Rattle.sc_base.specs.declared.names.Ballot.{Ballot}
 use Rattle.sc_base.specs.declared.names.Draw.{Draw}
@@ -14,7 +14,7 @@ use Rattle.sc_words.specs.paxos.Votes.{counted}
 use Rattle.sc_node_table.specs.Replica.{ReplicaState, Executed, next, set_at, last_slot}
 use Rattle.sc_node_table.specs.Rows.{learn_row, mailed}
 use Rattle.sc_node_table.specs.Voting.{leads, vote_tallied, voted, accepted_row}
-use Rattle.sc_node.specs.PassedInputs.{is_short, readies_none, is_learnt, IsPassedBy, IsPassedByOne}
+use Rattle.sc_node.specs.PassedInputs.{is_short, readies_none, IsPassedBy, IsPassedByOne}
 use Rattle.sc_node.specs.Places.{StandsAt}
 use Rattle.sc_node_table.specs.Node.{NodeState, replica_of}
 
@@ -63,14 +63,6 @@ passed_childless from (TxElsewhere tx coord hint) r mails h = refl
 passed_childless from (TxWatch tx watch) r mails h = refl
 passed_childless from (TxWatched tx coord part vote) r mails h = refl
 passed_childless from (Told order result) r mails h = refl
-
--- a slot that is executed, or comes after the last one
-pub is_learnt-where : (slot : ℕ) (r : ReplicaState) → is_learnt slot r ≡ true → (last_slot < slot) ⊎ (slot < next r)
-is_learnt-where slot r h = where_by (nat_lt last_slot slot) (nat_lt slot (next r)) slot (next r) refl refl h
-  where
-    where_by : (b c : Bool) (slot next : ℕ) → nat_lt last_slot slot ≡ b → nat_lt slot next ≡ c → (b || c) ≡ true → (last_slot < slot) ⊎ (slot < next)
-    where_by true c slot next l m h = inl (ltb-true last_slot slot l)
-    where_by false c slot next l m h = inr (ltb-true slot next (m ∙ h))
 
 -- a mail that the node passes by is passed by by the replica at the place of its group
 pub passed-at : (group : Draw) (from : ℕ) (body : MailBody) (node : NodeState) (n : ℕ) (d : ReplicaState) → StandsAt group node.replicas n
