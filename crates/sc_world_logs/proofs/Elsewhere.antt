@@ -1,5 +1,5 @@
 -- What a row accepts for other groups, and for the one that it names.
-use Rattle.std.proofs.Common.{◌≡◌, ◌+◌, true, false, List, [], ◌∷◌, ◌++◌, Some, inl, inr, sym, ◌∙◌, ap, subst}
+use Rattle.std.proofs.Common.{◌≡◌, true, false, List, [], ◌∷◌, ◌++◌, Some, inl, inr, sym, ◌∙◌, ap, subst}
 use Rattle.std.proofs.lemmas.Bool.{cases_Bool, cond-true, cond-false}
 use Rattle.sc_base.proofs.NameLemmas.{draw_is, same_name}
 use Rattle.sc_base.specs.Same.{same_draw}
@@ -41,5 +41,6 @@ accepts_here name acceptance rows after adds group here =
 pub known_elsewhere : (rows after : List (Row Mail OrderLine)) (known : Known) → accepts known.base.core.id after ≡ accepts known.base.core.id rows → IsKnown rows known → IsKnown after known
 known_elsewhere rows after known same is = record {
   agrees = subst (λ (h : List (Step Command)). Agrees h known) (sym same) is.agrees;
+  children = is.children;
   ends = subst (λ (h : List (Step Command)). NothingFollows (rule_of as_nodes known.base) h known.log.items) (sym same) is.ends;
 }

@@ -43,6 +43,14 @@ childless_push base log c state is none =
     ∙ ap (λ (bases : List Base). children_of (group_of base) log ++ bases) (ap (λ (group : Group). children_of group (c ∷ [])) (sym is) ∙ none)
     ∙ append-nil (children_of (group_of base) log)
 
+-- the children that are kept, with those of one more entry
+pub children_grown : (base : Base) (log log2 : List Command) (c : Command) (state : Group) (children children2 : List Base) → state ≡ state_after (group_of base) log → log2 ≡ log ++ c ∷ []
+    → children2 ≡ children ++ children_of state (c ∷ []) → children ≡ children_of (group_of base) log → children2 ≡ children_of (group_of base) log2
+children_grown base log log2 c state children children2 is longer more kept =
+    more ∙ ap (λ (bases : List Base). bases ++ children_of state (c ∷ [])) kept
+    ∙ ap (λ (group : Group). children_of (group_of base) log ++ children_of group (c ∷ [])) is
+    ∙ sym (children_push (group_of base) log c) ∙ ap (children_of (group_of base)) (sym longer)
+
 -- ---- a log that grows
 
 pushed_last : {X : Type 0} (xs : List X) (x : X) (k : ℕ) → k ≡ length xs → slice_get (xs ++ x ∷ []) k ≡ Some x

@@ -1,5 +1,5 @@
 -- What code keeps of a group from rows: its decided log, and what the log is computed from.
-use Rattle.std.specs.Prelude.{◌≡◌, ℕ, ◌+◌, ◌-◌, ◌<◌, List, ◌++◌, length, take, slice_get, Option, Some, None}
+use Rattle.std.specs.Prelude.{◌≡◌, ℕ, true, ◌+◌, ◌-◌, ◌<◌, List, ◌++◌, length, take, slice_get, Option, Some, None}
 use Rattle.std.specs.Ordering.{nat_cmp}
 use Rattle.std.specs.BTreeMap.{get_by}
 use Rattle.sc_base.specs.declared.names.Draw.{Draw}
@@ -21,6 +21,7 @@ use Rattle.sc_world_logs.specs.Acceptances.{steps_of, steps_by}
 use Rattle.sc_world_logs.specs.Indexes.{listed_in, IsIndexed}
 use Rattle.sc_world_logs.specs.declared.accepting.Acceptance.{Acceptance}
 use Rattle.sc_world_logs.specs.declared.known.Known.{Known}
+use Rattle.sc_world_logs.specs.declared.known.Taking.{Taking}
 
 -- each entry of a log is what is chosen at its slot
 abbrev pub IsChosenSoFar : {V : Type 0} → Rule V → List (Step V) → List V → Type 0
@@ -54,9 +55,14 @@ kept_of known slot = listed_in (λ kept. kept.items) (get_by (nat_cmp slot) know
 abbrev pub Agrees : List (Step Command) → Known → Type 0
 Agrees h known = MatchesAccepted h known.base (kept_of known) known.log.items known.members.items known.state known.behind
 
--- what is kept of a group is what the rows show of it, with all of its log
+-- the children that are kept of a group are those that its log creates
+abbrev pub KeepsChildren : Known → Type 0
+KeepsChildren known = known.children.items ≡ children_of (group_of known.base) known.log.items
+
+-- what is kept of a group is what the rows show of it, with all of its log and all of its children
 pub record IsKnown (rows : List (Row Mail OrderLine)) (known : Known) : Type 0 where
   pub agrees : Agrees (accepts known.base.core.id rows) known
+  pub children : KeepsChildren known
   pub ends : NothingFollows (rule_of as_nodes known.base) (accepts known.base.core.id rows) known.log.items
 
 -- one row more than before, which accepts this for some group, or nothing
@@ -68,3 +74,8 @@ pub record StaysKnown (rows after : List (Row Mail OrderLine)) (known later : Kn
   pub fact : IsKnown after later
   pub base_is : later.base ≡ known.base
   pub children_are : children_of (group_of later.base) later.log.items ≡ children_of (group_of known.base) known.log.items
+
+-- what is kept of a group after one row more: where it holds, it is what the rows show of the same group; where it is calm, its log creates the same children as before
+pub record IsTaken (rows after : List (Row Mail OrderLine)) (taking : Taking) (known later : Known) : Type 0 where
+  pub holds : taking.holds ≡ true → IsKnown after later × (later.base ≡ known.base)
+  pub calm : taking.calm ≡ true → StaysKnown rows after known later

@@ -21,7 +21,7 @@ ghost use Rattle.sc_actor.specs.declared.rows.Row.{Row};
 ghost use Rattle.sc_world_logs.specs.declared.accepting.Acceptance.{Acceptance};
 ghost use Rattle.sc_world_logs.specs.Acceptances.{step_of, steps_of, steps_by};
 ghost use Rattle.sc_world_logs.specs.Indexes.{listed_in, IsIndexed};
-ghost use Rattle.sc_world_logs.specs.Known.{kept_of, Agrees, NothingFollows, IsKnown, Adds, StaysKnown};
+ghost use Rattle.sc_world_logs.specs.Known.{kept_of, Agrees, KeepsChildren, NothingFollows, IsKnown, IsTaken, Adds};
 
 use crate::accepting::{Acceptance, accepts};
 use crate::choosing::chosen_at;
@@ -44,6 +44,8 @@ pub struct Known {
     pub index: BySlot,
     /// The group's decided log.
     pub log: Vec<Command>,
+    /// The birth records of the groups that the log creates, in its order.
+    pub children: Vec<Base>,
     /// The members of each slot of the log.
     pub members: Vec<Members>,
     /// The group's state after the log.
@@ -51,6 +53,15 @@ pub struct Known {
     /// The group's state that gives the members of the next slot: that after all but the last
     /// entries of the log, as many of them as there are open slots less one.
     pub behind: Machine,
+}
+
+/// What became of what is known of a group when an acceptance was taken in.
+#[derive(Clone, Copy)]
+pub struct Taking {
+    /// Whether it is what the rows with the accepting row show.
+    pub holds: bool,
+    /// Whether it is, and the log creates the same groups as before.
+    pub calm: bool,
 }
 
 // Returns whether both hold.
@@ -89,9 +100,15 @@ fn lengthen(
     Ok(())
 }
 
-// Executes one more entry in the group's state. Returns whether the entry creates no child.
-fn step(state: &mut Machine, command: &Command) -> Result<bool, OutOfMemory>
+// Executes one more entry in the group's state, and adds the child that the entry creates, if it
+// creates one. Returns whether it creates none.
+fn step(
+    state: &mut Machine,
+    children: &mut Vec<Base>,
+    command: &Command,
+) -> Result<bool, OutOfMemory>
     ensures { IfOk result (λ childless. (state.new ≡ (applied state.old command.now).0) ×
+        (children.new.items ≡ children.old.items ++ children_of state.old (command.now ∷ [])) ×
         (childless ≡ true → children_of state.old (command.now ∷ []) ≡ [])) }
 {
     births_are_children();
@@ -99,7 +116,10 @@ fn step(state: &mut Machine, command: &Command) -> Result<bool, OutOfMemory>
     execute(state, command)?;
     match child {
         None => Ok(true),
-        Some(_child) => Ok(false),
+        Some(child) => {
+            children.push(child)?;
+            Ok(false)
+        }
     }
 }
 
@@ -110,10 +130,11 @@ fn grow(known: &mut Known, command: Command) -> Result<bool, OutOfMemory>
         chosen_at (members_of (rule_of as_nodes known.old.base) known.old.log.items
         (length known.old.log.items + 1)) h (length known.old.log.items + 1) ≡ Some command →
         Agrees h known.new × (known.new.base ≡ known.old.base) ×
+        (KeepsChildren known.old → KeepsChildren known.new) ×
         (childless ≡ true → children_of (group_of known.new.base) known.new.log.items
         ≡ children_of (group_of known.old.base) known.old.log.items)) }
 {
-    let childless = step(&mut known.state, &command)?;
+    let childless = step(&mut known.state, &mut known.children, &command)?;
     known.members.push(known.behind.core().members)?;
     lengthen(&mut known.behind, &mut known.log, command)?;
     Ok(childless)
@@ -150,6 +171,7 @@ fn advance(alloc: Global, known: &mut Known) -> Result<bool, OutOfMemory>
     ensures { IfOk result (λ childless. (h : List (Step Command)) → Agrees h known.old →
         Agrees h known.new × (known.new.base ≡ known.old.base) ×
         NothingFollows (rule_of as_nodes known.new.base) h known.new.log.items ×
+        (KeepsChildren known.old → KeepsChildren known.new) ×
         (childless ≡ true → children_of (group_of known.new.base) known.new.log.items
         ≡ children_of (group_of known.old.base) known.old.log.items)) }
 {
@@ -166,6 +188,32 @@ fn advance(alloc: Global, known: &mut Known) -> Result<bool, OutOfMemory>
     Err(OutOfMemory)
 }
 
+// Returns what rows show of a group with this birth record, where this is what they accept for it.
+fn known_from(alloc: Global, base: Base, found: Vec<Acceptance>) -> Result<Known, OutOfMemory>
+    ensures { IfOk result (λ known. (known.base ≡ base) × ((rows : List (Row Mail OrderLine)) →
+        steps_of found.items ≡ accepts base.core.id rows → IsKnown rows known)) }
+{
+    let index = by_slot(alloc, found)?;
+    let one = base.dup(alloc)?;
+    let state = Machine::born(alloc, one)?;
+    let other = base.dup(alloc)?;
+    let behind = Machine::born(alloc, other)?;
+    let log = Vec::new(alloc);
+    let children = Vec::new(alloc);
+    let members = Vec::new(alloc);
+    let mut known = Known {
+        base,
+        index,
+        log,
+        children,
+        members,
+        state,
+        behind,
+    };
+    let _childless = advance(alloc, &mut known)?;
+    Ok(known)
+}
+
 /// Returns what rows show of a group with this birth record. The only error is out of memory.
 pub fn known_of(
     alloc: Global,
@@ -175,23 +223,16 @@ pub fn known_of(
     ensures { IfOk result (λ known. IsKnown rows.now known × (known.base ≡ base)) }
 {
     let found = accepts(alloc, base.core.id, rows)?;
-    let index = by_slot(alloc, found)?;
-    let one = base.dup(alloc)?;
-    let state = Machine::born(alloc, one)?;
-    let other = base.dup(alloc)?;
-    let behind = Machine::born(alloc, other)?;
-    let log = Vec::new(alloc);
-    let members = Vec::new(alloc);
-    let mut known = Known {
-        base,
-        index,
-        log,
-        members,
-        state,
-        behind,
-    };
-    let _childless = advance(alloc, &mut known)?;
-    Ok(known)
+    known_from(alloc, base, found)
+}
+
+/// Returns what rows show of a group with this birth record for which they accept nothing. The only
+/// error is out of memory.
+pub fn unheard_of(alloc: Global, base: Base) -> Result<Known, OutOfMemory>
+    ensures { IfOk result (λ known. (known.base ≡ base) × ((rows : List (Row Mail OrderLine)) →
+        accepts base.core.id rows ≡ [] → IsKnown rows known)) }
+{
+    known_from(alloc, base, Vec::new(alloc))
 }
 
 // Returns whether the log's command at a slot is still the one that is chosen there.
@@ -213,43 +254,54 @@ fn is_still_chosen(known: &Known, slot: u32) -> bool
     }
 }
 
-// Adds one more acceptance for the group. Returns true only where what was known stays true, the
-// log going on by entries that create no child.
-fn take(alloc: Global, known: &mut Known, acceptance: &Acceptance) -> Result<bool, OutOfMemory>
-    ensures { IfOk result (λ calm. calm ≡ true → (rows after : List (Row Mail OrderLine)) →
+// Adds one more acceptance for the group. What is kept holds afterwards where the log's command at
+// its slot is still chosen, and is calm where besides no entry that the log goes on by creates a
+// child.
+fn take(alloc: Global, known: &mut Known, acceptance: &Acceptance) -> Result<Taking, OutOfMemory>
+    ensures { IfOk result (λ taking. (rows after : List (Row Mail OrderLine)) →
         accepts known.old.base.core.id after ≡
         step_of acceptance.now ∷ accepts known.old.base.core.id rows →
-        IsKnown rows known.old → StaysKnown rows after known.old known.new) }
+        IsKnown rows known.old → IsTaken rows after taking known.old known.new) }
 {
     let slot = acceptance.slot;
     add(alloc, &mut known.index, acceptance.dup(alloc)?)?;
     if slot as usize > known.log.len() {
         let calm = advance(alloc, known)?;
-        return Ok(calm);
+        return Ok(Taking { holds: true, calm });
     }
     if slot == 0 {
-        return Ok(true);
+        return Ok(Taking {
+            holds: true,
+            calm: true,
+        });
     }
-    Ok(is_still_chosen(known, slot))
+    let still = is_still_chosen(known, slot);
+    Ok(Taking {
+        holds: still,
+        calm: still,
+    })
 }
 
-/// Takes in an acceptance for the group with this name, where that is the known group. Where it
-/// returns true, what is kept is what the rows with the accepting row show, and the log creates the
-/// same children as before. The only error is out of memory, where the group is the known one.
+/// Takes in an acceptance for the group with this name, where that is the known group, and returns
+/// what became of what is known of it. The only error is out of memory, where the group is the known
+/// one.
 pub fn take_in(
     alloc: Global,
     known: &mut Known,
     name: Draw,
     acceptance: &Acceptance,
-) -> Result<bool, OutOfMemory>
-    ensures known { IfOk result (λ calm. calm ≡ true → (rows after : List (Row Mail OrderLine)) →
+) -> Result<Taking, OutOfMemory>
+    ensures known { IfOk result (λ taking. (rows after : List (Row Mail OrderLine)) →
         Adds (Some (name, acceptance.now)) rows after → IsKnown rows known.old →
-        StaysKnown rows after known.old known.new) }
+        IsTaken rows after taking known.old known.new) }
     ensures none { same_draw known.old.base.core.id name ≡ false → IsOk result }
 {
     if same_draw(known.base.core.id, name) {
-        let calm = take(alloc, known, acceptance)?;
-        return Ok(calm);
+        let taking = take(alloc, known, acceptance)?;
+        return Ok(taking);
     }
-    Ok(true)
+    Ok(Taking {
+        holds: true,
+        calm: true,
+    })
 }

@@ -10,4 +10,4 @@ mod known;
 
 pub use accepting::{Acceptance, accepted_in, add_mails};
 pub use indexing::BySlot;
-pub use known::{Known, known_of, take_in};
+pub use known::{Known, Taking, known_of, take_in, unheard_of};

@@ -1,11 +1,11 @@
 -- The groups of rows, with what is kept of each.
-use Rattle.std.proofs.Common.{◌≡◌, ℕ, zero, suc, ◌+◌, ◌<◌, ◌≤◌, get_or, take, Bool, true, false, ◌||◌, List, [], ◌∷◌, ◌++◌, length, map, fold, Some, ◌⊎◌, inl, inr, refl, sym, ◌∙◌, ap, subst, arith}
+use Rattle.std.proofs.Common.{◌≡◌, ℕ, zero, suc, ◌+◌, ◌<◌, ◌≤◌, ◌==◌, get_or, take, Bool, true, false, ◌||◌, List, [], ◌∷◌, ◌++◌, length, map, fold, Some, ◌⊎◌, inl, inr, refl, sym, ◌∙◌, ap, subst, arith, append-nil}
 use Rattle.std.specs.Prelude.{find}
 use Rattle.std.specs.List.{flat_map, list_any}
-use Rattle.std.proofs.lemmas.Bool.{cases_Bool, cond-true, cond-false}
+use Rattle.std.proofs.lemmas.Bool.{cases_Bool, cond-true, cond-false, eqb-true}
 use Rattle.std.proofs.Math.Seq.{take-suc}
 use Rattle.std.proofs.lemmas.List.{map-append, length_push}
-use Rattle.std.proofs.lemmas.Grind.{fold-append}
+use Rattle.std.proofs.lemmas.Grind.{flat_map-append, fold-append}
 use Rattle.sc_base.specs.Among.{Each}
 use Rattle.sc_base.specs.declared.names.Draw.{Draw}
 use Rattle.sc_words.specs.declared.commands.cores.Base.{Base}
@@ -67,16 +67,16 @@ pub any_named : (knowns : List Known) (name : Draw) → list_any (is_kept_of nam
 any_named [] name = refl
 any_named (known ∷ knowns) name = ap (λ (b : Bool). is_kept_of name known || b) (any_named knowns name)
 
--- the children that the kept logs name
-pub children_kept : (rows : List (Row Mail OrderLine)) (knowns : List Known) → Each (IsKnown rows) knowns
-    → flat_map (λ (known : Known). children_of (group_of known.base) known.log.items) knowns ≡ flat_map (children_by as_nodes rows) (map (λ (known : Known). known.base) knowns)
+-- the children that are kept are those that the logs name
+children_kept : (rows : List (Row Mail OrderLine)) (knowns : List Known) → Each (IsKnown rows) knowns
+    → flat_map (λ (known : Known). known.children.items) knowns ≡ flat_map (children_by as_nodes rows) (map (λ (known : Known). known.base) knowns)
 children_kept rows [] all = refl
 children_kept rows (known ∷ knowns) all =
-    ap (λ (ys : List Base). ys ++ flat_map (λ (k : Known). children_of (group_of k.base) k.log.items) knowns) (ap (children_of (group_of known.base)) (known_log rows known all.0))
+    ap (λ (ys : List Base). ys ++ flat_map (λ (k : Known). k.children.items) knowns) (all.0.children ∙ ap (children_of (group_of known.base)) (known_log rows known all.0))
     ∙ ap (λ (ys : List Base). children_by as_nodes rows known.base ++ ys) (children_kept rows knowns all.1)
 
 pub children_are : (rows : List (Row Mail OrderLine)) (bases : List Base) (knowns : List Known) → AreKnown rows bases knowns
-    → flat_map (λ (known : Known). children_of (group_of known.base) known.log.items) knowns ≡ flat_map (children_by as_nodes rows) bases
+    → flat_map (λ (known : Known). known.children.items) knowns ≡ flat_map (children_by as_nodes rows) bases
 children_are rows bases knowns known = children_kept rows knowns known.each ∙ ap (flat_map (children_by as_nodes rows)) known.bases_are
 
 -- one more group
@@ -174,6 +174,26 @@ births_push bases children i child within here =
     let one : i + 1 ≡ suc i = omega arith in
     ap (fold with_birth bases) (ap (λ (n : ℕ). take n children) one ∙ take-suc children i child within ∙ ap (λ (b : Base). take i children ++ b ∷ []) (sym here))
     ∙ fold-append with_birth bases (take i children) (child ∷ [])
+
+-- the children of one more group
+pub children_push : (bases : List Base) (knowns : List Known) (i : ℕ) (known : Known) → i < length knowns → known ≡ get_or knowns i known
+    → fold with_birth bases (flat_map (λ (k : Known). k.children.items) (take (i + 1) knowns)) ≡ fold with_birth (fold with_birth bases (flat_map (λ (k : Known). k.children.items) (take i knowns))) known.children.items
+children_push bases knowns i known within here =
+    let one : i + 1 ≡ suc i = omega arith in
+    let of : Known → List Base = λ (k : Known). k.children.items in
+    ap (λ (ks : List Known). fold with_birth bases (flat_map of ks)) (ap (λ (n : ℕ). take n knowns) one ∙ take-suc knowns i known within ∙ ap (λ (k : Known). take i knowns ++ k ∷ []) (sym here))
+    ∙ ap (fold with_birth bases) (flat_map-append of (take i knowns) (known ∷ []) ∙ ap (λ (bs : List Base). flat_map of (take i knowns) ++ bs) (append-nil known.children.items))
+    ∙ fold-append with_birth bases (flat_map of (take i knowns)) known.children.items
+
+-- a list of no length is empty
+pub none_long : (knowns : List Known) → (length knowns == 0) ≡ true → knowns ≡ []
+none_long [] none = refl
+none_long (known ∷ knowns) none = (let zero_long : length (known ∷ knowns) ≡ 0 = eqb-true (length (known ∷ knowns)) 0 none in absurd (omega (arith, zero_long)))
+
+-- where none was born, the groups are as they were
+pub none_born : (rows : List (Row Mail OrderLine)) (bases later : List Base) (knowns born : List Known) → born ≡ [] → AreKnown rows bases knowns → AreKnown rows later (knowns ++ born) → later ≡ bases
+none_born rows bases later knowns born none known are =
+    sym are.bases_are ∙ ap (map (λ (k : Known). k.base)) (ap (λ (ks : List Known). knowns ++ ks) none ∙ append-nil knowns) ∙ known.bases_are
 
 -- the groups after a round that finds no other are all groups
 pub found_all : (rows : List (Row Mail OrderLine)) (bases : List Base) (i : ℕ) (groups : Groups) → i ≤ length rows

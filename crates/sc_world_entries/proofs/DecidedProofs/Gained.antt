@@ -1,5 +1,5 @@
 -- What one more row adds to the entries.
-use Rattle.std.proofs.Common.{◌≡◌, ℕ, ◌+◌, true, false, List, [], ◌∷◌, ◌++◌, length, map, drop, if◌then◌else◌, Some, None, inl, inr, refl, sym, ◌∙◌, ap, subst}
+use Rattle.std.proofs.Common.{◌≡◌, ℕ, ◌+◌, true, List, [], ◌∷◌, ◌++◌, length, map, drop, if◌then◌else◌, Option, Some, None, inl, inr, refl, sym, ◌∙◌, ap, subst}
 use Rattle.std.specs.Prelude.{find}
 use Rattle.std.specs.List.{flat_map}
 use Rattle.std.proofs.Math.Seq.{drop-length}
@@ -23,7 +23,7 @@ use Rattle.sc_meaning.specs.sound.Accepts.{accepts}
 use Rattle.sc_meaning.specs.sound.GroupsOf.{children_of, children_by, is_birth_of, with_next_children, groups_at, log_by, entries_from, entries_after, entries_by_row}
 use Rattle.sc_meaning.specs.sound.Logs.{rule_of, decided_log}
 use Rattle.sc_world_logs.specs.Known.{Adds, IsKnown, StaysKnown}
-use Rattle.sc_world_entries.specs.decided.Found.{AreKnown, AreTracked, StayKnown, log_kept, new_entries, grown_by}
+use Rattle.sc_world_entries.specs.decided.Found.{AreKnown, AreTracked, HoldKnown, StayKnown, is_kept_of, kept_log, log_kept, length_kept, length_of, length_before, new_entries, entries_behind, grown_by}
 use Rattle.sc_world_logs.specs.declared.accepting.Acceptance.{Acceptance}
 use Rattle.sc_world_entries.specs.declared.decided.births.Groups.{Groups}
 use Rattle.sc_world_logs.specs.declared.known.Known.{Known}
@@ -196,11 +196,67 @@ pub gained_is : (bases : List Base) (rows after : List (Row Mail OrderLine)) (ro
 gained_is bases rows after row old new is known known_new =
     gained_here bases rows row old new known (subst (λ (a : List (Row Mail OrderLine)). AreKnown a (groups_at as_nodes bases a) new) is known_new)
 
+-- ---- groups that are born
+
+-- how long the log of a group is, as noted
+length_noted : (name : Draw) (knowns : List Known) → length_of name (map length_kept knowns) ≡ length (log_kept name knowns)
+length_noted name [] = refl
+length_noted name (known ∷ knowns) = elim (cases_Bool (is_kept_of name known)) [
+  | inl t ↦
+      cond-true (is_kept_of name known) (length known.log.items) (length_of name (map length_kept knowns)) t
+      ∙ ap (λ (k : Option Known). length (kept_log k)) (sym (cond-true (is_kept_of name known) (Some known) (find (is_kept_of name) knowns) t))
+  | inr f ↦
+      cond-false (is_kept_of name known) (length known.log.items) (length_of name (map length_kept knowns)) f ∙ length_noted name knowns
+      ∙ ap (λ (k : Option Known). length (kept_log k)) (sym (cond-false (is_kept_of name known) (Some known) (find (is_kept_of name) knowns) f))
+]
+
+-- how long it was before a row
+length_was : (rows after : List (Row Mail OrderLine)) (name : Draw) (acceptance : Acceptance) (bases : List Base) (knowns later : List Known) (count : ℕ) (group : Draw) → Adds (Some (name, acceptance)) rows after
+    → AreKnown rows bases knowns → HoldKnown after knowns later → count ≡ length (log_kept name knowns)
+    → length_before name count (map length_kept later) group ≡ length (log_kept group knowns)
+length_was rows after name acceptance bases knowns later count group adds known hold is = elim (cases_Bool (same_draw group name)) [
+  | inl t ↦
+      cond-true (same_draw group name) count (length_of group (map length_kept later)) t ∙ is ∙ ap (λ (n : Draw). length (log_kept n knowns)) (sym (draw_is group name t))
+  | inr f ↦
+      cond-false (same_draw group name) count (length_of group (map length_kept later)) f ∙ length_noted group later
+      ∙ ap length
+      (log_in_is after bases later group (record { bases_are = hold.same ∙ known.bases_are; each = hold.each })
+      ∙ named_log_elsewhere rows after group bases (accepts_elsewhere name acceptance rows after adds group f)
+      ∙ sym (log_in_is rows bases knowns group known))
+]
+
+-- what a row adds, where the log that it adds to may create groups
+pub born_gained : (bases : List Base) (rows after : List (Row Mail OrderLine)) (row : Row Mail OrderLine) (name : Draw) (acceptance : Acceptance) (knowns later new : List Known) (count : ℕ) → after ≡ rows ++ row ∷ []
+    → Adds (Some (name, acceptance)) rows after → AreKnown rows (groups_at as_nodes bases rows) knowns → HoldKnown after knowns later → count ≡ length (log_kept name knowns)
+    → AreKnown after (groups_at as_nodes bases after) new → flat_map (entries_behind name count (map length_kept later) new) new ≡ entries_by_row as_nodes bases rows row
+born_gained bases rows after row name acceptance knowns later new count is adds known hold count_is known_new =
+    let lengths : List (Draw × ℕ) = map length_kept later in
+    flat_same (entries_behind name count lengths new) (new_entries knowns new) new
+    (each_of (λ (k : Known). entries_behind name count lengths new k ≡ new_entries knowns new k) new
+    (λ k. ap (λ (n : ℕ). entries_from k.base.core.id (n + 1) (drop n (log_kept k.base.core.id new)))
+    (length_was rows after name acceptance (groups_at as_nodes bases rows) knowns later count k.base.core.id adds known hold count_is)))
+    ∙ gained_is bases rows after row knowns new is known known_new
+
 -- ---- group by group
 
 split_each : {X : Type 0} (P : X → Type 0) (xs : List X) (x : X) → Each P (xs ++ x ∷ []) → Each P xs × P x
 split_each P [] x all = (tt, all.0)
 split_each P (y ∷ xs) x all = (let more = split_each P xs x all.1 in ((all.0, more.0), more.1))
+
+-- one group more that holds
+pub hold_push : (rows after : List (Row Mail OrderLine)) (knowns later : List Known) (known next : Known) → Each (IsKnown rows) (knowns ++ known ∷ [])
+    → (Each (IsKnown rows) knowns → HoldKnown after knowns later) → (IsKnown rows known → IsKnown after next × (next.base ≡ known.base)) → HoldKnown after (knowns ++ known ∷ []) (later ++ next ∷ [])
+hold_push rows after knowns later known next all so_far one =
+    let parts = split_each (IsKnown rows) knowns known all in
+    let hold = so_far parts.0 in
+    let holds = one parts.1 in
+    let bases : List Known → List Base = map (λ (k : Known). k.base) in
+    record {
+      same =
+          map-append (λ (k : Known). k.base) later (next ∷ []) ∙ ap (λ (bs : List Base). bs ++ next.base ∷ []) hold.same
+          ∙ ap (λ (b : Base). bases knowns ++ b ∷ []) holds.1 ∙ sym (map-append (λ (k : Known). k.base) knowns (known ∷ []));
+      each = Each-push (IsKnown after) later next hold.each holds.0;
+    }
 
 -- one group more that stays known
 pub stay_push : (rows after : List (Row Mail OrderLine)) (knowns later : List Known) (known next : Known) → Each (IsKnown rows) (knowns ++ known ∷ [])

@@ -1,5 +1,6 @@
 -- The groups that rows decide, each with what is kept of it, and the entries that one more row adds.
-use Rattle.std.specs.Prelude.{◌≡◌, ℕ, ◌+◌, ◌-◌, Bool, List, [], drop, map, find, true, if◌then◌else◌, Option, Some, None}
+use Rattle.std.specs.List.{list_any}
+use Rattle.std.specs.Prelude.{◌≡◌, ℕ, ◌+◌, Bool, List, [], ◌∷◌, length, drop, map, find, true, false, if◌then◌else◌, Option, Some, None}
 use Rattle.sc_base.specs.Among.{Each}
 use Rattle.sc_base.specs.Same.{same_draw}
 use Rattle.sc_base.specs.declared.names.Draw.{Draw}
@@ -10,9 +11,12 @@ use Rattle.sc_mail.specs.declared.bodies.Mail.{Mail}
 use Rattle.sc_actor.specs.declared.rows.Row.{Row}
 use Rattle.sc_meaning.specs.sound.Players.{as_nodes}
 use Rattle.sc_meaning.specs.declared.entries.LogEntry.{LogEntry}
+use Rattle.sc_meaning.specs.sound.Accepts.{accepts}
 use Rattle.sc_meaning.specs.sound.GroupsOf.{children_by, groups_at, with_next_children, entries_from, entries_after}
 use Rattle.sc_world_logs.specs.declared.known.Known.{Known}
+use Rattle.sc_world_logs.specs.declared.known.Taking.{Taking}
 use Rattle.sc_world_entries.specs.declared.decided.births.Groups.{Groups}
+use Rattle.sc_world_entries.specs.declared.decided.births.Heard.{Heard}
 use Rattle.sc_world_logs.specs.Known.{IsKnown}
 
 -- the log that is kept of a group, if the group was found, and else the empty log
@@ -38,6 +42,39 @@ pub record StayKnown (rows after : List (Row Mail OrderLine)) (knowns later : Li
   pub same : map (λ known. known.base) later ≡ map (λ known. known.base) knowns
   pub each : Each (IsKnown after) later
   pub children : Each (λ base. children_by as_nodes after base ≡ children_by as_nodes rows base) (map (λ known. known.base) knowns)
+
+-- What is kept later is about the same groups and says what the rows say.
+pub record HoldKnown (rows : List (Row Mail OrderLine)) (knowns later : List Known) : Type 0 where
+  pub same : map (λ known. known.base) later ≡ map (λ known. known.base) knowns
+  pub each : Each (IsKnown rows) later
+
+-- what became of what is kept of these groups after one row more
+pub record AreTaken (rows after : List (Row Mail OrderLine)) (taking : Taking) (knowns later : List Known) : Type 0 where
+  pub holds : taking.holds ≡ true → Each (IsKnown rows) knowns → HoldKnown after knowns later
+  pub calm : taking.calm ≡ true → Each (IsKnown rows) knowns → StayKnown rows after knowns later
+
+-- where all names are said to be heard, the rows accept nothing for a name that is not among them
+abbrev pub IsHeard : List (Row Mail OrderLine) → Heard → Type 0
+IsHeard rows heard = heard.all ≡ true → (name : Draw) → list_any (same_draw name) heard.names.items ≡ false → accepts name rows ≡ []
+
+-- how long a group's log is, under its name
+abbrev pub length_kept : Known → Draw × ℕ
+length_kept known = (known.base.core.id, length known.log.items)
+
+-- the length that is noted under a name; none is 0
+abbrev pub length_of : Draw → List (Draw × ℕ) → ℕ
+length_of name [] = 0
+length_of name (noted ∷ lengths) = if same_draw noted.0 name then noted.1 else length_of name lengths
+
+-- how long the log of a group was before a row, where the row adds to the log of the group with a name alone, which had this count of entries, and the other logs are as long as noted
+abbrev pub length_before : Draw → ℕ → List (Draw × ℕ) → Draw → ℕ
+length_before name count lengths group = if same_draw group name then count else length_of group lengths
+
+-- the entries that the log of a group has behind those that it had before the row
+abbrev pub entries_behind : Draw → ℕ → List (Draw × ℕ) → List Known → Known → List LogEntry
+entries_behind name count lengths knowns known =
+    entries_from known.base.core.id (length_before name count lengths known.base.core.id + 1)
+    (drop (length_before name count lengths known.base.core.id) (log_kept known.base.core.id knowns))
 
 -- the entries that the log of a group has gained, by what was kept of all groups before and what is kept now
 abbrev pub new_entries : List Known → List Known → Known → List LogEntry

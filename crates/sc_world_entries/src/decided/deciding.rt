@@ -3,7 +3,7 @@ ghost use Rattle.std.specs.Prelude.{◌≡◌, ◌++◌, [], IfOk, IsOk, OnOk};
 ghost use Rattle.sc_meaning.specs.sound.Players.{as_nodes};
 ghost use Rattle.sc_world_entries.specs.decided.Deciding.{deciding_from, with_entries};
 
-use crate::decided::births::groups_of;
+use crate::decided::births::{Heard, groups_of, hear};
 use crate::decided::entries::after_row;
 use sc_actor::Row;
 use sc_base::{OutOfMemory, Sequence};
@@ -55,15 +55,29 @@ pub fn deciding_rows(
 {
     let mut deciding = Vec::new(alloc);
     let mut sent = Vec::new(alloc);
+    let mut heard = Heard {
+        names: Vec::new(alloc),
+        all: true,
+    };
     let mut groups = groups_of(alloc, bases, &rows[..0])?;
     for i in 0..rows.len() {
         let row = &rows[i];
         let mails = sent.as_slice();
         let accepted = accepted_in(alloc, mails, row)?;
+        hear(&mut heard, &accepted)?;
         let before = &rows[..i];
         let after = &rows[..i + 1];
         let mut entries = Vec::new(alloc);
-        let next = after_row(alloc, &mut entries, bases, before, after, groups, accepted)?;
+        let next = after_row(
+            alloc,
+            &mut entries,
+            bases,
+            before,
+            after,
+            groups,
+            &heard,
+            accepted,
+        )?;
         groups = next;
         add_row(&mut deciding, i as u64 + 1, entries)?;
         let more = row.sent.as_slice();

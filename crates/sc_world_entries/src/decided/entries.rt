@@ -2,7 +2,6 @@
 ghost use Rattle.std.specs.Prelude.{◌≡◌, ◌+◌, ◌<◌, ◌++◌, ◌∷◌, [], List, true, Some, None, length, map, take, drop, find, if◌then◌else◌, IfOk, IsOk, OnOk};
 ghost use Rattle.std.specs.List.{flat_map};
 ghost use Rattle.sc_base.specs.Same.{same_draw};
-ghost use Rattle.sc_base.specs.Among.{Each};
 ghost use Rattle.sc_base.specs.declared.names.Draw.{Draw};
 ghost use Rattle.sc_words.specs.declared.commands.cores.Base.{Base};
 ghost use Rattle.sc_words.specs.declared.commands.orders.OrderLine.{OrderLine};
@@ -12,18 +11,19 @@ ghost use Rattle.sc_actor.specs.declared.rows.Row.{Row};
 ghost use Rattle.sc_group_table.specs.machine.Group.{group_of};
 ghost use Rattle.sc_meaning.specs.sound.Players.{as_nodes};
 ghost use Rattle.sc_meaning.specs.sound.Accepts.{accepts};
-ghost use Rattle.sc_meaning.specs.sound.GroupsOf.{children_by, log_at, log_by, is_birth_of, entries_from, entries_after, entries_by_row, entries_at};
-ghost use Rattle.sc_world_logs.specs.Acceptances.{steps_by};
-ghost use Rattle.sc_world_logs.specs.Known.{Adds, IsKnown};
-ghost use Rattle.sc_world_entries.specs.decided.Found.{log_kept, new_entries, grown_by, StayKnown, AreTracked};
+ghost use Rattle.sc_meaning.specs.sound.GroupsOf.{groups_at, log_at, entries_from, entries_by_row, entries_at};
+ghost use Rattle.sc_world_logs.specs.declared.accepting.Acceptance.{Acceptance};
+ghost use Rattle.sc_world_logs.specs.declared.known.Known.{Known};
+ghost use Rattle.sc_world_logs.specs.Known.{Adds};
+ghost use Rattle.sc_world_entries.specs.decided.Found.{log_kept, length_kept, length_of, length_before, new_entries, entries_behind, grown_by, AreKnown, AreTaken, AreTracked, HoldKnown, IsHeard};
 
-use crate::decided::births::{Groups, both, groups_of, log_in};
+use crate::decided::births::{Groups, Heard, both, groups_from, groups_of, hear, log_in};
 use sc_actor::Row;
 use sc_base::{Draw, Dup, OutOfMemory, same_draw};
 use sc_mail::Mail;
 use sc_meaning::LogEntry;
 use sc_words::{Base, Command, OrderLine};
-use sc_world_logs::{Acceptance, Known, accepted_in, add_mails, take_in};
+use sc_world_logs::{Acceptance, Known, Taking, accepted_in, add_mails, take_in};
 use std::alloc::Global;
 
 // Adds the entries of a log behind its first `count`.
@@ -94,24 +94,26 @@ fn look_again(
     Ok(new)
 }
 
-// Takes an acceptance into each group, in place, since a group is large. Returns true only where
-// their logs are as before or longer, and the new entries create no child.
+// Takes an acceptance into each group, in place, since a group is large. Returns what became of what
+// is known of all of them.
 fn take_each(
     alloc: Global,
     knowns: &mut [Known],
     name: Draw,
     acceptance: &Acceptance,
-) -> Result<bool, OutOfMemory>
-    ensures { IfOk result (λ calm. calm ≡ true → (rows after : List (Row Mail OrderLine)) →
-        Adds (Some (name, acceptance.now)) rows after → Each (IsKnown rows) knowns.old →
-        StayKnown rows after knowns.old knowns.new) }
+) -> Result<Taking, OutOfMemory>
+    ensures { IfOk result (λ taking. (rows after : List (Row Mail OrderLine)) →
+        Adds (Some (name, acceptance.now)) rows after →
+        AreTaken rows after taking knowns.old knowns.new) }
 {
+    let mut holds = true;
     let mut calm = true;
     for known in knowns.iter_mut() {
-        let was_calm = take_in(alloc, known, name, acceptance)?;
-        calm = both(calm, was_calm);
+        let taking = take_in(alloc, known, name, acceptance)?;
+        holds = both(holds, taking.holds);
+        calm = both(calm, taking.calm);
     }
-    Ok(calm)
+    Ok(Taking { holds, calm })
 }
 
 // Takes an acceptance into each group of a vector, as `take_each` does.
@@ -120,10 +122,10 @@ fn take_all(
     knowns: &mut Vec<Known>,
     name: Draw,
     acceptance: &Acceptance,
-) -> Result<bool, OutOfMemory>
-    ensures { IfOk result (λ calm. calm ≡ true → (rows after : List (Row Mail OrderLine)) →
-        Adds (Some (name, acceptance.now)) rows after → Each (IsKnown rows) knowns.old.items →
-        StayKnown rows after knowns.old.items knowns.new.items) }
+) -> Result<Taking, OutOfMemory>
+    ensures { IfOk result (λ taking. (rows after : List (Row Mail OrderLine)) →
+        Adds (Some (name, acceptance.now)) rows after →
+        AreTaken rows after taking knowns.old.items knowns.new.items) }
 {
     take_each(alloc, knowns.as_mut_slice(), name, acceptance)
 }
@@ -148,6 +150,89 @@ fn add_grown(
     Ok(())
 }
 
+// Returns how long the logs are, each under the name of its group.
+fn lengths_of(alloc: Global, knowns: &[Known]) -> Result<Vec<(Draw, usize)>, OutOfMemory>
+    ensures { IfOk result (λ lengths. lengths.items ≡ map length_kept knowns.now) }
+{
+    let mut lengths = Vec::new(alloc);
+    for known in knowns {
+        let log = known.log.as_slice();
+        lengths.push((known.base.core.id, log.len()))?;
+    }
+    Ok(lengths)
+}
+
+fn length_in(lengths: &[(Draw, usize)], name: Draw) -> usize
+    ensures { result ≡ length_of name lengths.now }
+{
+    for noted in lengths {
+        if same_draw(noted.0, name) {
+            return noted.1;
+        }
+    }
+    0
+}
+
+fn length_before(name: Draw, count: usize, lengths: &[(Draw, usize)], group: Draw) -> usize
+    ensures { result ≡ length_before name count lengths.now group }
+{
+    if same_draw(group, name) {
+        return count;
+    }
+    length_in(lengths, group)
+}
+
+// Adds the entries that each log has behind those that it had before a row, which accepts a command
+// for the group with this name, whose log had this count of entries.
+fn add_behind(
+    alloc: Global,
+    entries: &mut Vec<LogEntry>,
+    name: Draw,
+    count: usize,
+    lengths: &[(Draw, usize)],
+    knowns: &[Known],
+) -> Result<(), OutOfMemory>
+    ensures { OnOk result (entries.new.items ≡ entries.old.items ++
+        flat_map (entries_behind name count lengths.now knowns.now) knowns.now) }
+{
+    for known in knowns {
+        let group = known.base.core.id;
+        let before = length_before(name, count, lengths, group);
+        let log = log_in(knowns, group);
+        add_entries(alloc, entries, group, before, log)?;
+    }
+    Ok(())
+}
+
+// Looks for the groups after a row by which the log of the group with this name creates some, and
+// adds the entries that the row decides. What was known of the other groups is kept.
+fn look_for_births(
+    alloc: Global,
+    entries: &mut Vec<LogEntry>,
+    bases: &[Base],
+    after: &[Row<Mail, OrderLine>],
+    knowns: Vec<Known>,
+    heard: &Heard,
+    name: Draw,
+    count: usize,
+) -> Result<Groups, OutOfMemory>
+    ensures { IfOk result (λ groups. (before : List (Row Mail OrderLine)) (row : Row Mail OrderLine)
+        (acceptance : Acceptance) (olds : List Known) → after.now ≡ before ++ row ∷ [] →
+        Adds (Some (name, acceptance)) before after.now → IsHeard after.now heard.now →
+        AreKnown before (groups_at as_nodes bases.now before) olds →
+        HoldKnown after.now olds knowns.items → count ≡ length (log_kept name olds) →
+        AreTracked bases.now after.now groups × (entries.new.items ≡
+        entries.old.items ++ entries_by_row as_nodes bases.now before row)) }
+{
+    let kept = knowns.as_slice();
+    let noted = lengths_of(alloc, kept)?;
+    let groups = groups_from(alloc, bases, after, knowns, heard)?;
+    let lengths = noted.as_slice();
+    let found = groups.knowns.as_slice();
+    add_behind(alloc, entries, name, count, lengths, found)?;
+    Ok(groups)
+}
+
 // Takes one more row, which accepts a command, and adds the entries that it decides.
 fn after_acceptance(
     alloc: Global,
@@ -156,12 +241,13 @@ fn after_acceptance(
     before: &[Row<Mail, OrderLine>],
     after: &[Row<Mail, OrderLine>],
     mut knowns: Vec<Known>,
+    heard: &Heard,
     name: Draw,
     acceptance: &Acceptance,
 ) -> Result<Groups, OutOfMemory>
     ensures { IfOk result (λ groups.
         (row : Row Mail OrderLine) → after.now ≡ before.now ++ row ∷ [] →
-        Adds (Some (name, acceptance.now)) before.now after.now →
+        Adds (Some (name, acceptance.now)) before.now after.now → IsHeard after.now heard.now →
         AreTracked bases.now before.now (record { knowns = knowns; settled = true }) →
         AreTracked bases.now after.now groups ×
         (entries.new.items ≡
@@ -169,10 +255,16 @@ fn after_acceptance(
 {
     let kept = knowns.as_slice();
     let count = log_in(kept, name).len();
-    let calm = take_all(alloc, &mut knowns, name, acceptance)?;
-    if !calm {
+    let taking = take_all(alloc, &mut knowns, name, acceptance)?;
+    let holds = taking.holds;
+    if !holds {
         let found = look_again(alloc, entries, bases, before, after)?;
         return Ok(found);
+    }
+    let calm = taking.calm;
+    if !calm {
+        let born = look_for_births(alloc, entries, bases, after, knowns, heard, name, count)?;
+        return Ok(born);
     }
     let later = knowns.as_slice();
     add_grown(alloc, entries, later, name, count)?;
@@ -190,11 +282,12 @@ pub(crate) fn after_row(
     before: &[Row<Mail, OrderLine>],
     after: &[Row<Mail, OrderLine>],
     groups: Groups,
+    heard: &Heard,
     accepted: Option<(Draw, Acceptance)>,
 ) -> Result<Groups, OutOfMemory>
     ensures entries { IfOk result (λ found.
         (row : Row Mail OrderLine) → after.now ≡ before.now ++ row ∷ [] →
-        Adds accepted before.now after.now →
+        Adds accepted before.now after.now → IsHeard after.now heard.now →
         AreTracked bases.now before.now groups →
         AreTracked bases.now after.now found ×
         (entries.new.items ≡
@@ -215,6 +308,7 @@ pub(crate) fn after_row(
                 before,
                 after,
                 groups.knowns,
+                heard,
                 name,
                 &acceptance,
             )?;
@@ -236,14 +330,28 @@ pub fn entries_of(
 {
     let mut entries = Vec::new(alloc);
     let mut sent = Vec::new(alloc);
+    let mut heard = Heard {
+        names: Vec::new(alloc),
+        all: true,
+    };
     let mut groups = groups_of(alloc, bases, &rows[..0])?;
     for i in 0..rows.len() {
         let row = &rows[i];
         let mails = sent.as_slice();
         let accepted = accepted_in(alloc, mails, row)?;
+        hear(&mut heard, &accepted)?;
         let before = &rows[..i];
         let after = &rows[..i + 1];
-        let next = after_row(alloc, &mut entries, bases, before, after, groups, accepted)?;
+        let next = after_row(
+            alloc,
+            &mut entries,
+            bases,
+            before,
+            after,
+            groups,
+            &heard,
+            accepted,
+        )?;
         groups = next;
         let more = row.sent.as_slice();
         add_mails(&mut sent, more)?;

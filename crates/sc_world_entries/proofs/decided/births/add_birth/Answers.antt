@@ -1,21 +1,24 @@
-use Rattle.std.proofs.Common.{◌≡◌, List, [], ◌∷◌, ◌++◌, true, false, sym, subst, ◌∙◌}
+use Rattle.std.proofs.Common.{List, [], ◌∷◌, ◌++◌, sym, ap, subst, ◌∙◌, append_assoc}
 use Rattle.sc_words.specs.declared.commands.cores.Base.{Base}
+use Rattle.sc_world_logs.specs.declared.known.Known.{Known}
 use Rattle.sc_world_entries.specs.decided.Found.{AreKnown}
 use Rattle.sc_world_entries.proofs.DecidedProofs.Families.{birth_was, birth_is, known_push}
 use Rattle.sc_world_entries.proofs.decided.births.add_birth.Goals as goal
 
-pub returns-then-has_named : goal.returns-then-has_named
-returns-then-has_named c = λ bases known.
-    let kept = subst (AreKnown c.args.rows.now bases) (sym c.as_slice-kept.ensures.value) known in
-    let was = birth_was c.args.rows.now bases c.as_slice-kept.result.now c.args.child kept (sym c.has_named.ensures ∙ c.if-has_named.true) in
-    (subst (λ (bs : List Base). AreKnown c.args.rows.now bs c.args.knowns.now.items) (sym was) known, λ t. was)
+pub returns-then-is_there : goal.returns-then-is_there
+returns-then-is_there c = λ heard pool bases known.
+    let all = subst (λ (born : List Known). AreKnown c.args.rows.now bases (c.args.knowns.now ++ born)) (sym c.as_slice-kept.ensures.value) known in
+    let was = birth_was c.args.rows.now bases (c.args.knowns.now ++ c.as_slice-kept.result.now) c.args.child.now all (sym c.is_there.ensures ∙ c.if-is_there.true) in
+    (subst (λ (bs : List Base). AreKnown c.args.rows.now bs (c.args.knowns.now ++ c.args.born.now.items)) (sym was) known, pool)
 
 pub returns : goal.returns
-returns c = λ bases known.
-    let kept = subst (AreKnown c.args.rows.now bases) (sym c.as_slice-kept.ensures.value) known in
-    let is = birth_is c.args.rows.now bases c.as_slice-kept.result.now c.args.child kept (sym c.has_named.ensures ∙ c.if-has_named.false) in (
-      subst (λ (bs : List Base). AreKnown c.args.rows.now bs c.push.new.self.items) (sym is)
-          (subst (AreKnown c.args.rows.now (bases ++ c.args.child ∷ [])) (sym c.in_ok-push.ensures.items)
-          (known_push c.args.rows.now bases c.args.knowns.now.items c.args.child _ known c.in_ok-known_of.ensures.0 c.in_ok-known_of.ensures.1)),
-      λ t. let never : false ≡ true = t in absurd (cc),
+returns c = λ heard pool bases known.
+    let all = subst (λ (born : List Known). AreKnown c.args.rows.now bases (c.args.knowns.now ++ born)) (sym c.as_slice-kept.ensures.value) known in
+    let is = birth_is c.args.rows.now bases (c.args.knowns.now ++ c.as_slice-kept.result.now) c.args.child.now all (sym c.is_there.ensures ∙ c.if-is_there.false) in
+    let one = c.in_ok-known.ensures heard pool in
+    let more = ap (λ (born : List Known). c.args.knowns.now ++ born) c.in_ok-push.ensures.items ∙ sym (append_assoc c.args.knowns.now c.args.born.now.items (c.in_ok-known.known ∷ [])) in (
+      subst (λ (bs : List Base). AreKnown c.args.rows.now bs (c.args.knowns.now ++ c.push.new.self.items)) (sym is)
+          (subst (AreKnown c.args.rows.now (bases ++ c.args.child.now ∷ [])) (sym more)
+          (known_push c.args.rows.now bases (c.args.knowns.now ++ c.args.born.now.items) c.args.child.now _ known one.0 one.1)),
+      one.2,
     )

@@ -1,27 +1,29 @@
-use Rattle.std.proofs.Common.{◌≡◌, List, true, fold, sym, ap, subst, ◌∙◌}
-use Rattle.std.specs.Prelude.{is_ok}
-use Rattle.std.proofs.lemmas.Bool.{false≢true}
-use Rattle.std.specs.List.{flat_map}
+use Rattle.std.proofs.Common.{◌≡◌, ◌++◌, List, true, false, fold, sym, ap, subst, ◌∙◌}
 use Rattle.sc_words.specs.declared.commands.cores.Base.{Base}
-use Rattle.sc_group_table.specs.machine.Group.{group_of}
-use Rattle.sc_meaning.specs.sound.GroupsOf.{children_of, with_birth}
+use Rattle.sc_meaning.specs.sound.Players.{as_nodes}
+use Rattle.sc_meaning.specs.sound.GroupsOf.{with_birth, with_next_children}
 use Rattle.sc_world_logs.specs.declared.known.Known.{Known}
 use Rattle.sc_world_entries.specs.decided.Found.{AreKnown}
-use Rattle.sc_world_entries.proofs.DecidedProofs.Families.{children_are}
+use Rattle.sc_world_entries.proofs.DecidedProofs.Families.{children_are, none_born, none_long}
 use Rattle.sc_world_entries.proofs.decided.births.look_on.Goals as goal
 
+pub returns-then-is_empty-clause-known : goal.returns-then-is_empty-clause-known
+returns-then-is_empty-clause-known c = λ heard pool bases known.
+    let rows = c.args.rows.now in let kept = c.as_slice-kept.result.now in let born = c.in_ok-born.born.items in
+    let before = subst (AreKnown rows bases) (sym c.as_slice-kept.ensures.value) known in
+    let found = c.in_ok-born.ensures.known heard pool bases before in
+    let after = subst (λ (bs : List Base). AreKnown rows bs (kept ++ born)) (ap (fold with_birth bases) (children_are rows bases kept before)) found.0 in
+    let same = none_born rows bases (with_next_children as_nodes rows bases) kept born (sym c.as_slice-found.ensures.value ∙ none_long c.as_slice-found.result.now (sym c.is_empty.ensures ∙ c.if-is_empty.true)) before after in
+    (subst (λ (bs : List Base). AreKnown rows bs c.args.knowns.now.items) (sym same) known, λ t. same, found.1)
+
 pub returns-clause-known : goal.returns-clause-known
-returns-clause-known c = λ bases known.
-    let kept = subst (AreKnown c.args.rows.now bases) (sym c.as_slice-kept.ensures.value) known in
-    let are = c.as_slice-found.ensures.value ∙ c.in_ok-children.ensures.children ∙ children_are c.args.rows.now bases c.as_slice-kept.result.now kept in
-    subst (λ (children : List Base). AreKnown c.args.rows.now (fold with_birth bases children) c.add_births.new.knowns.items × (c.in_ok-were.were ≡ true → fold with_birth bases children ≡ bases)) are (c.in_ok-were.ensures.known bases known)
-
-pub returns-in_err-children-clause-none : goal.returns-in_err-children-clause-none
-returns-in_err-children-clause-none c = λ none.
-    absurd (false≢true (sym (ap is_ok c.in_err-children.was) ∙ c.all_children.ensures.none (c.as_slice-kept.ensures.value ∙ none)))
-
-pub returns-in_err-were-clause-none : goal.returns-in_err-were-clause-none
-returns-in_err-were-clause-none c = λ none.
-    absurd (false≢true (sym (ap is_ok c.in_err-were.was) ∙ c.add_births.ensures.none
-    (c.as_slice-found.ensures.value ∙ c.in_ok-children.ensures.children
-    ∙ ap (flat_map (λ (known : Known). children_of (group_of known.base) known.log.items)) (c.as_slice-kept.ensures.value ∙ none))))
+returns-clause-known c = λ heard pool bases known.
+    let rows = c.args.rows.now in let kept = c.as_slice-kept.result.now in let born = c.in_ok-born.born.items in
+    let before = subst (AreKnown rows bases) (sym c.as_slice-kept.ensures.value) known in
+    let found = c.in_ok-born.ensures.known heard pool bases before in
+    let after = subst (λ (bs : List Base). AreKnown rows bs (kept ++ born)) (ap (fold with_birth bases) (children_are rows bases kept before)) found.0 in
+    let all = ap (λ (ks : List Known). ks ++ born) c.as_slice-kept.ensures.value ∙ sym c.in_ok-add_all.ensures.knowns in (
+      subst (AreKnown rows (with_next_children as_nodes rows bases)) all after,
+      λ t. let never : false ≡ true = t in absurd (cc),
+      found.1,
+    )

@@ -1,11 +1,9 @@
-use Rattle.std.proofs.Common.{◌≡◌, ◌+◌, ◌++◌, ◌∷◌, [], List, length, map, take, drop, sym, ap, subst, ◌∙◌, arith}
-use Rattle.sc_words.specs.declared.commands.orders.OrderLine.{OrderLine}
+use Rattle.std.proofs.Common.{◌+◌, ◌++◌, List, map, take, drop, ap, ◌∙◌, arith}
 use Rattle.sc_meaning.specs.declared.entries.LogEntry.{LogEntry}
 use Rattle.sc_mail.specs.declared.bodies.Mail.{Mail}
-use Rattle.sc_actor.specs.declared.rows.Row.{Row}
 use Rattle.sc_meaning.specs.sound.GroupsOf.{entries_by_row}
 use Rattle.sc_meaning.specs.sound.Players.{as_nodes}
-use Rattle.sc_world_entries.specs.decided.Deciding.{deciding_from, with_entries}
+use Rattle.sc_world_entries.specs.decided.Deciding.{deciding_from}
 use Rattle.sc_world_entries.specs.declared.decided.deciding.DecidingRow.{DecidingRow}
 use Rattle.sc_world_entries.proofs.DecidedProofs.OneMore.{adds_next, next_row, mails_next}
 use Rattle.sc_world_entries.proofs.DecidedProofs.RowByRow.{row_next, rows_end}
@@ -18,9 +16,11 @@ loop-i-preserved c =
     let row = c.index-rows-i.result in
     let next = next_row rows i row (omega (arith, c.loop-i-test.true)) c.index-rows-i.is in
     let adds = adds_next rows i row (map (λ mail. mail.now) c.as_slice-mails.result.now) c.in_ok-accepted.accepted next (ap (map (λ mail. mail.now)) c.as_slice-mails.ensures.value ∙ c.loop-i.invariant.sent) c.in_ok-accepted.ensures.accepted in
-    let done = c.in_ok-next.ensures.entries row next adds c.loop-i.invariant.groups in
+    let heard = c.in_ok-hear.ensures.heard (take i rows) (take (i + 1) rows) adds c.loop-i.invariant.heard in
+    let done = c.in_ok-next.ensures.entries row next adds heard c.loop-i.invariant.groups in
     record {
       groups = done.0;
+      heard = heard;
       deciding =
           ap (λ (found : List DecidingRow). found ++ deciding_from as_nodes c.args.bases.now (take (i + 1) rows) (drop (i + 1) rows)) c.in_ok-add_row.ensures.deciding
           ∙ row_next c.args.bases.now rows i row c.loop-i.deciding.items c.after_row.new.entries.items (omega (arith, c.loop-i-test.true)) c.index-rows-i.is next

@@ -1,4 +1,4 @@
-use Rattle.std.proofs.Common.{◌++◌, List, map, take, sym, ap, ◌∙◌, arith}
+use Rattle.std.proofs.Common.{◌+◌, ◌++◌, List, map, take, sym, ap, ◌∙◌, arith}
 use Rattle.sc_meaning.specs.declared.entries.LogEntry.{LogEntry}
 use Rattle.sc_mail.specs.declared.bodies.Mail.{Mail}
 use Rattle.sc_meaning.specs.sound.Players.{as_nodes}
@@ -14,9 +14,11 @@ loop-i-preserved c =
     let row = c.index-rows-i.result in
     let next = next_row rows i row (omega (arith, c.loop-i-test.true)) c.index-rows-i.is in
     let adds = adds_next rows i row (map (λ mail. mail.now) c.as_slice-mails.result.now) c.in_ok-accepted.accepted next (ap (map (λ mail. mail.now)) c.as_slice-mails.ensures.value ∙ c.loop-i.invariant.sent) c.in_ok-accepted.ensures.accepted in
-    let done = c.in_ok-next.ensures.entries row next adds c.loop-i.invariant.groups in
+    let heard = c.in_ok-hear.ensures.heard (take i rows) (take (i + 1) rows) adds c.loop-i.invariant.heard in
+    let done = c.in_ok-next.ensures.entries row next adds heard c.loop-i.invariant.groups in
     record {
       groups = done.0;
+      heard = heard;
       entries =
           done.1 ∙ ap (λ (entries : List LogEntry). entries ++ entries_by_row as_nodes c.args.bases.now (take i rows) row) c.loop-i.invariant.entries
           ∙ sym (ap (entries_at as_nodes c.args.bases.now) next ∙ entries-push as_nodes c.args.bases.now (take i rows) row);

@@ -1,11 +1,10 @@
-use Rattle.std.proofs.Common.{rules, ◌≡◌, List, length, sym, subst, true, Some, IfOk}
-use Rattle.sc_base.specs.Among.{Each}
+use Rattle.std.proofs.Common.{rules, ◌≡◌, List, length, sym, subst, Some, IfOk}
 use Rattle.sc_words.specs.declared.commands.orders.OrderLine.{OrderLine}
 use Rattle.sc_mail.specs.declared.bodies.Mail.{Mail}
 use Rattle.sc_actor.specs.declared.rows.Row.{Row}
-use Rattle.sc_world_logs.specs.Known.{Adds, IsKnown}
+use Rattle.sc_world_logs.specs.Known.{Adds}
 use Rattle.sc_world_logs.specs.declared.known.Known.{Known}
-use Rattle.sc_world_entries.specs.decided.Found.{StayKnown}
+use Rattle.sc_world_entries.specs.decided.Found.{AreTaken}
 use Rattle.sc_world_entries.proofs.DecidedProofs.InPlace.{whole_slice}
 use Rattle.sc_world_entries.proofs.decided.entries.take_all.Goals as goal
 
@@ -14,7 +13,7 @@ returns c =
     let old = c.args.knowns.now.items in let new = c.take_each.new.knowns in
     let same : length new ≡ length old = search rules in
     let all : c.args.knowns.now.len ≡ length old = search rules in
-    subst (λ (l : List Known). IfOk c.take_each.result (λ calm. calm ≡ true → (rows after : List (Row Mail OrderLine)) → Adds (Some (c.args.name, c.args.acceptance.now)) rows after → Each (IsKnown rows) old → StayKnown rows after old l))
+    subst (λ (l : List Known). IfOk c.take_each.result (λ taking. (rows after : List (Row Mail OrderLine)) → Adds (Some (c.args.name, c.args.acceptance.now)) rows after → AreTaken rows after taking old l))
     (sym (whole_slice new old c.args.knowns.now.len same all))
-    (subst (λ (l : List Known). IfOk c.take_each.result (λ calm. calm ≡ true → (rows after : List (Row Mail OrderLine)) → Adds (Some (c.args.name, c.args.acceptance.now)) rows after → Each (IsKnown rows) l → StayKnown rows after l new))
+    (subst (λ (l : List Known). IfOk c.take_each.result (λ taking. (rows after : List (Row Mail OrderLine)) → Adds (Some (c.args.name, c.args.acceptance.now)) rows after → AreTaken rows after taking l new))
     c.as_mut_slice.ensures.value c.take_each.ensures)
