@@ -12,13 +12,13 @@ use Rattle.sc_world.proofs.orders.reported_orders.Goals as goal
 pub returns : goal.returns
 returns c =
     let whole = map (λ number. reported_of number (mails c.args.rows.now)) (numbers_from 1 c.args.count) in
-    let start : c.deref_mut.result.now ≡ replicate c.args.count None = c.deref_mut.ensures.value ∙ c.in_ok-told.ensures in
+    let start : c.deref_mut.result.now ≡ replicate c.args.count None = c.deref_mut.ensures.value ∙ c.in_ok-recorded.ensures in
     let long : length c.deref_mut.result.now ≡ c.args.count = ap length start ∙ length-replicate c.args.count None in
     let len : length c.note_rows.new.recorded ≡ c.args.count = c.note_rows.ensures.len ∙ long in
     let same : c.from_vec.result ≡ c.note_rows.new.recorded =
     c.from_vec.ensures
-    ∙ ap (λ n. take n (c.note_rows.new.recorded ++ drop (length c.note_rows.new.recorded) c.in_ok-told.recorded.items)) (sym (c.note_rows.ensures.len ∙ c.deref_mut.ensures.len))
-    ∙ take-append_seam c.note_rows.new.recorded (drop (length c.note_rows.new.recorded) c.in_ok-told.recorded.items) in
+    ∙ ap (λ n. take n (c.note_rows.new.recorded ++ drop (length c.note_rows.new.recorded) c.in_ok-recorded.recorded.items)) (sym (c.note_rows.ensures.len ∙ c.deref_mut.ensures.len))
+    ∙ take-append_seam c.note_rows.new.recorded (drop (length c.note_rows.new.recorded) c.in_ok-recorded.recorded.items) in
     same ∙ ext_get_or None c.note_rows.new.recorded whole
     (len ∙ sym (length-numbered (λ number. reported_of number (mails c.args.rows.now)) 1 c.args.count))
     (λ k within.

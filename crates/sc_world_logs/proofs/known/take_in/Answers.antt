@@ -11,5 +11,5 @@ returns-clause-known c = λ rows after adds is.
     let known = known_elsewhere rows after c.args.known.now (accepts_elsewhere c.args.name c.args.acceptance.now rows after adds c.args.known.now.base.core.id (sym c.same_draw.ensures ∙ c.if-same_draw.false)) is in
     record {
       holds = λ held. (known, refl);
-      calm = λ calm. record { is = known; base_is = refl; children_are = refl };
+      calm = λ calm. record { fact = known; base_is = refl; children_are = refl };
     }

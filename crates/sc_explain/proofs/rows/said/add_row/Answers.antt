@@ -18,7 +18,7 @@ returns c =
     (c.behind-births.ensures ∙ ap (λ (n : ℕ). drop n c.groups-born.result.now) said.births ∙ ap (drop (length was.groups)) c.groups-born.ensures)
     c.in_ok-add_all.ensures entries
     c.in_ok-add_history.ensures
-    (c.behind-history.ensures ∙ ap (λ (n : ℕ). drop n c.history-told.result.now) said.history ∙ ap (drop (length was.history)) c.history-told.ensures)
+    (c.behind-history.ensures ∙ ap (λ (n : ℕ). drop n c.history-recorded.result.now) said.history ∙ ap (drop (length was.history)) c.history-recorded.ensures)
     c.in_ok-add_records.ensures
     (c.as_slice-said_records.ensures.value ∙ c.in_ok-records.ensures
     ∙ ap (λ (rs : List GroupRecord). changed same_record rs c.args.after.now.records.items) said.records ∙ ap (changed same_record (records_in was)) now.records)
