@@ -1,4 +1,4 @@
 pub mod Choice
 pub mod Known
 pub mod Ways
-pub mod Definitions
+pub mod LookupDefinitions

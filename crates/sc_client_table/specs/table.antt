@@ -1,4 +1,4 @@
 pub mod Client
 pub mod Table
 pub mod Turns
-pub mod Definitions
+pub mod TableDefinitions

@@ -10,8 +10,8 @@ use Rattle.sc_words.specs.declared.commands.bodies.Body.TheVariants.{Merge, Repa
 use Rattle.sc_words.specs.declared.commands.commands.Command.{Command}
 use Rattle.sc_words.specs.declared.commands.cores.Core.{Core}
 use Rattle.sc_words.specs.declared.commands.orders.OrderRefusal.TheVariants.{NoNeighbour, BadBoundary, TooManyMembers, NotMember, LastMember, TxLimit, IsMember}
-use Rattle.sc_words.specs.commands.Definitions.{is_alone}
-use Rattle.sc_group_table.specs.machine.Definitions.{refused_in, refused_free, join_refused, leave_refused, split_refused, limit_refused, body_refused, begin_refused, CanSplit}
+use Rattle.sc_words.specs.commands.CommandDefinitions.{is_alone}
+use Rattle.sc_group_table.specs.machine.MachineDefinitions.{refused_in, refused_free, join_refused, leave_refused, split_refused, limit_refused, body_refused, begin_refused, CanSplit}
 
 -- what is not refused passes the first test, and is not refused by what follows
 passed : {X : Type 0} (test : Bool) (why : X) (rest : Option X) → cond test (Some why) rest ≡ None → (test ≡ false) × (rest ≡ None)

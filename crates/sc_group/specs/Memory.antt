@@ -11,7 +11,7 @@ use Rattle.sc_words.specs.declared.commands.effects.Effect.TheVariants.{Done, Ag
 use Rattle.sc_words.specs.declared.commands.votes.Frozen.{Frozen}
 use Rattle.sc_words.specs.declared.commands.votes.Vote.{Vote}
 use Rattle.sc_words.specs.declared.commands.votes.Vote.TheVariants.{Yes, No}
-use Rattle.sc_group_table.specs.machine.Definitions.{finished, Group, called, ordered_by, split_group, refusal_of, can_repart, given_up, vote_recorded, watch_recorded, offer_voted, watched}
+use Rattle.sc_group_table.specs.machine.MachineDefinitions.{finished, Group, called, ordered_by, split_group, refusal_of, can_repart, given_up, vote_recorded, watch_recorded, offer_voted, watched}
 
 -- whether an effect may need memory: a reply, a vote, a decision or a change
 abbrev pub is_made : Effect → Bool

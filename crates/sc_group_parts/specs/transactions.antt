@@ -4,4 +4,4 @@ pub mod Decisions
 pub mod MigrationLaws
 pub mod RepartLaws
 pub mod SplitLaws
-pub mod Definitions
+pub mod TransactionDefinitions

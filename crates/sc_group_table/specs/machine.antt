@@ -9,4 +9,4 @@ pub mod Transactions
 pub mod Votes
 pub mod Logs
 pub mod Children
-pub mod Definitions
+pub mod MachineDefinitions

@@ -1,3 +1,3 @@
 pub mod Wishes
 pub mod Laws
-pub mod Definitions
+pub mod PolicyDefinitions

@@ -32,4 +32,4 @@ pub mod Shares
 pub mod Staying
 pub mod Tables
 pub mod StoreAdditions
-pub mod Lemmas
+pub mod HistoryLemmas

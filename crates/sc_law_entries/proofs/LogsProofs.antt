@@ -19,4 +19,4 @@ pub mod SoundJournals
 pub mod Turns
 pub mod TurnExample
 pub mod LogLaws
-pub mod Lemmas
+pub mod LogLemmas

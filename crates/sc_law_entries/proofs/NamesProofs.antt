@@ -16,4 +16,4 @@ pub mod LoggedNames
 pub mod Fresh
 pub mod DrawingExample
 pub mod Naming
-pub mod Lemmas
+pub mod NameLemmas

@@ -26,4 +26,4 @@ pub mod Start
 pub mod SoundWorlds
 pub mod Grows
 pub mod RingExample
-pub mod Lemmas
+pub mod RingLemmas

@@ -5,4 +5,4 @@ pub mod Moves
 pub mod PlanMoves
 pub mod AppliedEntries
 pub mod Worlds
-pub mod Definitions
+pub mod HistoryDefinitions

@@ -6,4 +6,4 @@ pub mod Findings
 pub mod InTurn
 pub mod LogLaws
 pub mod OneMap
-pub mod Definitions
+pub mod LogDefinitions

@@ -4,4 +4,4 @@ pub mod NameLaws
 pub mod Fresh
 pub mod NameExample
 pub mod Naming
-pub mod Definitions
+pub mod NameDefinitions

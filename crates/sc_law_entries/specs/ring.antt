@@ -3,4 +3,4 @@ pub mod Invariant
 pub mod Stories
 pub mod RingLaws
 pub mod RingExample
-pub mod Definitions
+pub mod RingDefinitions

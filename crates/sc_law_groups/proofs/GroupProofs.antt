@@ -40,4 +40,4 @@ pub mod JournalPlayers
 pub mod JournalRows
 pub mod ElectionExample
 pub mod JoinExample
-pub mod Lemmas
+pub mod GroupLemmas

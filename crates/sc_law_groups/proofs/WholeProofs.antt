@@ -28,4 +28,4 @@ pub mod Unions
 pub mod Valid
 pub mod WholeLaws
 pub mod StartLaws
-pub mod Lemmas
+pub mod WholeLemmas

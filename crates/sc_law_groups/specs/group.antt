@@ -1,4 +1,4 @@
 pub mod ElectionExample
 pub mod JoinExample
 pub mod PaxosSteps
-pub mod Definitions
+pub mod GroupDefinitions

@@ -8,4 +8,4 @@ pub mod StartLaws
 pub mod Texts
 pub mod TwoGroups
 pub mod Valid
-pub mod Definitions
+pub mod WholeDefinitions

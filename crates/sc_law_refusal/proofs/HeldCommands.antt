@@ -3,12 +3,12 @@ use Rattle.std.proofs.Common.{◌≡◌, ℕ, ◌&&◌, not, nat_lt, eqb, Bool, 
 use Rattle.sc_base.specs.Definitions.{Each, same_ballot, is_member, is_majority}
 use Rattle.sc_node_table.specs.Values.{Ballot, Command, Noop, Call, Join, Leave, Split, Begin, Prepared, RecordVote, GiveUp, Finish, Watched, RecordWatch, Counted, Chosen, NotYet, Flight, Report, Must, Gap}
 use Rattle.sc_words.specs.declared.paxos.answers.Must.TheVariants.{Value, Free as Open}
-use Rattle.sc_words.proofs.PaxosProofs.Lemmas.{Each-append}
-use Rattle.sc_words.specs.paxos.Definitions.{LeaderState, flight_at, promise_counted, kept_voters, voters_after, tallied, vote_at, counted, choice, chosen_value, names_above, must, must_without}
-use Rattle.sc_node_table.specs.Definitions.{ReplicaState, flying, queued_number, is_request_of, without_request, request_before, put_back}
-use Rattle.sc_law_entries.specs.names.Definitions.{Opt}
+use Rattle.sc_words.proofs.PaxosProofs.PaxosLemmas.{Each-append}
+use Rattle.sc_words.specs.paxos.PaxosDefinitions.{LeaderState, flight_at, promise_counted, kept_voters, voters_after, tallied, vote_at, counted, choice, chosen_value, names_above, must, must_without}
+use Rattle.sc_node_table.specs.NodeDefinitions.{ReplicaState, flying, queued_number, is_request_of, without_request, request_before, put_back}
+use Rattle.sc_law_entries.specs.names.NameDefinitions.{Opt}
 use Rattle.sc_law_entries.proofs.NamesProofs.EachFound.{opt_find, opt_map, opt_choice, flight_without, voters_with}
-use Rattle.sc_law_walks.proofs.Lemmas.{either_way}
+use Rattle.sc_law_walks.proofs.WalkLemmas.{either_way}
 
 module _ (P : Command → Type 0) where
   abbrev pub Commands : List Command → Type 0

@@ -1,2 +1,2 @@
 pub mod Patience
-pub mod Definitions
+pub mod PatienceDefinitions

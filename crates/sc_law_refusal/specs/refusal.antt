@@ -3,4 +3,4 @@ pub mod ClientTurns
 pub mod RowCauses
 pub mod Journals
 pub mod NodeCauses
-pub mod Definitions
+pub mod RefusalDefinitions

@@ -1,3 +1,3 @@
 pub mod Results
 pub mod ReportedResults
-pub mod Definitions
+pub mod ResultDefinitions

@@ -1,8 +1,8 @@
 -- Ballots and their rounds.
 use Rattle.std.proofs.Common.{◌≡◌, ◌≤◌, true, inl, inr, arith}
 use Rattle.sc_node_table.specs.Values.{Ballot}
-use Rattle.sc_words.specs.paxos.Definitions.{IsAtLeast, below}
-use Rattle.sc_words.proofs.PaxosProofs.Lemmas.{below_parts, not_below_parts}
+use Rattle.sc_words.specs.paxos.PaxosDefinitions.{IsAtLeast, below}
+use Rattle.sc_words.proofs.PaxosProofs.PaxosLemmas.{below_parts, not_below_parts}
 
 -- a ballot below another is of no later round
 pub below_round : (a b : Ballot) → below a b ≡ true → a.round ≤ b.round

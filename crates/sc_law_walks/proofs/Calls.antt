@@ -2,7 +2,7 @@
 use Rattle.std.proofs.Common.{◌≡◌, ℕ, Bool, false, List, [], ◌∷◌, Option, Some, None, refl}
 use Rattle.std.proofs.lemmas.Bool.{cond_both}
 use Rattle.sc_node_table.specs.Values.{Command, Core, AnswerBody, Mail}
-use Rattle.sc_node_table.specs.Definitions.{answered, waits, turned_down, next_queued}
+use Rattle.sc_node_table.specs.NodeDefinitions.{answered, waits, turned_down, next_queued}
 
 -- Q holds of the calls that are left with the mails so far, and N of what is found: it does where nothing is taken and where a call is,
 -- and Q goes on where one is turned down

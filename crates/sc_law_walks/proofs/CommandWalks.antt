@@ -9,7 +9,7 @@ use Rattle.sc_words.specs.declared.commands.effects.Effect.TheVariants as Was
 use Rattle.sc_words.specs.declared.commands.votes.Outcome.TheVariants as Is
 use Rattle.sc_words.specs.declared.commands.votes.Past.TheVariants as Cast
 use Rattle.sc_words.specs.declared.commands.votes.Vote.TheVariants as Vows
-use Rattle.sc_group_table.specs.machine.Definitions.{Group, heard_group, gone_group, watcher_after, Plan, left_group, decided, committed, granted, participant_answered, asks_watcher, vote_recorded, released, watch_answered, watch_recorded, may_merge, merged_group, merged_route, closing_group, can_repart, giving_group, part_gift, giving_plan, taking_group, taken, taking_plan, has_key_of, can_migrate, migrated_group, can_split, can_gain, can_cut, gained_group, lost_group, welcomed_group, participant_after, settled_in, party_freed, finished}
+use Rattle.sc_group_table.specs.machine.MachineDefinitions.{Group, heard_group, gone_group, watcher_after, Plan, left_group, decided, committed, granted, participant_answered, asks_watcher, vote_recorded, released, watch_answered, watch_recorded, may_merge, merged_group, merged_route, closing_group, can_repart, giving_group, part_gift, giving_plan, taking_group, taken, taking_plan, has_key_of, can_migrate, migrated_group, can_split, can_gain, can_cut, gained_group, lost_group, welcomed_group, participant_after, settled_in, party_freed, finished}
 
 -- a coordinator that does not wait for its watcher has heard nobody
 unheard : (got : Option Heard) → is_some got ≡ false → got ≡ None

@@ -7,10 +7,10 @@ use Rattle.sc_node_table.specs.Values.{Draw, Noted, Op, Body, Effect, Offer, Wat
 use Rattle.sc_words.specs.declared.commands.bodies.Body.TheVariants as By
 use Rattle.sc_words.specs.declared.commands.votes.Outcome.TheVariants as Is
 use Rattle.sc_words.specs.declared.commands.votes.Past.TheVariants as Cast
-use Rattle.sc_group_table.specs.machine.Definitions.{called, served, served_by_note, Group, applied, locked_in, refused_in, refusal_of, left_members, no_of, vote_of, watch_vote_of, offer_no, watch_no, past_of, bound_by, has_voted, closed, voted_after, left_core, right_link, merged_core, merged_succ, merged_link, kept_arc, succ_with, pred_after}
+use Rattle.sc_group_table.specs.machine.MachineDefinitions.{called, served, served_by_note, Group, applied, locked_in, refused_in, refusal_of, left_members, no_of, vote_of, watch_vote_of, offer_no, watch_no, past_of, bound_by, has_voted, closed, voted_after, left_core, right_link, merged_core, merged_succ, merged_link, kept_arc, succ_with, pred_after}
 use Rattle.sc_group_table.specs.machine.Plans.{repart_core}
 use Rattle.sc_group_table.specs.machine.Splits.{left_pred}
-use Rattle.sc_words.specs.ideal.Definitions.{key_of, holds_key}
+use Rattle.sc_words.specs.ideal.IdealDefinitions.{key_of, holds_key}
 use Rattle.sc_law_walks.proofs.Ways.{either_way}
 use Rattle.sc_law_walks.proofs.MachineWalks.{MachineWalk}
 use Rattle.sc_law_walks.proofs.MachineSteps.{machine_step}

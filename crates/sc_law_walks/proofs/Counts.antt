@@ -2,7 +2,7 @@
 use Rattle.std.proofs.Common.{◌≡◌, ℕ, ◌&&◌, not, Bool, List, Option, Some, None, refl}
 use Rattle.sc_base.specs.Definitions.{same_ballot, is_member, is_majority}
 use Rattle.sc_node_table.specs.Values.{Ballot, Command, Counted, Flight, Report}
-use Rattle.sc_words.specs.paxos.Definitions.{LeaderState, promise_counted, flight_at, counted, vote_at, voters_after, kept_voters}
+use Rattle.sc_words.specs.paxos.PaxosDefinitions.{LeaderState, promise_counted, flight_at, counted, vote_at, voters_after, kept_voters}
 use Rattle.sc_law_walks.proofs.Ways.{either_way}
 
 pub promise_ballot : (from : ℕ) (ballot : Ballot) (reports : List (Report Command)) (l : LeaderState Command) → (promise_counted from ballot reports l).1.ballot ≡ l.ballot

@@ -1,8 +1,8 @@
 -- What an executed entry leaves of a replica: its number and its name, whether it leads, and what is ready.
 use Rattle.std.proofs.Common.{◌≡◌, refl}
 use Rattle.sc_node_table.specs.Values.{Command}
-use Rattle.sc_group_table.specs.machine.Definitions.{applied}
-use Rattle.sc_node_table.specs.Definitions.{entered, ReplicaState, name_of, forgotten}
+use Rattle.sc_group_table.specs.machine.MachineDefinitions.{applied}
+use Rattle.sc_node_table.specs.NodeDefinitions.{entered, ReplicaState, name_of, forgotten}
 use Rattle.sc_law_walks.proofs.CoreWalks.{name_step}
 
 -- an entry leaves the number

@@ -5,8 +5,8 @@ use Rattle.std.proofs.lemmas.Bool.{cond-true, cases_lt, eq-eqb, ltb-true}
 use Rattle.std.proofs.lemmas.List.{length_push}
 use Rattle.std.proofs.lemmas.Option.{slice_get_past}
 use Rattle.sc_node_table.specs.Values.{Command, Learnt}
-use Rattle.sc_words.specs.paxos.Definitions.{LogState, entry_at, next_of, log_cut}
-use Rattle.sc_node_table.specs.Definitions.{with_entry, entered, slot_lost, executed_one, next_child, has_room, ending, executed_ready, pumped, pumped_from, ReplicaState, Place, childless, next, first_set, may_offer, floor_of, forgotten, last_slot, at_slot}
+use Rattle.sc_words.specs.paxos.PaxosDefinitions.{LogState, entry_at, next_of, log_cut}
+use Rattle.sc_node_table.specs.NodeDefinitions.{with_entry, entered, slot_lost, executed_one, next_child, has_room, ending, executed_ready, pumped, pumped_from, ReplicaState, Place, childless, next, first_set, may_offer, floor_of, forgotten, last_slot, at_slot}
 
 -- an entry is put behind the others
 pub entry_is : (command : Command) (log : LogState Command) → with_entry command log ≡ record log { entries = log.entries ++ command ∷ [] }

@@ -2,9 +2,9 @@
 use Rattle.std.proofs.Common.{◌≡◌, ℕ, ◌<◌, ◌+◌, ◌∙◌, true, false, true≢false, refl, sym, subst, List, [], ◌∷◌, ◌++◌, length, Option, Some, None}
 use Rattle.sc_base.specs.Definitions.{Each}
 use Rattle.sc_node_table.specs.Values.{Command, Call, Base, AnswerBody, NotLeader, Gone, Mail}
-use Rattle.sc_words.specs.paxos.Definitions.{LeaderState, below, promise_counted, counted}
-use Rattle.sc_node_table.specs.Definitions.{ReplicaState, next, slots_ahead, without_request, ended, offered, jumped, forgotten}
-use Rattle.sc_law_walks.specs.Definitions.{IsFiled, IsAsked, IsKept}
+use Rattle.sc_words.specs.paxos.PaxosDefinitions.{LeaderState, below, promise_counted, counted}
+use Rattle.sc_node_table.specs.NodeDefinitions.{ReplicaState, next, slots_ahead, without_request, ended, offered, jumped, forgotten}
+use Rattle.sc_law_walks.specs.WalkDefinitions.{IsFiled, IsAsked, IsKept}
 use Rattle.sc_law_walks.proofs.Ways.{either_way}
 use Rattle.sc_law_walks.proofs.Queues.{waiting, one_asked, one_filed, mail_files, order_is_asked, without_asked}
 use Rattle.sc_law_walks.proofs.PlaceWalks.{PlaceWalk, Talk, beside_talk, Before, After, Hears, elected_replica}

@@ -3,7 +3,7 @@ pub mod Calls
 pub mod Entries
 pub mod Places
 pub mod Ways
-pub mod Lemmas
+pub mod WalkLemmas
 pub mod Counts
 pub mod Queues
 pub mod PlaceWalks

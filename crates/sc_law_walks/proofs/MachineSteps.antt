@@ -5,13 +5,13 @@ use Rattle.std.specs.FinMap.{get}
 use Rattle.sc_base.specs.Definitions.{same_draw}
 use Rattle.sc_base.proofs.Lemmas.{draw_is}
 use Rattle.sc_node_table.specs.Values.{Draw, Noted, Op, Body, Command, Noop, Call, Join, Leave, Split, Begin, Prepared, RecordVote, GiveUp, Finish, Watched, RecordWatch, Lock, Free, Coordinating, Promised, Watching, Effect, Route, OrderRefusal, Outcome, Past, Vote}
-use Rattle.sc_words.specs.commands.Definitions.{is_alone}
-use Rattle.sc_words.specs.ideal.Definitions.{key_of, holds_key}
+use Rattle.sc_words.specs.commands.CommandDefinitions.{is_alone}
+use Rattle.sc_words.specs.ideal.IdealDefinitions.{key_of, holds_key}
 use Rattle.sc_words.specs.declared.commands.bodies.Body.TheVariants as By
 use Rattle.sc_words.specs.declared.commands.effects.Effect.TheVariants as Was
 use Rattle.sc_words.specs.declared.commands.votes.Past.TheVariants as Cast
 use Rattle.sc_words.specs.declared.commands.votes.Vote.TheVariants as Vows
-use Rattle.sc_group_table.specs.machine.Definitions.{Group, served_by_note, called, split_group, applied, locked_in, refusal_of, ordered, with_node, without_node, has_named, left_group, begun_group, aborted, vote_recorded, watch_recorded, is_coordinating, has_voted, finished}
+use Rattle.sc_group_table.specs.machine.MachineDefinitions.{Group, served_by_note, called, split_group, applied, locked_in, refusal_of, ordered, with_node, without_node, has_named, left_group, begun_group, aborted, vote_recorded, watch_recorded, is_coordinating, has_voted, finished}
 use Rattle.sc_law_walks.proofs.CommandWalks.{vote_step, watch_step, finish_step}
 use Rattle.sc_law_walks.proofs.MachineWalks.{IsAccepted, MachineWalk}
 

@@ -2,14 +2,14 @@
 use Rattle.std.proofs.Common.{◌≡◌, ℕ, ◌&&◌, not, nat_le, true, false, [], ◌∷◌, ◌++◌, length, Option, Some, None, ◌⊎◌}
 use Rattle.sc_base.specs.Definitions.{same_draw, holds, united}
 use Rattle.sc_node_table.specs.Values.{Core, Draw, Op, Body, Offer, Watch, Command, Call, Join, Leave, Split, Begin, Prepared, RecordVote, GiveUp, Finish, Watched, RecordWatch, Lock, Coordinating, Promised, Watching, Effect, Route, Frozen, Gift, Heard, No, Outcome}
-use Rattle.sc_words.specs.commands.Definitions.{is_alone}
+use Rattle.sc_words.specs.commands.CommandDefinitions.{is_alone}
 use Rattle.sc_words.specs.declared.commands.bodies.Body.TheVariants as By
 use Rattle.sc_words.specs.declared.commands.effects.Effect.TheVariants as Was
 use Rattle.sc_words.specs.declared.commands.orders.OrderRefusal.TheVariants.{NotLeader}
 use Rattle.sc_words.specs.declared.commands.votes.Outcome.TheVariants as Is
 use Rattle.sc_words.specs.declared.commands.votes.Past.TheVariants as Cast
 use Rattle.sc_words.specs.declared.commands.votes.Vote.TheVariants as Vows
-use Rattle.sc_group_table.specs.machine.Definitions.{Group, done, locked_in, refusal_of, with_node, without_node, has_named, left_group, begun_group, decided, heard_group, has_voted, vote_of, watch_vote_of, past_of, bound_by, can_split, may_merge, merged_group, merged_route, closing_group, can_repart, giving_group, part_gift, taking_group, taken, has_key_of, can_migrate, migrated_group, can_gain, can_cut, gone_group, gained_group, lost_group, welcomed_group, watcher_after, party_freed}
+use Rattle.sc_group_table.specs.machine.MachineDefinitions.{Group, done, locked_in, refusal_of, with_node, without_node, has_named, left_group, begun_group, decided, heard_group, has_voted, vote_of, watch_vote_of, past_of, bound_by, can_split, may_merge, merged_group, merged_route, closing_group, can_repart, giving_group, part_gift, taking_group, taken, has_key_of, can_migrate, migrated_group, can_gain, can_cut, gone_group, gained_group, lost_group, welcomed_group, watcher_after, party_freed}
 
 -- a command that names a transaction or, as a split, its child
 abbrev pub Names : Draw → Command → Type 0

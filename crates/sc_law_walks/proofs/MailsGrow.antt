@@ -2,8 +2,8 @@
 use Rattle.std.proofs.Common.{◌≡◌, ℕ, Bool, List, [], ◌++◌, sym, ◌∙◌, ap, append_assoc, append-nil}
 use Rattle.sc_base.specs.Definitions.{Drawer}
 use Rattle.sc_node_table.specs.Values.{Mail, MailBody}
-use Rattle.sc_node_table.specs.Definitions.{ReplicaState, sent, tick_row}
-use Rattle.sc_law_walks.specs.Definitions.{IsKept}
+use Rattle.sc_node_table.specs.NodeDefinitions.{ReplicaState, sent, tick_row}
+use Rattle.sc_law_walks.specs.WalkDefinitions.{IsKept}
 use Rattle.sc_law_walks.proofs.StateWalks.{StateParts, state_walk, state_ticks}
 use Rattle.sc_law_walks.proofs.Walks.{Walk}
 use Rattle.sc_law_walks.proofs.WalkPlaces.{placed, placed_ticks}

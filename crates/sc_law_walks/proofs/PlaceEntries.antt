@@ -5,10 +5,10 @@ use Rattle.std.proofs.lemmas.Bool.{cond_both}
 use Rattle.sc_base.specs.Definitions.{is_member}
 use Rattle.sc_node_table.specs.Values.{Op, Command, Call, Effect, OrderResult, AnswerBody, Mail, Prepare, Learn, Install, Flight}
 use Rattle.sc_node_table.specs.declared.Before.{Before as Gone}
-use Rattle.sc_group_table.specs.machine.Definitions.{Group, base_of, applied}
-use Rattle.sc_words.specs.paxos.Definitions.{flight_at, without_flight, without_flight_at}
-use Rattle.sc_node_table.specs.Definitions.{slots_ahead, rest_of, without_slot, entered, answer_of, answered_or_put_back, order_result, effect_reported, announced, learnt_to, welcomed, install_to, asked_to_promise, welcomed_all, landed, sent, order_number, put_back, ReplicaState, Place, name_of, members, next, flying, forgotten, before_of, spoken}
-use Rattle.sc_law_walks.specs.Definitions.{IsKept}
+use Rattle.sc_group_table.specs.machine.MachineDefinitions.{Group, base_of, applied}
+use Rattle.sc_words.specs.paxos.PaxosDefinitions.{flight_at, without_flight, without_flight_at}
+use Rattle.sc_node_table.specs.NodeDefinitions.{slots_ahead, rest_of, without_slot, entered, answer_of, answered_or_put_back, order_result, effect_reported, announced, learnt_to, welcomed, install_to, asked_to_promise, welcomed_all, landed, sent, order_number, put_back, ReplicaState, Place, name_of, members, next, flying, forgotten, before_of, spoken}
+use Rattle.sc_law_walks.specs.WalkDefinitions.{IsKept}
 use Rattle.sc_law_walks.proofs.Ways.{either_way}
 use Rattle.sc_law_walks.proofs.Places.{landed_place}
 use Rattle.sc_law_walks.proofs.Queues.{turned_sets, back_kept, back_runs}

@@ -6,8 +6,8 @@ use Rattle.sc_base.specs.Definitions.{Drawer, Each}
 use Rattle.sc_node_table.specs.Values.{Draw, Input, Got, Base, OrderLine, Mail, MailBody, NotLeader, Request, Prepare, Accept, Learn, Ask, Install, TxPrepare, TxElsewhere, TxWatch, Told as ToldMail, Refused}
 use Rattle.sc_actor.specs.declared.rows.Input.TheVariants.{Tick, Go, Told}
 use Rattle.sc_words.specs.declared.commands.orders.OrderRefusal.TheVariants.{NotLeader as OrderNotLeader}
-use Rattle.sc_words.proofs.PaxosProofs.Lemmas.{Each-weaker}
-use Rattle.sc_node_table.specs.Definitions.{sent, NodeState, replica_of, with_replica, with_new, group_of_mail, with_made, unknown, may_come, with_born, with_children, taken_by, routed, on_mail, group_of_order, ordered_of, node_table, ordered_row, ReplicaState, Place, Executed, last_slot, born_replica, made_by, mailed, slots_ahead, ticked, on_tick, tick_row, names_after_tick}
+use Rattle.sc_words.proofs.PaxosProofs.PaxosLemmas.{Each-weaker}
+use Rattle.sc_node_table.specs.NodeDefinitions.{sent, NodeState, replica_of, with_replica, with_new, group_of_mail, with_made, unknown, may_come, with_born, with_children, taken_by, routed, on_mail, group_of_order, ordered_of, node_table, ordered_row, ReplicaState, Place, Executed, last_slot, born_replica, made_by, mailed, slots_ahead, ticked, on_tick, tick_row, names_after_tick}
 use Rattle.sc_law_walks.proofs.Ways.{either_way, unless_so}
 use Rattle.sc_law_walks.proofs.PlaceWalks.{PlaceWalk, PlaceBirths, PlaceTicks, Before, After, Hears}
 use Rattle.sc_law_walks.proofs.PlaceParts.{on_late}

@@ -1,5 +1,5 @@
 -- What holds of a kept replica with its mails is kept while the replica offers, is elected, and looks for a leader.
-use Rattle.sc_node_table.specs.Definitions.{elected, looked, pumped, Place}
+use Rattle.sc_node_table.specs.NodeDefinitions.{elected, looked, pumped, Place}
 use Rattle.sc_law_walks.proofs.PlaceWalks.{PlaceWalk, Before, After}
 use Rattle.sc_law_walks.proofs.TableParts as tables
 use Rattle.sc_law_walks.proofs.KeptPlaces.{kept_walk}

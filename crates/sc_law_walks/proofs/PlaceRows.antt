@@ -2,7 +2,7 @@
 use Rattle.std.proofs.Common.{◌≡◌, ℕ, false, List, [], length, refl}
 use Rattle.sc_base.specs.Definitions.{Drawer}
 use Rattle.sc_node_table.specs.Values.{Draw, Base, OrderLine, MailBody}
-use Rattle.sc_node_table.specs.Definitions.{named, ordered_row, Place, born_replica, installed_replica, forgotten, looked_up, mailed, made_by, slots_ahead}
+use Rattle.sc_node_table.specs.NodeDefinitions.{named, ordered_row, Place, born_replica, installed_replica, forgotten, looked_up, mailed, made_by, slots_ahead}
 use Rattle.sc_law_walks.proofs.PlaceWalks.{PlaceWalk, PlaceBirths, Before, After, AfterAll, Hears}
 use Rattle.sc_law_walks.proofs.TableRows as tables
 pub use Rattle.sc_law_walks.proofs.TableRows.{order_asked}

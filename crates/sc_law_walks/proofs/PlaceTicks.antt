@@ -3,8 +3,8 @@ use Rattle.std.proofs.Common.{◌≡◌, ◌++◌, nat_le, Bool, true, List, [],
 use Rattle.std.proofs.lemmas.Bool.{cond_both, and_parts}
 use Rattle.sc_base.specs.Definitions.{Drawer}
 use Rattle.sc_node_table.specs.Values.{Draw, GiveUp, Lock, Free, Coordinating, Promised, Watching, Mail}
-use Rattle.sc_node_table.specs.Definitions.{with_act, has_act, one_tick_more, patience, waited_in, ReplicaState, Place, settled, may_offer, first_set, tick_row}
-use Rattle.sc_law_walks.specs.Definitions.{IsKept}
+use Rattle.sc_node_table.specs.NodeDefinitions.{with_act, has_act, one_tick_more, patience, waited_in, ReplicaState, Place, settled, may_offer, first_set, tick_row}
+use Rattle.sc_law_walks.specs.WalkDefinitions.{IsKept}
 use Rattle.sc_law_walks.proofs.Ways.{either_way}
 use Rattle.sc_law_walks.proofs.Queues.{waiting, one_filed}
 use Rattle.sc_law_walks.proofs.PlaceWalks.{PlaceWalk, PlaceAgains, PlaceTicks, Before, After, parties}

@@ -3,10 +3,10 @@ use Rattle.std.proofs.Common.{◌≡◌, ℕ, ◌+◌, ◌-◌, ◌<◌, ◌≤�
 use Rattle.sc_node_table.specs.Values.{Ballot, Draw, Op, Offer, Watch, Command, Noop, Call, GiveUp, Base, Effect, OrderResult, Outcome, Past, Vote, AnswerBody, Mail, MailBody, Request, Answer, Prepare, Promise, Accept, Accepted, Nack, Learn, Ask, Install, TxPrepare, TxVote, TxOutcome, TxElsewhere, TxWatch, TxWatched, Told, Chosen, NotYet, Report}
 use Rattle.sc_base.specs.Definitions.{Each, client_actor}
 use Rattle.sc_words.specs.declared.paxos.answers.Must.TheVariants.{Value}
-use Rattle.sc_group_table.specs.machine.Definitions.{base_of, applied}
-use Rattle.sc_words.specs.paxos.Definitions.{IsAtLeast, reports_from, after_promise, after_accept, may_promise, may_accept, new_leader, promise_counted, entry_at, counted, must, below}
-use Rattle.sc_node_table.specs.Definitions.{named, jumped, ReplicaState, Place, Executed, name_of, members, next, slots_ahead, at_slot, with_slot, taken_at, flying, queued_number, without_request, has_act, born_replica, installed_replica, sent, sent_all, open_nodes, stopped, ended, answered, turned_down, offered, entered, announced, before_of, spoken, learnt_to, welcomed, landed}
-use Rattle.sc_law_walks.specs.Definitions.{GoesOn, IsFiledOnMail, IsOrder, IsKept}
+use Rattle.sc_group_table.specs.machine.MachineDefinitions.{base_of, applied}
+use Rattle.sc_words.specs.paxos.PaxosDefinitions.{IsAtLeast, reports_from, after_promise, after_accept, may_promise, may_accept, new_leader, promise_counted, entry_at, counted, must, below}
+use Rattle.sc_node_table.specs.NodeDefinitions.{named, jumped, ReplicaState, Place, Executed, name_of, members, next, slots_ahead, at_slot, with_slot, taken_at, flying, queued_number, without_request, has_act, born_replica, installed_replica, sent, sent_all, open_nodes, stopped, ended, answered, turned_down, offered, entered, announced, before_of, spoken, learnt_to, welcomed, landed}
+use Rattle.sc_law_walks.specs.WalkDefinitions.{GoesOn, IsFiledOnMail, IsOrder, IsKept}
 
 -- a replica that ran with the next ballot of its own, and one that runs no longer
 abbrev pub elected_replica : ReplicaState → ReplicaState

@@ -5,9 +5,9 @@ use Rattle.std.proofs.Common.{ℕ, ◌+◌, ◌&&◌, ◌||◌, not, nat_le, nat
 use Rattle.sc_node_table.specs.Values.{Ballot, Command, OrderResult, Mail, Learn, Must, Gap}
 use Rattle.sc_words.specs.declared.paxos.answers.Must.TheVariants.{Value, Free as Open}
 use Rattle.sc_base.specs.Definitions.{is_member}
-use Rattle.sc_words.specs.paxos.Definitions.{without_flight_at, entry_at, prepared, must}
-use Rattle.sc_node_table.specs.Definitions.{from_backlog, from_acts, from_queues, found_by, is_act, is_idle, under_way, effect_reported, learnt_to, sent_others, order_reported, order_number, name_of, Found, found_for, offered, pumped_from, settled, may_offer, taken_at, last_slot, welcomed, slot_lost, landed, executed_one, next_child, next_ready, ending, executed_ready, all_ready, executed, install_to, welcomed_all, pumped, put_back, ReplicaState, Place, Executed, childless, members, next, flying, taught, most_taught, ask_answered, ask_row, same_command, without_slot, promise_to, promised}
-use Rattle.sc_law_walks.specs.Definitions.{IfThere}
+use Rattle.sc_words.specs.paxos.PaxosDefinitions.{without_flight_at, entry_at, prepared, must}
+use Rattle.sc_node_table.specs.NodeDefinitions.{from_backlog, from_acts, from_queues, found_by, is_act, is_idle, under_way, effect_reported, learnt_to, sent_others, order_reported, order_number, name_of, Found, found_for, offered, pumped_from, settled, may_offer, taken_at, last_slot, welcomed, slot_lost, landed, executed_one, next_child, next_ready, ending, executed_ready, all_ready, executed, install_to, welcomed_all, pumped, put_back, ReplicaState, Place, Executed, childless, members, next, flying, taught, most_taught, ask_answered, ask_row, same_command, without_slot, promise_to, promised}
+use Rattle.sc_law_walks.specs.WalkDefinitions.{IfThere}
 use Rattle.sc_law_walks.proofs.Ways.{either_way}
 
 -- a place with nothing in flight or ready at a slot

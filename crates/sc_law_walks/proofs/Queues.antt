@@ -3,9 +3,9 @@ use Rattle.std.proofs.Common.{◌≡◌, ℕ, nat_lt, true, true≢false, List, 
 use Rattle.std.proofs.lemmas.List.{length_push}
 use Rattle.sc_node_table.specs.Values.{Command, Noop, Call, Join, Leave, Split, Begin, Prepared, RecordVote, GiveUp, Finish, Watched, RecordWatch}
 use Rattle.sc_base.specs.Definitions.{Each}
-use Rattle.sc_words.proofs.PaxosProofs.Lemmas.{Each-append}
-use Rattle.sc_node_table.specs.Definitions.{queued_number, request_before, is_request_of, without_request, put_back, rest_of, slots_ahead, ReplicaState}
-use Rattle.sc_law_walks.specs.Definitions.{IsFiled, IsFiledOnMail, IsAsked, IsOrder, IsKept}
+use Rattle.sc_words.proofs.PaxosProofs.PaxosLemmas.{Each-append}
+use Rattle.sc_node_table.specs.NodeDefinitions.{queued_number, request_before, is_request_of, without_request, put_back, rest_of, slots_ahead, ReplicaState}
+use Rattle.sc_law_walks.specs.WalkDefinitions.{IsFiled, IsFiledOnMail, IsAsked, IsOrder, IsKept}
 use Rattle.sc_law_walks.proofs.Ways.{either_way}
 
 -- one set goes and one comes

@@ -2,7 +2,7 @@
 use Rattle.std.proofs.Common.{◌≡◌, [], Option, Some, ap}
 use Rattle.sc_base.specs.Definitions.{Drawer, next_name}
 use Rattle.sc_node_table.specs.Values.{OrderLine, OrderRefusal, Refused}
-use Rattle.sc_node_table.specs.Definitions.{ReplicaState, ordered_command, ordered_row, queued_or_refused, result_sent, untaken}
+use Rattle.sc_node_table.specs.NodeDefinitions.{ReplicaState, ordered_command, ordered_row, queued_or_refused, result_sent, untaken}
 
 pub order_refused : (drawer : Drawer) (line : OrderLine) (r : ReplicaState) (why : OrderRefusal) → untaken drawer line r ≡ Some why → ordered_row drawer line (r, []) ≡ (r, result_sent r.me line.number (Refused why) [])
 unfolding ordered_row

@@ -4,7 +4,7 @@ use Rattle.std.specs.Prelude.{is_some}
 use Rattle.sc_base.specs.Definitions.{Each, Drawer, same_draw}
 use Rattle.sc_node_table.specs.Values.{Draw, Input, Got, Base, OrderLine, Mail, MailBody, Install}
 use Rattle.sc_actor.specs.declared.rows.Input.TheVariants.{Tick, Go, Told}
-use Rattle.sc_node_table.specs.Definitions.{NodeState, node_table, replica_of, with_replica, is_before, with_new, group_of_mail, with_made, unknown, may_come, with_born, with_children, taken_by, routed, group_of_order, ordered_of, ticked, names_after_tick, born_replica, ReplicaState, Executed, name_of, slots_ahead, mailed, ordered_row, tick_row, made_by, last_slot}
+use Rattle.sc_node_table.specs.NodeDefinitions.{NodeState, node_table, replica_of, with_replica, is_before, with_new, group_of_mail, with_made, unknown, may_come, with_born, with_children, taken_by, routed, group_of_order, ordered_of, ticked, names_after_tick, born_replica, ReplicaState, Executed, name_of, slots_ahead, mailed, ordered_row, tick_row, made_by, last_slot}
 use Rattle.sc_law_walks.proofs.Ways.{either_way}
 
 -- ---- a replica that is found

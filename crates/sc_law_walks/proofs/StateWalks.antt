@@ -1,9 +1,9 @@
 -- An invariant of replicas that says nothing of mail and reads no queue: what it needs, and the walk that it is.
 use Rattle.std.proofs.Common.{◌≡◌, ℕ, ◌<◌, ◌+◌, ◌≤◌, cond, true, false, List, Option, Some}
 use Rattle.sc_node_table.specs.Values.{Ballot, Command, Base, MailBody, Report}
-use Rattle.sc_words.specs.paxos.Definitions.{IsAtLeast, after_promise, after_accept, may_promise, may_accept, promise_counted, with_flight_at, without_flight_at, counted, below}
-use Rattle.sc_node_table.specs.Definitions.{entered, jumped, ReplicaState, next, slots_ahead, with_slot, without_slot, born_replica, installed_replica}
-use Rattle.sc_law_walks.specs.Definitions.{GoesOn, IsKept}
+use Rattle.sc_words.specs.paxos.PaxosDefinitions.{IsAtLeast, after_promise, after_accept, may_promise, may_accept, promise_counted, with_flight_at, without_flight_at, counted, below}
+use Rattle.sc_node_table.specs.NodeDefinitions.{entered, jumped, ReplicaState, next, slots_ahead, with_slot, without_slot, born_replica, installed_replica}
+use Rattle.sc_law_walks.specs.WalkDefinitions.{GoesOn, IsKept}
 use Rattle.sc_law_walks.proofs.Queues.{back_any}
 use Rattle.sc_law_walks.proofs.Walks.{Facts, States, Walk, Births, Ticks, Hears, hears_all, unsaid, elected_replica, ended_replica}
 

@@ -2,10 +2,10 @@
 use Rattle.std.proofs.Common.{◌≡◌, ℕ, ◌-◌, not, Bool, true, cond, List, [], ◌∷◌, filter, Option, Some, None, refl}
 use Rattle.std.proofs.lemmas.Bool.{cond_both}
 use Rattle.sc_base.specs.Definitions.{Among, Each, is_member}
-use Rattle.sc_words.proofs.PaxosProofs.Lemmas.{Each-from}
+use Rattle.sc_words.proofs.PaxosProofs.PaxosLemmas.{Each-from}
 use Rattle.sc_node_table.specs.Values.{Op, Command, Call, Effect, OrderResult, AnswerBody, Mail, Prepare, Learn, Install}
-use Rattle.sc_group_table.specs.machine.Definitions.{base_of, applied}
-use Rattle.sc_node_table.specs.Definitions.{entered, answer_of, answered_or_put_back, order_result, effect_reported, announced, learnt_to, welcomed, landed, install_to, welcomed_all, sent, answer_to, order_reported, order_number, put_back, ReplicaState, Place, name_of, members, next, flying, before_of, spoken, spoken_mails}
+use Rattle.sc_group_table.specs.machine.MachineDefinitions.{base_of, applied}
+use Rattle.sc_node_table.specs.NodeDefinitions.{entered, answer_of, answered_or_put_back, order_result, effect_reported, announced, learnt_to, welcomed, landed, install_to, welcomed_all, sent, answer_to, order_reported, order_number, put_back, ReplicaState, Place, name_of, members, next, flying, before_of, spoken, spoken_mails}
 use Rattle.sc_law_walks.proofs.Ways.{either_way}
 use Rattle.sc_law_walks.proofs.Places.{cleared, landed_place}
 use Rattle.sc_law_walks.proofs.PlaceWalks.{entered_place}

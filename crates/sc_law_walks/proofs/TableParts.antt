@@ -2,13 +2,13 @@
 use Rattle.std.proofs.Common.{◌≡◌, ℕ, ◌-◌, ◌^◌, ◌&&◌, eqb, Bool, true, false, cond, List, [], ◌∷◌, ◌++◌, Option, Some, None, refl}
 use Rattle.sc_base.specs.Definitions.{Each, is_member, least_of}
 use Rattle.std.proofs.lemmas.Bool.{cond_both, and_parts}
-use Rattle.sc_node_table.specs.Definitions.{at_slot, has_act, with_act, act_queued, elected, ended, stopped, saw, left_gone, left, is_among, looked_for, looked, executed_one, child_at, next_child, has_room, next_ready, ending, executed_ready, all_ready, executed, pumped, ReplicaState, Place, Executed, next, members, childless}
+use Rattle.sc_node_table.specs.NodeDefinitions.{at_slot, has_act, with_act, act_queued, elected, ended, stopped, saw, left_gone, left, is_among, looked_for, looked, executed_one, child_at, next_child, has_room, next_ready, ending, executed_ready, all_ready, executed, pumped, ReplicaState, Place, Executed, next, members, childless}
 use Rattle.sc_node_table.specs.Values.{Ballot, Command, Base, Route, Mail}
-use Rattle.sc_group_table.specs.machine.Definitions.{child_by}
-use Rattle.sc_words.proofs.PaxosProofs.Lemmas.{at_least_itself, Each-append, Each-from}
-use Rattle.sc_words.specs.paxos.Definitions.{IsAtLeast, below}
+use Rattle.sc_group_table.specs.machine.MachineDefinitions.{child_by}
+use Rattle.sc_words.proofs.PaxosProofs.PaxosLemmas.{at_least_itself, Each-append, Each-from}
+use Rattle.sc_words.specs.paxos.PaxosDefinitions.{IsAtLeast, below}
 use Rattle.sc_law_walks.proofs.Ways.{either_way}
-use Rattle.sc_law_walks.specs.Definitions.{IsFiledOnMail}
+use Rattle.sc_law_walks.specs.WalkDefinitions.{IsFiledOnMail}
 use Rattle.sc_law_walks.proofs.PlaceWalks.{entered_place}
 use Rattle.sc_law_walks.proofs.TableWalks.{TableWalk, MayEnter}
 use Rattle.sc_law_walks.proofs.TablePumps.{TableOffers, pump_keeps}

@@ -6,11 +6,11 @@ use Rattle.std.proofs.lemmas.Bool.{cond_both, and_parts}
 use Rattle.sc_base.specs.Definitions.{Each}
 use Rattle.sc_node_table.specs.Values.{Command, Noop, AnswerBody, Mail, Must, Gap}
 use Rattle.sc_words.specs.declared.paxos.answers.Must.TheVariants.{Value, Free as Open}
-use Rattle.sc_words.specs.paxos.Definitions.{must}
-use Rattle.sc_node_table.specs.Definitions.{turned_down, answered, Found, is_act, from_backlog, from_acts, from_queues, found_by, found_for, offered, pumped_from, pumped, ReplicaState, Place, next, settled, may_offer, first_set, taken_at, under_way, is_idle, last_slot, next_queued}
+use Rattle.sc_words.specs.paxos.PaxosDefinitions.{must}
+use Rattle.sc_node_table.specs.NodeDefinitions.{turned_down, answered, Found, is_act, from_backlog, from_acts, from_queues, found_by, found_for, offered, pumped_from, pumped, ReplicaState, Place, next, settled, may_offer, first_set, taken_at, under_way, is_idle, last_slot, next_queued}
 use Rattle.sc_law_walks.proofs.Calls.{next_found}
 use Rattle.sc_law_walks.proofs.Ways.{either_way, none_there}
-use Rattle.sc_law_walks.specs.Definitions.{IfThere}
+use Rattle.sc_law_walks.specs.WalkDefinitions.{IfThere}
 
 -- That Late is kept by each offer of a replica that runs, at an open slot that it has nothing at and whose members are as Members says: of what was reported there, of nothing new below what was reported, of the head of either queue; and by the answer to a request that gets no slot.
 pub record TableOffers (Members : List ℕ → Type 0) (Late : Place → Type 0) : Type 0 where

@@ -4,7 +4,7 @@ use Rattle.std.specs.Prelude.{is_some}
 use Rattle.sc_base.specs.Definitions.{same_ballot, Drawer, next_name, is_member}
 use Rattle.std.proofs.lemmas.Bool.{cond_both, and_parts, eqb-true, eq-eqb, ltb-false, ltb-true}
 use Rattle.sc_node_table.specs.Values.{Ballot, Draw, Op, Offer, Watch, Command, Call, Prepared as PreparedAct, RecordVote, Finish, Watched, RecordWatch, Base, Core, Route, Order, OrderLine, OrderRefusal, Outcome, Past, Vote, AnswerBody, Mail, MailBody, Request, Answer, Prepare, Promise, Accept, Accepted, Nack, Learn, Ask, Install, TxPrepare, TxVote, TxOutcome, TxElsewhere, TxWatch, TxWatched, Told, Report, PrepareAnswer, AcceptAnswer, Counted, Chosen, NotYet}
-use Rattle.sc_group_table.specs.machine.Definitions.{base_of}
+use Rattle.sc_group_table.specs.machine.MachineDefinitions.{base_of}
 use Rattle.sc_words.specs.declared.commands.orders.Order.TheVariants as An
 use Rattle.sc_words.specs.declared.commands.orders.OrderRefusal.TheVariants.{NotLeader}
 use Rattle.sc_words.specs.declared.commands.votes.Past.TheVariants as Cast
@@ -12,11 +12,11 @@ use Rattle.sc_words.specs.declared.commands.votes.Vote.TheVariants as Vows
 use Rattle.sc_mail.specs.declared.bodies.AnswerBody.TheVariants as Says
 use Rattle.sc_words.specs.declared.paxos.answers.PrepareAnswer.TheVariants as Prepared
 use Rattle.sc_words.specs.declared.paxos.answers.AcceptAnswer.TheVariants as Asked
-use Rattle.sc_words.specs.paxos.Definitions.{IsAtLeast, prepared, accepted as accepted_by, AcceptorState, reports_from, may_promise, may_accept, after_promise, after_accept, LeaderState, promise_counted, entry_at, counted}
-use Rattle.sc_node_table.specs.Definitions.{act_queued, ended, stopped, saw, looked, executed, has_room, named, jumped, install_to, sent, ordered_command, untaken, queued_or_refused, ordered_row, pumped, queued_number, without_request, ReplicaState, Place, childless, name_of, next, members, settled, set_at, last_slot, forgotten, may_offer, first_set, installed_replica, refused_at, queued, requested, request_row, learn_row, taught, most_taught, ask_row, looked_up, took_over, install_row, mailed, request_refusal, made_by, at_slot, with_slot, asked_next, noted_outcome, standing_vote, sent_elsewhere, offered_by, offer_row, watched_by, watch_row, awaits_vote, awaits_watch, vote_met, vote_row, watch_met, watched_row, elsewhere_row, is_bound, outcome_row, hinted, promise_to, promised, prepare_row, accepted_to, took, accept_row, leads, promise_row, readied, vote_tallied, voted, accepted_row, nack_row}
+use Rattle.sc_words.specs.paxos.PaxosDefinitions.{IsAtLeast, prepared, accepted as accepted_by, AcceptorState, reports_from, may_promise, may_accept, after_promise, after_accept, LeaderState, promise_counted, entry_at, counted}
+use Rattle.sc_node_table.specs.NodeDefinitions.{act_queued, ended, stopped, saw, looked, executed, has_room, named, jumped, install_to, sent, ordered_command, untaken, queued_or_refused, ordered_row, pumped, queued_number, without_request, ReplicaState, Place, childless, name_of, next, members, settled, set_at, last_slot, forgotten, may_offer, first_set, installed_replica, refused_at, queued, requested, request_row, learn_row, taught, most_taught, ask_row, looked_up, took_over, install_row, mailed, request_refusal, made_by, at_slot, with_slot, asked_next, noted_outcome, standing_vote, sent_elsewhere, offered_by, offer_row, watched_by, watch_row, awaits_vote, awaits_watch, vote_met, vote_row, watch_met, watched_row, elsewhere_row, is_bound, outcome_row, hinted, promise_to, promised, prepare_row, accepted_to, took, accept_row, leads, promise_row, readied, vote_tallied, voted, accepted_row, nack_row}
 use Rattle.sc_law_walks.proofs.Places.{asked_place}
 use Rattle.sc_law_walks.proofs.Ways.{either_way}
-use Rattle.sc_law_walks.specs.Definitions.{IsFiledOnMail, IsOrder}
+use Rattle.sc_law_walks.specs.WalkDefinitions.{IsFiledOnMail, IsOrder}
 use Rattle.sc_law_walks.proofs.TableParts.{Before, After, AfterAll, seen_top, seen_acceptor, pumps, acts_pump, sees_ballot, looks, execution}
 use Rattle.sc_law_walks.proofs.TableWalks.{TableWalk, AsFound}
 

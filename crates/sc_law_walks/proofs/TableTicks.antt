@@ -4,9 +4,9 @@ use Rattle.std.specs.Prelude.{is_some}
 use Rattle.std.proofs.lemmas.Bool.{cond_both, and_parts}
 use Rattle.sc_base.specs.Definitions.{Drawer, next_name, is_member}
 use Rattle.sc_node_table.specs.Values.{Command, GiveUp, Lock, Free, Coordinating, Promised, Watching, OrderLine, OrderRefusal, Mail, Accept, Learn}
-use Rattle.sc_words.specs.paxos.Definitions.{entry_at}
-use Rattle.sc_node_table.specs.Definitions.{with_act, has_act, elected, sent_all, ordered_command, untaken, wished_line, with_command, with_line, wishing, pumped, one_tick_more, patience, waited_in, reminders, reminded, ReplicaState, Place, name_of, next, members, settled, may_offer, first_set, flying, is_idle, asked_again, last_entry_sent, uncounted, tick_row}
-use Rattle.sc_law_walks.specs.Definitions.{IsOrder}
+use Rattle.sc_words.specs.paxos.PaxosDefinitions.{entry_at}
+use Rattle.sc_node_table.specs.NodeDefinitions.{with_act, has_act, elected, sent_all, ordered_command, untaken, wished_line, with_command, with_line, wishing, pumped, one_tick_more, patience, waited_in, reminders, reminded, ReplicaState, Place, name_of, next, members, settled, may_offer, first_set, flying, is_idle, asked_again, last_entry_sent, uncounted, tick_row}
+use Rattle.sc_law_walks.specs.WalkDefinitions.{IsOrder}
 use Rattle.sc_law_walks.proofs.Ways.{either_way}
 use Rattle.sc_law_walks.proofs.TableWalks.{TableWalk, TableAgains, TableTicks}
 use Rattle.sc_law_walks.proofs.Talks.{all_sent, others_sent}

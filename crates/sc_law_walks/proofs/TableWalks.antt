@@ -4,10 +4,10 @@ use Rattle.sc_base.specs.Definitions.{Drawer}
 use Rattle.sc_node_table.specs.Values.{Ballot, Draw, Op, Offer, Watch, Command, Noop, Prepared, RecordVote, GiveUp, Finish, Watched, RecordWatch, Base, Body, Coordinating, Heard, Route, OrderLine, OrderRefusal, Refused, Outcome, Past, Vote, AnswerBody, Mail, MailBody, Request, Prepare, Promise, Accept, Accepted, Nack, Learn, Ask, Install, TxPrepare, TxVote, TxOutcome, TxElsewhere, TxWatch, TxWatched, Chosen, Report}
 use Rattle.sc_mail.specs.declared.bodies.AnswerBody.TheVariants as Says
 use Rattle.sc_words.specs.declared.paxos.answers.Must.TheVariants.{Value}
-use Rattle.sc_group_table.specs.machine.Definitions.{base_of, child_by}
-use Rattle.sc_words.specs.paxos.Definitions.{IsAtLeast, reports_from, after_promise, after_accept, may_promise, may_accept, promise_counted, entry_at, counted, must, below}
-use Rattle.sc_node_table.specs.Definitions.{jumped, ReplicaState, Place, name_of, next, at_slot, with_slot, taken_at, flying, has_act, sent, stopped, ended, answered, answer_to, turned_down, refused_at, offered, result_sent, untaken, standing_vote, noted_outcome, voted_to, watched_to, outcome_sent, asked_next, reminders}
-use Rattle.sc_law_walks.specs.Definitions.{IsFiledOnMail, IsOrder}
+use Rattle.sc_group_table.specs.machine.MachineDefinitions.{base_of, child_by}
+use Rattle.sc_words.specs.paxos.PaxosDefinitions.{IsAtLeast, reports_from, after_promise, after_accept, may_promise, may_accept, promise_counted, entry_at, counted, must, below}
+use Rattle.sc_node_table.specs.NodeDefinitions.{jumped, ReplicaState, Place, name_of, next, at_slot, with_slot, taken_at, flying, has_act, sent, stopped, ended, answered, answer_to, turned_down, refused_at, offered, result_sent, untaken, standing_vote, noted_outcome, voted_to, watched_to, outcome_sent, asked_next, reminders}
+use Rattle.sc_law_walks.specs.WalkDefinitions.{IsFiledOnMail, IsOrder}
 use Rattle.sc_law_walks.proofs.PlaceWalks.{Talk, Parties, parties, elected_place, entered_place, EndsRow, ExecutesNext, Follows, SeesBallot, CountsVote, QueuesFirst, QueuesLater, WaitsOn}
 use Rattle.sc_law_walks.proofs.Talks.{client_reported, vote_reported, watch_reported, outcome_said, next_one_asked}
 

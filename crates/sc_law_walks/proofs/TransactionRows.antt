@@ -3,7 +3,7 @@ use Rattle.std.proofs.Common.{ℕ, ◌&&◌, List, Bool, cond, Option, Some, Non
 use Rattle.sc_node_table.specs.Values.{Draw, Offer, Watch, Command, Prepared, RecordVote, Finish, Watched, RecordWatch, Outcome, Past, Vote, Mail, TxElsewhere}
 use Rattle.sc_words.specs.declared.commands.votes.Past.TheVariants as Cast
 use Rattle.sc_words.specs.declared.commands.votes.Vote.TheVariants as Vows
-use Rattle.sc_node_table.specs.Definitions.{act_queued, sent, ReplicaState, Place, settled, voted_to, watched_to, outcome_sent, asked_next, noted_outcome, standing_vote, sent_elsewhere, offered_by, offer_row, watched_by, watch_row, awaits_vote, awaits_watch, vote_met, vote_row, watch_met, watched_row, elsewhere_row, is_bound, outcome_row}
+use Rattle.sc_node_table.specs.NodeDefinitions.{act_queued, sent, ReplicaState, Place, settled, voted_to, watched_to, outcome_sent, asked_next, noted_outcome, standing_vote, sent_elsewhere, offered_by, offer_row, watched_by, watch_row, awaits_vote, awaits_watch, vote_met, vote_row, watch_met, watched_row, elsewhere_row, is_bound, outcome_row}
 use Rattle.sc_law_walks.proofs.Ways.{either_way}
 
 -- Which commands may be queued; and that it is kept by one that is, by a vote and an outcome that are sent, by the question to the next member, and by who is sent on to another node.

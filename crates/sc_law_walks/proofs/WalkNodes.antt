@@ -2,8 +2,8 @@
 use Rattle.std.proofs.Common.{◌≡◌, List, []}
 use Rattle.sc_base.specs.Definitions.{Each}
 use Rattle.sc_node_table.specs.Values.{Input, OrderLine, Mail}
-use Rattle.sc_words.proofs.PaxosProofs.Lemmas.{Each-weaker}
-use Rattle.sc_node_table.specs.Definitions.{NodeState, node_table, ReplicaState}
+use Rattle.sc_words.proofs.PaxosProofs.PaxosLemmas.{Each-weaker}
+use Rattle.sc_node_table.specs.NodeDefinitions.{NodeState, node_table, ReplicaState}
 use Rattle.sc_law_walks.proofs.PlaceWalks.{Before as BeforeAt, After as AfterAt}
 use Rattle.sc_law_walks.proofs.PlaceNodes as places
 use Rattle.sc_law_walks.proofs.PlaceNodes.{NodeSteps}

@@ -1,5 +1,5 @@
 -- What a walk says is kept while a replica is elected, and while it looks for a leader.
-use Rattle.sc_node_table.specs.Definitions.{elected, looked, Place}
+use Rattle.sc_node_table.specs.NodeDefinitions.{elected, looked, Place}
 use Rattle.sc_law_walks.proofs.PlaceParts as places
 use Rattle.sc_law_walks.proofs.WalkPlaces.{place_walk, to_place, from_place}
 use Rattle.sc_law_walks.proofs.Walks.{Walk, Before, After}

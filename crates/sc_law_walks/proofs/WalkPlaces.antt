@@ -2,10 +2,10 @@
 use Rattle.std.proofs.Common.{◌≡◌, ℕ, ◌<◌, ◌+◌, ◌∙◌, Bool, true, false, true≢false, sym, cond, List, [], ◌∷◌, Option, Some}
 use Rattle.sc_base.specs.Definitions.{client_actor}
 use Rattle.sc_node_table.specs.Values.{Command, Noop, AnswerBody, NotLeader, Mail, MailBody, Answer, Told, Accept, TxElsewhere, TxPrepare, TxWatch, TxVote, TxWatched, TxOutcome}
-use Rattle.sc_words.proofs.PaxosProofs.Lemmas.{Each-append}
-use Rattle.sc_words.specs.paxos.Definitions.{below, counted}
-use Rattle.sc_node_table.specs.Definitions.{ReplicaState, Place, name_of, next, slots_ahead, under_way, sent, ended, answered_all, offered, open_nodes}
-use Rattle.sc_law_walks.specs.Definitions.{IsKept}
+use Rattle.sc_words.proofs.PaxosProofs.PaxosLemmas.{Each-append}
+use Rattle.sc_words.specs.paxos.PaxosDefinitions.{below, counted}
+use Rattle.sc_node_table.specs.NodeDefinitions.{ReplicaState, Place, name_of, next, slots_ahead, under_way, sent, ended, answered_all, offered, open_nodes}
+use Rattle.sc_law_walks.specs.WalkDefinitions.{IsKept}
 use Rattle.sc_law_walks.proofs.Ways.{either_way}
 use Rattle.sc_law_walks.proofs.PlaceWalks.{PlaceFacts, PlaceWalk, PlaceTicks, PlaceBirths, Talk, entered_place, ended_replica, Before as BeforeAt, After as AfterAt}
 use Rattle.sc_law_walks.proofs.Talks.{all_sent, one_answered, all_answered, all_dismissed}

@@ -2,7 +2,7 @@
 use Rattle.std.proofs.Common.{◌≡◌, ℕ, List, length}
 use Rattle.sc_base.specs.Definitions.{Drawer}
 use Rattle.sc_node_table.specs.Values.{Draw, Base, OrderLine, MailBody}
-use Rattle.sc_node_table.specs.Definitions.{named, ordered_row, Place, born_replica, mailed, made_by, slots_ahead}
+use Rattle.sc_node_table.specs.NodeDefinitions.{named, ordered_row, Place, born_replica, mailed, made_by, slots_ahead}
 use Rattle.sc_law_walks.proofs.PlaceRows as places
 use Rattle.sc_law_walks.proofs.WalkPlaces.{place_walk, place_births, to_place, from_place}
 use Rattle.sc_law_walks.proofs.Walks.{Walk, Births, LateAt, Before, After, AfterAll, Hears}

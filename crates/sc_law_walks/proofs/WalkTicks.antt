@@ -1,7 +1,7 @@
 -- What a walk says is kept by a replica's tick.
 use Rattle.std.proofs.Common.{Bool}
 use Rattle.sc_base.specs.Definitions.{Drawer}
-use Rattle.sc_node_table.specs.Definitions.{Place, tick_row}
+use Rattle.sc_node_table.specs.NodeDefinitions.{Place, tick_row}
 use Rattle.sc_law_walks.proofs.PlaceTicks as places
 use Rattle.sc_law_walks.proofs.WalkPlaces.{place_walk, place_ticks, to_place, from_place}
 use Rattle.sc_law_walks.proofs.Walks.{Walk, Ticks, Before, After}

@@ -3,10 +3,10 @@ use Rattle.std.proofs.Common.{◌≡◌, ℕ, ◌+◌, ◌-◌, ◌<◌, ◌≤�
 use Rattle.sc_node_table.specs.Values.{Ballot, Draw, Op, Offer, Watch, Command, Noop, Call, GiveUp, Base, OrderResult, Outcome, Past, Vote, AnswerBody, Mail, MailBody, Answer, Prepare, Promise, Accept, Accepted, Nack, Learn, Ask, Install, TxPrepare, TxVote, TxOutcome, TxElsewhere, TxWatch, TxWatched, Told, Chosen, Report}
 use Rattle.sc_base.specs.Definitions.{Each, client_actor}
 use Rattle.sc_words.specs.declared.paxos.answers.Must.TheVariants.{Value}
-use Rattle.sc_group_table.specs.machine.Definitions.{base_of}
-use Rattle.sc_words.specs.paxos.Definitions.{IsAtLeast, reports_from, after_promise, after_accept, may_promise, may_accept, promise_counted, with_flight_at, without_flight_at, entry_at, counted, must, below}
-use Rattle.sc_node_table.specs.Definitions.{entered, named, jumped, ReplicaState, Place, Executed, name_of, next, slots_ahead, at_slot, with_slot, without_slot, put_back, queued_number, without_request, has_act, born_replica, installed_replica, flying}
-use Rattle.sc_law_walks.specs.Definitions.{GoesOn, IsFiledOnMail, IsOrder, IsKept}
+use Rattle.sc_group_table.specs.machine.MachineDefinitions.{base_of}
+use Rattle.sc_words.specs.paxos.PaxosDefinitions.{IsAtLeast, reports_from, after_promise, after_accept, may_promise, may_accept, promise_counted, with_flight_at, without_flight_at, entry_at, counted, must, below}
+use Rattle.sc_node_table.specs.NodeDefinitions.{entered, named, jumped, ReplicaState, Place, Executed, name_of, next, slots_ahead, at_slot, with_slot, without_slot, put_back, queued_number, without_request, has_act, born_replica, installed_replica, flying}
+use Rattle.sc_law_walks.specs.WalkDefinitions.{GoesOn, IsFiledOnMail, IsOrder, IsKept}
 pub use Rattle.sc_law_walks.proofs.PlaceWalks.{elected_replica, ended_replica, IsReported}
 use Rattle.sc_law_walks.proofs.PlaceWalks.{PlaceFacts, Hears as HearsAt}
 

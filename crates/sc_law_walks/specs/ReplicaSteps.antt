@@ -1,8 +1,8 @@
 -- What several laws say of a replica's step.
 use Rattle.std.specs.Prelude.{◌≡◌, ◌&&◌, false, Option, Some, None}
 use Rattle.sc_node_table.specs.Values.{Ballot, Command}
-use Rattle.sc_words.specs.paxos.Definitions.{below}
-use Rattle.sc_node_table.specs.Definitions.{ReplicaState}
+use Rattle.sc_words.specs.paxos.PaxosDefinitions.{below}
+use Rattle.sc_node_table.specs.NodeDefinitions.{ReplicaState}
 
 -- this ballot stops no leader: the replica does not run as a leader, or its ballot is not below this one
 abbrev pub GoesOn : Ballot → ReplicaState → Type 0

@@ -2,7 +2,7 @@
 use Rattle.std.specs.Prelude.{◌≡◌, ℕ, false, [], length}
 use Rattle.sc_base.specs.Definitions.{Each}
 use Rattle.sc_node_table.specs.Values.{Command, Noop, Call, Join, Leave, Split, Begin, Prepared, RecordVote, GiveUp, Finish, Watched, RecordWatch}
-use Rattle.sc_node_table.specs.Definitions.{ReplicaState, slots_ahead}
+use Rattle.sc_node_table.specs.NodeDefinitions.{ReplicaState, slots_ahead}
 
 -- a command of a transaction: a vote, a recorded vote, giving up or an end
 abbrev pub IsFiled : Command → Type 0

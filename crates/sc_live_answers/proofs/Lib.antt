@@ -13,4 +13,4 @@ pub mod OrdersProofs
 pub mod ErrandsProofs
 pub mod WorkProofs
 pub mod VotesProofs
-pub mod Lemmas
+pub mod AnswerLemmas

@@ -4,16 +4,16 @@ use Rattle.sc_base.specs.Definitions.{Among, Each, united}
 use Rattle.sc_node_table.specs.Values.{Draw, Seat, Body, Offer, Watch, Command, Prepared, RecordVote, Watched, Base, Coordinating, Promised, Watching, Frozen, Heard, Flight}
 use Rattle.sc_words.specs.declared.commands.bodies.Body.TheVariants as At
 use Rattle.sc_words.specs.declared.commands.votes.Vote.TheVariants as Vows
-use Rattle.sc_group_table.specs.machine.Definitions.{Group, can_split, frozen_of}
-use Rattle.sc_node_table.specs.Definitions.{NodeState, ReplicaState}
+use Rattle.sc_group_table.specs.machine.MachineDefinitions.{Group, can_split, frozen_of}
+use Rattle.sc_node_table.specs.NodeDefinitions.{NodeState, ReplicaState}
 use Rattle.sc_scenario.specs.declared.scenario.scenarios.Scenario.{Scenario}
 use Rattle.sc_scenario.specs.scenario.Definitions.{IsValid}
-use Rattle.sc_meaning.specs.sound.Definitions.{groups_at, Lawful, Player, as_nodes}
-use Rattle.sc_law_entries.specs.ring.Definitions.{Sources, IsAllowed, offer_for, unsigned, unsigned_watch, watch_for}
-use Rattle.sc_law_entries.specs.names.Definitions.{owner_in}
-use Rattle.sc_law_groups.specs.whole.Definitions.{section_op, stories_at}
-use Rattle.sc_live_steps.specs.calm.Definitions.{Rows}
-use Rattle.sc_live_journals.specs.logs.Definitions.{HasReplica, IsGroupOf}
+use Rattle.sc_meaning.specs.sound.SoundDefinitions.{groups_at, Lawful, Player, as_nodes}
+use Rattle.sc_law_entries.specs.ring.RingDefinitions.{Sources, IsAllowed, offer_for, unsigned, unsigned_watch, watch_for}
+use Rattle.sc_law_entries.specs.names.NameDefinitions.{owner_in}
+use Rattle.sc_law_groups.specs.whole.WholeDefinitions.{section_op, stories_at}
+use Rattle.sc_live_steps.specs.calm.CalmDefinitions.{Rows}
+use Rattle.sc_live_journals.specs.logs.LogDefinitions.{HasReplica, IsGroupOf}
 
 -- the owner of each name of a journal, and what clients ask by which number
 abbrev pub sources_of : Scenario → Rows → Sources

@@ -4,11 +4,11 @@ use Rattle.sc_node_table.specs.Values.{Base, OrderLine, Mail, Row}
 use Rattle.sc_actor.specs.Definitions.{is_quiet, unsettled}
 use Rattle.sc_scenario.specs.scenario.Definitions.{IsValid}
 use Rattle.sc_scenario.specs.declared.scenario.scenarios.Scenario.{Scenario}
-use Rattle.sc_meaning.specs.sound.Definitions.{births, system_of, schedule, as_nodes, Lawful, Whole}
-use Rattle.sc_live_orderly.specs.Definitions.{AreInTime}
-use Rattle.sc_live_steps.specs.calm.Definitions.{Chart, players, Rows}
-use Rattle.sc_live_journals.specs.charts.Definitions.{chart_at}
-use Rattle.sc_live_plain.specs.Definitions.{IsQuietJournal, AreAnswered, orders_of, IsCalm, IsCalmAtBudget}
+use Rattle.sc_meaning.specs.sound.SoundDefinitions.{births, system_of, schedule, as_nodes, Lawful, Whole}
+use Rattle.sc_live_orderly.specs.OrderlyDefinitions.{AreInTime}
+use Rattle.sc_live_steps.specs.calm.CalmDefinitions.{Chart, players, Rows}
+use Rattle.sc_live_journals.specs.charts.ChartDefinitions.{chart_at}
+use Rattle.sc_live_plain.specs.PlainDefinitions.{IsQuietJournal, AreAnswered, orders_of, IsCalm, IsCalmAtBudget}
 use Rattle.sc_live_answers.specs.LineEnds.{AreCharted}
 use Rattle.sc_live_answers.specs.ReportedOrders.{SettledJournalsReport}
 

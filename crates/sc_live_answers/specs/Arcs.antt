@@ -4,8 +4,8 @@ use Rattle.sc_base.specs.Definitions.{Among, IsArc}
 use Rattle.sc_node_table.specs.Values.{Base, Free}
 use Rattle.sc_scenario.specs.scenario.Definitions.{IsValid}
 use Rattle.sc_scenario.specs.declared.scenario.scenarios.Scenario.{Scenario}
-use Rattle.sc_meaning.specs.sound.Definitions.{groups_at, decided_state, as_nodes, Lawful}
-use Rattle.sc_law_entries.specs.logs.Definitions.{Rows}
+use Rattle.sc_meaning.specs.sound.SoundDefinitions.{groups_at, decided_state, as_nodes, Lawful}
+use Rattle.sc_law_entries.specs.logs.LogDefinitions.{Rows}
 
 -- each group of a lawful journal of a valid scenario has an arc that begins on the ring, where it is not locked and not gone by its decided log
 abbrev pub FreeGroupsHaveArcs : Type 0

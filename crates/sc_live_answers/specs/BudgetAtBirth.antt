@@ -1,9 +1,9 @@
 -- The budget of a calm scenario covers what all players owe at their births and what one order raises.
 use Rattle.std.specs.Prelude.{◌≡◌, ◌+◌, ◌*◌, ◌≤◌, length}
 use Rattle.sc_scenario.specs.declared.scenario.scenarios.Scenario.{Scenario}
-use Rattle.sc_meaning.specs.sound.Definitions.{births, as_nodes}
-use Rattle.sc_live_steps.specs.calm.Definitions.{Chart, births_owe}
-use Rattle.sc_live_plain.specs.Definitions.{orders_of, calm_budget_of}
+use Rattle.sc_meaning.specs.sound.SoundDefinitions.{births, as_nodes}
+use Rattle.sc_live_steps.specs.calm.CalmDefinitions.{Chart, births_owe}
+use Rattle.sc_live_plain.specs.PlainDefinitions.{orders_of, calm_budget_of}
 
 -- the chart before the first row of a scenario with G groups and N orders: no way by hints is longer than N + 1, and no client is sent on more often than G + N times
 pub record IsFirstChart (scenario : Scenario) (first : Chart) : Type 0 where

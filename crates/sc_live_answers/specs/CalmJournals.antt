@@ -2,13 +2,13 @@
 use Rattle.std.specs.Prelude.{◌≡◌, ℕ, ◌≤◌, ◌^◌, ◌++◌, length}
 use Rattle.sc_base.specs.Definitions.{Among}
 use Rattle.sc_node_table.specs.Values.{Draw, Base, Seat, Deliver}
-use Rattle.sc_live_orderly.specs.Definitions.{AreInTime, GiveAllowedOrders}
+use Rattle.sc_live_orderly.specs.OrderlyDefinitions.{AreInTime, GiveAllowedOrders}
 use Rattle.sc_scenario.specs.scenario.Definitions.{IsValid}
 use Rattle.sc_scenario.specs.declared.scenario.scenarios.Scenario.{Scenario}
-use Rattle.sc_meaning.specs.sound.Definitions.{groups_at, Player, births, as_nodes, Lawful}
-use Rattle.sc_live_steps.specs.calm.Definitions.{players, Rows}
-use Rattle.sc_live_journals.specs.rows.Definitions.{IsSeat, with_event}
-use Rattle.sc_live_journals.specs.logs.Definitions.{logged_sets}
+use Rattle.sc_meaning.specs.sound.SoundDefinitions.{groups_at, Player, births, as_nodes, Lawful}
+use Rattle.sc_live_steps.specs.calm.CalmDefinitions.{players, Rows}
+use Rattle.sc_live_journals.specs.rows.RowDefinitions.{IsSeat, with_event}
+use Rattle.sc_live_journals.specs.logs.LogDefinitions.{logged_sets}
 use Rattle.sc_live_answers.specs.LedGroups.{over_at}
 use Rattle.sc_live_answers.specs.SlotLeaders.{slot_leaders_at}
 use Rattle.sc_live_answers.specs.GroupMail.{IsSentThrough}

@@ -1,13 +1,13 @@
 -- Hints rise in the last quiet prefix, by the chart of the rows behind it.
 use Rattle.std.specs.Prelude.{◌≡◌, ℕ, ◌+◌, ◌≤◌, List, ◌∷◌}
 use Rattle.sc_node_table.specs.Values.{Base}
-use Rattle.sc_live_orderly.specs.Definitions.{orders}
+use Rattle.sc_live_orderly.specs.OrderlyDefinitions.{orders}
 use Rattle.sc_scenario.specs.scenario.Definitions.{IsValid}
 use Rattle.sc_scenario.specs.declared.scenario.scenarios.Scenario.{Scenario}
-use Rattle.sc_meaning.specs.sound.Definitions.{births, as_nodes, Lawful}
-use Rattle.sc_live_steps.specs.calm.Definitions.{players, Rows}
-use Rattle.sc_live_journals.specs.charts.Definitions.{chart_at, quiet_prefix}
-use Rattle.sc_live_plain.specs.Definitions.{replicas_after, setting_at, DoHintsRise, AreFramesOf, Frame}
+use Rattle.sc_meaning.specs.sound.SoundDefinitions.{births, as_nodes, Lawful}
+use Rattle.sc_live_steps.specs.calm.CalmDefinitions.{players, Rows}
+use Rattle.sc_live_journals.specs.charts.ChartDefinitions.{chart_at, quiet_prefix}
+use Rattle.sc_live_plain.specs.PlainDefinitions.{replicas_after, setting_at, DoHintsRise, AreFramesOf, Frame}
 use Rattle.sc_live_answers.specs.ClientAnswers.{AreReached}
 use Rattle.sc_live_answers.specs.Settings.{AreAtNodes}
 use Rattle.sc_live_answers.specs.RestingPrefixes.{RestsAt}

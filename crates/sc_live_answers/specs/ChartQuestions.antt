@@ -2,12 +2,12 @@
 use Rattle.std.specs.Prelude.{◌≡◌, ℕ, true, List, Some}
 use Rattle.sc_base.specs.Definitions.{Among}
 use Rattle.sc_node_table.specs.Values.{Draw, Seat}
-use Rattle.sc_node_table.specs.Definitions.{ReplicaState, name_of}
-use Rattle.sc_meaning.specs.sound.Definitions.{Player}
-use Rattle.sc_live_steps.specs.calm.Definitions.{Rows}
-use Rattle.sc_live_journals.specs.charts.Definitions.{all_replicas, asked_in}
-use Rattle.sc_live_steps.specs.orders.Definitions.{Turn, is_watch, Asking, Stage, IsAt}
-use Rattle.sc_live_journals.specs.scenes.Definitions.{scene_at, LeadsAlone}
+use Rattle.sc_node_table.specs.NodeDefinitions.{ReplicaState, name_of}
+use Rattle.sc_meaning.specs.sound.SoundDefinitions.{Player}
+use Rattle.sc_live_steps.specs.calm.CalmDefinitions.{Rows}
+use Rattle.sc_live_journals.specs.charts.ChartDefinitions.{all_replicas, asked_in}
+use Rattle.sc_live_steps.specs.orders.OrderDefinitions.{Turn, is_watch, Asking, Stage, IsAt}
+use Rattle.sc_live_journals.specs.scenes.SceneDefinitions.{scene_at, LeadsAlone}
 
 -- each replica of a player that runs leads its group alone
 abbrev pub AllLeadAlone : List (Seat Player) → Rows → Type 0

@@ -3,14 +3,14 @@ use Rattle.std.specs.Prelude.{◌≡◌, ℕ, true}
 use Rattle.sc_base.specs.Definitions.{Each}
 use Rattle.sc_node_table.specs.Values.{Seat, Event, OrderLine}
 use Rattle.sc_actor.specs.Definitions.{is_quiet, value}
-use Rattle.sc_live_orderly.specs.Definitions.{AreInTime}
+use Rattle.sc_live_orderly.specs.OrderlyDefinitions.{AreInTime}
 use Rattle.sc_scenario.specs.declared.scenario.scenarios.Scenario.{Scenario}
-use Rattle.sc_meaning.specs.sound.Definitions.{Player, player_table, births, as_nodes}
-use Rattle.sc_live_steps.specs.calm.Definitions.{players, MayFollow, Rows}
-use Rattle.sc_live_journals.specs.rows.Definitions.{with_event}
-use Rattle.sc_live_journals.specs.charts.Definitions.{chart_at, WaitsForNone}
-use Rattle.sc_live_steps.specs.orders.Definitions.{Stage, IsAt}
-use Rattle.sc_live_journals.specs.scenes.Definitions.{StageAfter, scene_at}
+use Rattle.sc_meaning.specs.sound.SoundDefinitions.{Player, player_table, births, as_nodes}
+use Rattle.sc_live_steps.specs.calm.CalmDefinitions.{players, MayFollow, Rows}
+use Rattle.sc_live_journals.specs.rows.RowDefinitions.{with_event}
+use Rattle.sc_live_journals.specs.charts.ChartDefinitions.{chart_at, WaitsForNone}
+use Rattle.sc_live_steps.specs.orders.OrderDefinitions.{Stage, IsAt}
+use Rattle.sc_live_journals.specs.scenes.SceneDefinitions.{StageAfter, scene_at}
 use Rattle.sc_live_answers.specs.ChartQuestions.{AllLeadAlone}
 
 -- the chart after a row of an order may follow the chart before it, where the stage after the row is that before it or one to which the row leads, each replica that runs leads its group alone before and after the row, and no client waits once the journal is quiet

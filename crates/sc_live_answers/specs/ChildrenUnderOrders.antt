@@ -2,14 +2,14 @@
 use Rattle.std.specs.Prelude.{◌≡◌, ℕ, false, [], ◌++◌, Some}
 use Rattle.sc_base.specs.Definitions.{Among, Each}
 use Rattle.sc_node_table.specs.Values.{Draw, Base, OrderLine, Mail, Seat}
-use Rattle.sc_live_orderly.specs.Definitions.{is_born}
+use Rattle.sc_live_orderly.specs.OrderlyDefinitions.{is_born}
 use Rattle.sc_scenario.specs.declared.scenario.scenarios.Scenario.{Scenario}
-use Rattle.sc_node_table.specs.Definitions.{NodeState, replica_of, ReplicaState, mailed}
-use Rattle.sc_meaning.specs.sound.Definitions.{groups_at, Player, births, as_nodes}
-use Rattle.sc_live_steps.specs.calm.Definitions.{players, Rows}
-use Rattle.sc_live_journals.specs.rows.Definitions.{marks_at}
+use Rattle.sc_node_table.specs.NodeDefinitions.{NodeState, replica_of, ReplicaState, mailed}
+use Rattle.sc_meaning.specs.sound.SoundDefinitions.{groups_at, Player, births, as_nodes}
+use Rattle.sc_live_steps.specs.calm.CalmDefinitions.{players, Rows}
+use Rattle.sc_live_journals.specs.rows.RowDefinitions.{marks_at}
 use Rattle.sc_live_answers.specs.GroupMail.{IsQuietWhileYoung}
-use Rattle.sc_live_journals.specs.scenes.Definitions.{IsNowhere, IsTaking}
+use Rattle.sc_live_journals.specs.scenes.SceneDefinitions.{IsNowhere, IsTaking}
 use Rattle.sc_live_answers.specs.WaitingWork.{AreAtWork, IsTaskOf, IsGuidedRow}
 use Rattle.sc_live_answers.specs.OrderTasks.{Task}
 use Rattle.sc_live_answers.specs.CalmJournals.{IsCalmJournal}

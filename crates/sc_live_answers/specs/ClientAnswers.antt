@@ -2,18 +2,18 @@
 use Rattle.std.specs.Prelude.{◌≡◌, ℕ, ◌-◌, ◌≤◌, false, Bool, List, [], ◌∷◌, ◌++◌, slice_get, Some, ◌⊎◌}
 use Rattle.sc_base.specs.Definitions.{Among, client_actor}
 use Rattle.sc_node_table.specs.Values.{Draw, Op, Base, OrderLine, AnswerBody, Mail, Answer, Client, Got, Row}
-use Rattle.sc_client_table.specs.lookup.Definitions.{target_in}
+use Rattle.sc_client_table.specs.lookup.LookupDefinitions.{target_in}
 use Rattle.sc_client_table.specs.declared.lookup.ways.Way.{Way}
 use Rattle.sc_actor.specs.declared.rows.Input.TheVariants.{Go}
 use Rattle.sc_actor.specs.Definitions.{mails, numbered, value, waiting, kth, has_started}
-use Rattle.sc_client_table.specs.table.Definitions.{Client as ClientState, table}
+use Rattle.sc_client_table.specs.table.TableDefinitions.{Client as ClientState, table}
 use Rattle.sc_scenario.specs.declared.scenario.scenarios.Asks.{Asks}
 use Rattle.sc_scenario.specs.declared.scenario.scenarios.Scenario.{Scenario}
 use Rattle.sc_scenario.specs.scenario.Definitions.{IsValid}
-use Rattle.sc_meaning.specs.sound.Definitions.{player_table, client_seat, route_of, system_of, as_nodes}
-use Rattle.sc_live_orderly.specs.Definitions.{IsTidy, owed}
-use Rattle.sc_live_steps.specs.calm.Definitions.{Chart, IsCalmFor, MayGoNow, Elsewhere, sent_on}
-use Rattle.sc_live_plain.specs.Definitions.{IsAsking, AreRequests, AreSeated, NobodyWaits, IsLinkedSetting, IsCalmClient, Setting, IsSetting, IsCalmMail, Frame, IsWaiting, IsBegun}
+use Rattle.sc_meaning.specs.sound.SoundDefinitions.{player_table, client_seat, route_of, system_of, as_nodes}
+use Rattle.sc_live_orderly.specs.OrderlyDefinitions.{IsTidy, owed}
+use Rattle.sc_live_steps.specs.calm.CalmDefinitions.{Chart, IsCalmFor, MayGoNow, Elsewhere, sent_on}
+use Rattle.sc_live_plain.specs.PlainDefinitions.{IsAsking, AreRequests, AreSeated, NobodyWaits, IsLinkedSetting, IsCalmClient, Setting, IsSetting, IsCalmMail, Frame, IsWaiting, IsBegun}
 use Rattle.sc_live_answers.specs.RequestPremises.{CountsAs}
 use Rattle.sc_live_answers.specs.Tokens.{token_owing}
 

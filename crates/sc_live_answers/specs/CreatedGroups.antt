@@ -5,13 +5,13 @@ use Rattle.sc_base.specs.Definitions.{Among, Each, same_draw, is_member}
 use Rattle.sc_node_table.specs.Values.{Draw, Base, OrderLine, Mail, Seat, Deliver}
 use Rattle.sc_actor.specs.Definitions.{is_quiet}
 use Rattle.sc_actor.specs.declared.rows.Event.TheVariants.{Told}
-use Rattle.sc_live_orderly.specs.Definitions.{is_born, AreInTime}
+use Rattle.sc_live_orderly.specs.OrderlyDefinitions.{is_born, AreInTime}
 use Rattle.sc_scenario.specs.declared.scenario.scenarios.Scenario.{Scenario}
-use Rattle.sc_node_table.specs.Definitions.{NodeState, replica_of, ReplicaState, mailed}
-use Rattle.sc_meaning.specs.sound.Definitions.{groups_at, Player, births, as_nodes}
-use Rattle.sc_live_steps.specs.calm.Definitions.{players, HasReplica, Rows}
-use Rattle.sc_live_journals.specs.rows.Definitions.{view_at, marks_at, IsSeat, with_event}
-use Rattle.sc_live_journals.specs.scenes.Definitions.{IsThere, IsNowhere, IsTaking}
+use Rattle.sc_node_table.specs.NodeDefinitions.{NodeState, replica_of, ReplicaState, mailed}
+use Rattle.sc_meaning.specs.sound.SoundDefinitions.{groups_at, Player, births, as_nodes}
+use Rattle.sc_live_steps.specs.calm.CalmDefinitions.{players, HasReplica, Rows}
+use Rattle.sc_live_journals.specs.rows.RowDefinitions.{view_at, marks_at, IsSeat, with_event}
+use Rattle.sc_live_journals.specs.scenes.SceneDefinitions.{IsThere, IsNowhere, IsTaking}
 use Rattle.sc_live_answers.specs.MailWithoutReplica.{IsYoung}
 use Rattle.sc_live_answers.specs.OrderTasks.{Task}
 use Rattle.sc_live_answers.specs.WaitingWork.{AreAtWork, IsTaskOf, IsGuidedRow}

@@ -2,13 +2,13 @@
 use Rattle.std.specs.Prelude.{◌≡◌, ℕ, Bool, true, false, List, [], ◌∷◌, Some, ◌⊎◌}
 use Rattle.sc_node_table.specs.Values.{Seat, Draw, Command, Noop, Call, Join, Leave, Split, Begin, Prepared, RecordVote, GiveUp, Finish, Watched, RecordWatch, Flight}
 use Rattle.sc_base.specs.Definitions.{Among, Each}
-use Rattle.sc_live_steps.specs.orders.Definitions.{IsBegun, work_by, works, Turn, First, Lone, Next, Work, Opens, Answers, Records, Party, Stage, Still, Ordered, Asks, SentOn, Weighs, Replied, Recorded, Closes, ClosesBoth}
-use Rattle.sc_group_table.specs.machine.Definitions.{state_after, applied}
-use Rattle.sc_node_table.specs.Definitions.{ReplicaState}
-use Rattle.sc_meaning.specs.sound.Definitions.{Player}
-use Rattle.sc_live_steps.specs.calm.Definitions.{Rows}
-use Rattle.sc_live_journals.specs.rows.Definitions.{view_at}
-use Rattle.sc_live_journals.specs.scenes.Definitions.{IsThere}
+use Rattle.sc_live_steps.specs.orders.OrderDefinitions.{IsBegun, work_by, works, Turn, First, Lone, Next, Work, Opens, Answers, Records, Party, Stage, Still, Ordered, Asks, SentOn, Weighs, Replied, Recorded, Closes, ClosesBoth}
+use Rattle.sc_group_table.specs.machine.MachineDefinitions.{state_after, applied}
+use Rattle.sc_node_table.specs.NodeDefinitions.{ReplicaState}
+use Rattle.sc_meaning.specs.sound.SoundDefinitions.{Player}
+use Rattle.sc_live_steps.specs.calm.CalmDefinitions.{Rows}
+use Rattle.sc_live_journals.specs.rows.RowDefinitions.{view_at}
+use Rattle.sc_live_journals.specs.scenes.SceneDefinitions.{IsThere}
 
 -- an entry that a leader executed of an order: it began a transaction, it recorded its participant's Yes, it promised as a participant, or it voted
 pub data Deed : Type 0 where

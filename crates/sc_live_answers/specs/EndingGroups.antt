@@ -4,16 +4,16 @@ use Rattle.sc_base.specs.Definitions.{Among, Each}
 use Rattle.sc_node_table.specs.Values.{Draw, Seat, Deliver, Offer, Finish, Prepared, Base, Route, OrderLine, Merged}
 use Rattle.sc_actor.specs.Definitions.{is_quiet}
 use Rattle.sc_actor.specs.declared.rows.Event.TheVariants.{Told}
-use Rattle.sc_node_table.specs.Definitions.{ReplicaState, listed}
+use Rattle.sc_node_table.specs.NodeDefinitions.{ReplicaState, listed}
 use Rattle.sc_scenario.specs.declared.scenario.scenarios.Scenario.{Scenario}
-use Rattle.sc_meaning.specs.sound.Definitions.{groups_at, Player, as_nodes, births}
-use Rattle.sc_live_journals.specs.charts.Definitions.{all_replicas, names_at, GoInTurn}
-use Rattle.sc_live_steps.specs.calm.Definitions.{players, Rows}
-use Rattle.sc_live_steps.specs.orders.Definitions.{Stage, Still, Ordered, Asks, SentOn, Weighs, Replied, Recorded, Closes, ClosesBoth, IsAt}
-use Rattle.sc_live_journals.specs.rows.Definitions.{view_at, with_event}
-use Rattle.sc_live_journals.specs.logs.Definitions.{logged_sets}
-use Rattle.sc_live_journals.specs.scenes.Definitions.{IsNowhere, IsGivenInQuiet, GoesBy, scene_at}
-use Rattle.sc_live_plain.specs.Definitions.{replicas_after}
+use Rattle.sc_meaning.specs.sound.SoundDefinitions.{groups_at, Player, as_nodes, births}
+use Rattle.sc_live_journals.specs.charts.ChartDefinitions.{all_replicas, names_at, GoInTurn}
+use Rattle.sc_live_steps.specs.calm.CalmDefinitions.{players, Rows}
+use Rattle.sc_live_steps.specs.orders.OrderDefinitions.{Stage, Still, Ordered, Asks, SentOn, Weighs, Replied, Recorded, Closes, ClosesBoth, IsAt}
+use Rattle.sc_live_journals.specs.rows.RowDefinitions.{view_at, with_event}
+use Rattle.sc_live_journals.specs.logs.LogDefinitions.{logged_sets}
+use Rattle.sc_live_journals.specs.scenes.SceneDefinitions.{IsNowhere, IsGivenInQuiet, GoesBy, scene_at}
+use Rattle.sc_live_plain.specs.PlainDefinitions.{replicas_after}
 use Rattle.sc_live_answers.specs.GuidedGroups.{IsReachedSo}
 use Rattle.sc_live_answers.specs.CalmJournals.{AreSent, IsCalmJournal, IsPrefixOf}
 use Rattle.sc_live_answers.specs.OrderUnderWay.{IsYoungAt}

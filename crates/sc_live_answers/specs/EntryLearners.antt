@@ -1,14 +1,14 @@
 -- Members of groups learn all entries in journals whose rows come in time.
 use Rattle.std.specs.Prelude.{◌≡◌, ℕ, [], ◌++◌}
 use Rattle.sc_node_table.specs.Values.{Base}
-use Rattle.sc_live_orderly.specs.Definitions.{AreInTime}
+use Rattle.sc_live_orderly.specs.OrderlyDefinitions.{AreInTime}
 use Rattle.sc_scenario.specs.declared.scenario.scenarios.Scenario.{Scenario}
-use Rattle.sc_meaning.specs.sound.Definitions.{births, as_nodes}
-use Rattle.sc_live_steps.specs.calm.Definitions.{players}
-use Rattle.sc_law_entries.specs.logs.Definitions.{Rows}
-use Rattle.sc_live_steps.specs.following.Definitions.{SlotLeaders}
-use Rattle.sc_live_journals.specs.logs.Definitions.{logged_sets, IsGroupOf}
-use Rattle.sc_live_journals.specs.groups.Definitions.{IsTaughtOn, IsSentSo, HasOneLog}
+use Rattle.sc_meaning.specs.sound.SoundDefinitions.{births, as_nodes}
+use Rattle.sc_live_steps.specs.calm.CalmDefinitions.{players}
+use Rattle.sc_law_entries.specs.logs.LogDefinitions.{Rows}
+use Rattle.sc_live_steps.specs.following.FollowingDefinitions.{SlotLeaders}
+use Rattle.sc_live_journals.specs.logs.LogDefinitions.{logged_sets, IsGroupOf}
+use Rattle.sc_live_journals.specs.groups.GroupDefinitions.{IsTaughtOn, IsSentSo, HasOneLog}
 use Rattle.sc_live_answers.specs.LedGroups.{over_at}
 use Rattle.sc_live_answers.specs.SlotLeaders.{slot_leaders_at, AreFew}
 

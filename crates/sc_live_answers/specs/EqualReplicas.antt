@@ -1,13 +1,13 @@
 -- Replicas of one group which have executed as many entries are in the same state.
 use Rattle.std.specs.Prelude.{◌≡◌, ℕ, ◌≤◌, true, List, [], ◌∷◌, ◌++◌, Some}
 use Rattle.sc_node_table.specs.Values.{Draw, Base, OrderLine, Mail, Row}
-use Rattle.sc_node_table.specs.Definitions.{ReplicaState}
+use Rattle.sc_node_table.specs.NodeDefinitions.{ReplicaState}
 use Rattle.sc_scenario.specs.declared.scenario.scenarios.Scenario.{Scenario}
 use Rattle.sc_scenario.specs.scenario.Definitions.{IsValid}
-use Rattle.sc_meaning.specs.sound.Definitions.{Lawful, system_of, as_nodes}
-use Rattle.sc_live_orderly.specs.Definitions.{rest, is_born}
-use Rattle.sc_live_steps.specs.calm.Definitions.{MayPump, Ways, View as Replicas, HasReplica}
-use Rattle.sc_live_plain.specs.Definitions.{AreRequests, AreSeated, replicas_after, setting_at, AreFramesOf, DoHintsRise, IsQuietJournal, IsLinkedSetting, Frame}
+use Rattle.sc_meaning.specs.sound.SoundDefinitions.{Lawful, system_of, as_nodes}
+use Rattle.sc_live_orderly.specs.OrderlyDefinitions.{rest, is_born}
+use Rattle.sc_live_steps.specs.calm.CalmDefinitions.{MayPump, Ways, View as Replicas, HasReplica}
+use Rattle.sc_live_plain.specs.PlainDefinitions.{AreRequests, AreSeated, replicas_after, setting_at, AreFramesOf, DoHintsRise, IsQuietJournal, IsLinkedSetting, Frame}
 use Rattle.sc_live_answers.specs.QuietLines.{HaveOneLog}
 
 -- all replicas may pump (`MayPump`)

@@ -3,12 +3,12 @@ use Rattle.std.specs.Prelude.{◌≡◌, ℕ, ◌≤◌, List, [], ◌∷◌, �
 use Rattle.sc_base.specs.Definitions.{Each}
 use Rattle.sc_node_table.specs.Values.{Ballot, Draw, Base, OrderLine, Mail, Nack, Row}
 use Rattle.sc_actor.specs.Definitions.{mails}
-use Rattle.sc_live_orderly.specs.Definitions.{AreInTime}
+use Rattle.sc_live_orderly.specs.OrderlyDefinitions.{AreInTime}
 use Rattle.sc_scenario.specs.declared.scenario.scenarios.Scenario.{Scenario}
-use Rattle.sc_meaning.specs.sound.Definitions.{births, as_nodes}
-use Rattle.sc_live_steps.specs.calm.Definitions.{players, Rows}
-use Rattle.sc_live_steps.specs.orders.Definitions.{Stage, IsAt}
-use Rattle.sc_live_journals.specs.scenes.Definitions.{IsErrand, GoesToActor, scene_at}
+use Rattle.sc_meaning.specs.sound.SoundDefinitions.{births, as_nodes}
+use Rattle.sc_live_steps.specs.calm.CalmDefinitions.{players, Rows}
+use Rattle.sc_live_steps.specs.orders.OrderDefinitions.{Stage, IsAt}
+use Rattle.sc_live_journals.specs.scenes.SceneDefinitions.{IsErrand, GoesToActor, scene_at}
 use Rattle.sc_live_answers.specs.CalmJournals.{IsCalmJournal, IsPrefixOf}
 use Rattle.sc_live_answers.specs.RequestInvariant.{IsKnownPrefix, IsRequested}
 use Rattle.sc_live_answers.specs.RestingPrefixes.{RestsAt}

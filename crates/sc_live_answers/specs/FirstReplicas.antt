@@ -3,9 +3,9 @@ use Rattle.std.specs.Prelude.{◌≡◌, ℕ, true, List, ◌∷◌}
 use Rattle.sc_base.specs.Definitions.{Among, is_member, least_of}
 use Rattle.sc_node_table.specs.Values.{Base}
 use Rattle.sc_scenario.specs.declared.scenario.scenarios.Scenario.{Scenario}
-use Rattle.sc_meaning.specs.sound.Definitions.{route_of}
-use Rattle.sc_live_steps.specs.calm.Definitions.{HasReplica, Rows}
-use Rattle.sc_live_plain.specs.Definitions.{replicas_after}
+use Rattle.sc_meaning.specs.sound.SoundDefinitions.{route_of}
+use Rattle.sc_live_steps.specs.calm.CalmDefinitions.{HasReplica, Rows}
+use Rattle.sc_live_plain.specs.PlainDefinitions.{replicas_after}
 use Rattle.sc_live_answers.specs.CalmJournals.{IsCalmJournal, IsPrefixOf}
 
 -- in each prefix of a calm journal each first member of a group of the scenario has a replica of it, and so has the node that clients ask first

@@ -3,12 +3,12 @@ use Rattle.std.specs.Prelude.{List, None, Some, [], false, true, ℕ, ◌≡◌}
 use Rattle.sc_node_table.specs.Values.{Seat, Deliver, Base, OrderLine, OrderRefusal, Mail, MailBody, Accept, Accepted, Answer, Ask, Install, Learn, Nack, Prepare, Promise, Request, TxElsewhere, TxOutcome, TxPrepare, TxVote, TxWatch, TxWatched, Told as ToldMail}
 use Rattle.sc_actor.specs.declared.rows.Event.TheVariants.{Told}
 use Rattle.sc_live_answers.specs.GuidedGroups.{IsGuided}
-use Rattle.sc_live_steps.specs.calm.Definitions.{Rows}
-use Rattle.sc_live_journals.specs.mail.Definitions.{IsPosted}
-use Rattle.sc_live_steps.specs.orders.Definitions.{IsIdle}
-use Rattle.sc_live_journals.specs.scenes.Definitions.{IsOrdered, BesideFinds, IsBeside, IsTaking}
-use Rattle.sc_node_table.specs.Definitions.{NodeState, group_of_order, replica_of, ordered_row, untaken, ReplicaState, settled, mailed, noted_outcome, standing_vote}
-use Rattle.sc_meaning.specs.sound.Definitions.{Player}
+use Rattle.sc_live_steps.specs.calm.CalmDefinitions.{Rows}
+use Rattle.sc_live_journals.specs.mail.MailDefinitions.{IsPosted}
+use Rattle.sc_live_steps.specs.orders.OrderDefinitions.{IsIdle}
+use Rattle.sc_live_journals.specs.scenes.SceneDefinitions.{IsOrdered, BesideFinds, IsBeside, IsTaking}
+use Rattle.sc_node_table.specs.NodeDefinitions.{NodeState, group_of_order, replica_of, ordered_row, untaken, ReplicaState, settled, mailed, noted_outcome, standing_vote}
+use Rattle.sc_meaning.specs.sound.SoundDefinitions.{Player}
 
 -- a node takes a mail of a group of which it has a replica: the group is guided at this row, the replica is the node's own, and where it does not run it has nothing to do
 pub record IsHere (words : ℕ → ℕ → ℕ × ℕ) (births : List (Seat Player)) (rows : Rows) (seat : Seat Player) (number : ℕ) (mail : Mail) (base : Base) (node : NodeState) (r : ReplicaState) : Type 0 where

@@ -1,7 +1,7 @@
 -- Whom a node that has left a group takes for its leader: the node of the ballot that it promised last, which still leads or has promised a later round.
 use Rattle.std.specs.Prelude.{◌≡◌, ℕ, ◌<◌, true, false, List, Option, Some, ◌⊎◌}
 use Rattle.sc_node_table.specs.Values.{Ballot}
-use Rattle.sc_live_steps.specs.following.Definitions.{Mark, reached, pledged, Progress, Sets, IsOpen, SlotLeaders, hinted}
+use Rattle.sc_live_steps.specs.following.FollowingDefinitions.{Mark, reached, pledged, Progress, Sets, IsOpen, SlotLeaders, hinted}
 
 -- the ballot is that of the node that leads or led last, or its own node has promised a later round, once that node has taken its mail
 abbrev pub IsPassed : Progress → (ℕ → List Mark) → Ballot → Type 0

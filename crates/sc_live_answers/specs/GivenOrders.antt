@@ -2,11 +2,11 @@
 use Rattle.std.specs.Prelude.{ℕ, ◌^◌, ◌&&◌, nat_le, nat_lt, Bool, true, List}
 use Rattle.sc_node_table.specs.Values.{Order, Merge, Repart, Migrate, OrderLine, Mail, Row}
 use Rattle.sc_words.specs.declared.commands.orders.Order.TheVariants.{Join, Leave, Split}
-use Rattle.sc_live_orderly.specs.Definitions.{GiveAllowedOrders}
+use Rattle.sc_live_orderly.specs.OrderlyDefinitions.{GiveAllowedOrders}
 use Rattle.sc_scenario.specs.declared.scenario.scenarios.Scenario.{Scenario}
 use Rattle.sc_scenario.specs.scenario.Definitions.{IsValid}
-use Rattle.sc_meaning.specs.sound.Definitions.{as_nodes, Lawful}
-use Rattle.sc_live_plain.specs.Definitions.{IsCalm}
+use Rattle.sc_meaning.specs.sound.SoundDefinitions.{as_nodes, Lawful}
+use Rattle.sc_live_plain.specs.PlainDefinitions.{IsCalm}
 
 -- whether an order names nodes of a scenario with this number of nodes, and positions of the circle
 abbrev pub names_nodes : ℕ → Order → Bool

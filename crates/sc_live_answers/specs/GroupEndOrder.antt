@@ -3,11 +3,11 @@ use Rattle.std.specs.Prelude.{◌≡◌, ℕ, List, ◌++◌, None, Some}
 use Rattle.sc_base.specs.Definitions.{Among}
 use Rattle.sc_node_table.specs.Values.{Draw, Route}
 use Rattle.sc_scenario.specs.declared.scenario.scenarios.Scenario.{Scenario}
-use Rattle.sc_node_table.specs.Definitions.{ReplicaState}
-use Rattle.sc_meaning.specs.sound.Definitions.{births, as_nodes}
-use Rattle.sc_live_steps.specs.calm.Definitions.{Rows}
-use Rattle.sc_live_plain.specs.Definitions.{replicas_after}
-use Rattle.sc_live_journals.specs.charts.Definitions.{all_replicas, names_at, went_in, GoInTurn}
+use Rattle.sc_node_table.specs.NodeDefinitions.{ReplicaState}
+use Rattle.sc_meaning.specs.sound.SoundDefinitions.{births, as_nodes}
+use Rattle.sc_live_steps.specs.calm.CalmDefinitions.{Rows}
+use Rattle.sc_live_plain.specs.PlainDefinitions.{replicas_after}
+use Rattle.sc_live_journals.specs.charts.ChartDefinitions.{all_replicas, names_at, went_in, GoInTurn}
 use Rattle.sc_live_answers.specs.QuietPrefixes.{IsQuietPrefix}
 use Rattle.sc_live_answers.specs.Links.{AreAllFree}
 

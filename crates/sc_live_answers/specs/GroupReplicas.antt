@@ -2,16 +2,16 @@
 use Rattle.std.specs.Prelude.{◌≡◌, ℕ, ◌<◌, ◌⊎◌, ◌++◌, true}
 use Rattle.sc_base.specs.Definitions.{Among, is_member}
 use Rattle.sc_node_table.specs.Values.{Base}
-use Rattle.sc_live_orderly.specs.Definitions.{AreInTime}
+use Rattle.sc_live_orderly.specs.OrderlyDefinitions.{AreInTime}
 use Rattle.sc_scenario.specs.declared.scenario.scenarios.Scenario.{Scenario}
-use Rattle.sc_meaning.specs.sound.Definitions.{groups_at, decided_log, births, as_nodes}
-use Rattle.sc_live_steps.specs.calm.Definitions.{players, HasReplica, Rows}
-use Rattle.sc_live_steps.specs.following.Definitions.{Teaches, Course, SlotLeaders}
-use Rattle.sc_live_journals.specs.rows.Definitions.{view_at, marks_at}
-use Rattle.sc_live_journals.specs.groups.Definitions.{IsWellLed, HasOneLog, IsSentSo}
-use Rattle.sc_live_journals.specs.logs.Definitions.{logged_sets, IsGroupOf}
+use Rattle.sc_meaning.specs.sound.SoundDefinitions.{groups_at, decided_log, births, as_nodes}
+use Rattle.sc_live_steps.specs.calm.CalmDefinitions.{players, HasReplica, Rows}
+use Rattle.sc_live_steps.specs.following.FollowingDefinitions.{Teaches, Course, SlotLeaders}
+use Rattle.sc_live_journals.specs.rows.RowDefinitions.{view_at, marks_at}
+use Rattle.sc_live_journals.specs.groups.GroupDefinitions.{IsWellLed, HasOneLog, IsSentSo}
+use Rattle.sc_live_journals.specs.logs.LogDefinitions.{logged_sets, IsGroupOf}
 use Rattle.sc_live_answers.specs.LedGroups.{over_at}
-use Rattle.sc_live_journals.specs.scenes.Definitions.{IsThere}
+use Rattle.sc_live_journals.specs.scenes.SceneDefinitions.{IsThere}
 use Rattle.sc_live_answers.specs.LogChildren.{IsBirth}
 use Rattle.sc_live_answers.specs.QuietPrefixes.{IsQuietPrefix}
 use Rattle.sc_live_answers.specs.QuietPrefixGroups.{AreAllThere}

@@ -1,9 +1,9 @@
 -- The groups that stand, each with its range of the decided ring, stand round the ring from any one of them on.
 use Rattle.std.specs.Prelude.{◌≡◌, ◌∷◌, List}
 use Rattle.sc_base.specs.Definitions.{Among}
-use Rattle.sc_meaning.specs.entries.Definitions.{IsPlaced, Covers, StoreWorld}
+use Rattle.sc_meaning.specs.entries.EntryDefinitions.{IsPlaced, Covers, StoreWorld}
 use Rattle.sc_meaning.specs.declared.entries.Cut.{Cut}
-use Rattle.sc_live_plain.specs.Definitions.{IsRingOf, Setting, Frame, AreNamedApart}
+use Rattle.sc_live_plain.specs.PlainDefinitions.{IsRingOf, Setting, Frame, AreNamedApart}
 
 -- the frame is that of a range of the ring: it names the range's group, and has the record that the map has of that group
 pub record IsOfCut (world : StoreWorld) (frame : Frame) (cut : Cut) : Type 0 where

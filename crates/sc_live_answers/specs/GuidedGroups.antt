@@ -2,16 +2,16 @@
 use Rattle.std.specs.Prelude.{List, Some, [], false, true, ℕ, ◌≡◌, ◌≤◌, ◌⊎◌}
 use Rattle.sc_actor.specs.Definitions.{is_quiet}
 use Rattle.sc_node_table.specs.Values.{Seat, Event, Draw, Base, OrderLine}
-use Rattle.sc_live_journals.specs.groups.Definitions.{AreKeptBorn, IsLedStep, Ends, IsWellLed, HasOneLog, IsSentSo}
-use Rattle.sc_live_steps.specs.calm.Definitions.{players, Rows}
-use Rattle.sc_live_steps.specs.orders.Definitions.{bond_of, works_in, Bond, IsUnbound}
-use Rattle.sc_live_journals.specs.rows.Definitions.{marks_at, view_at, with_event}
-use Rattle.sc_live_journals.specs.scenes.Definitions.{IsThere, HasNothing, LeadsAlone, NewestAreBound, NoneRuns}
-use Rattle.sc_live_steps.specs.following.Definitions.{Course, Sets, SlotLeaders}
+use Rattle.sc_live_journals.specs.groups.GroupDefinitions.{AreKeptBorn, IsLedStep, Ends, IsWellLed, HasOneLog, IsSentSo}
+use Rattle.sc_live_steps.specs.calm.CalmDefinitions.{players, Rows}
+use Rattle.sc_live_steps.specs.orders.OrderDefinitions.{bond_of, works_in, Bond, IsUnbound}
+use Rattle.sc_live_journals.specs.rows.RowDefinitions.{marks_at, view_at, with_event}
+use Rattle.sc_live_journals.specs.scenes.SceneDefinitions.{IsThere, HasNothing, LeadsAlone, NewestAreBound, NoneRuns}
+use Rattle.sc_live_steps.specs.following.FollowingDefinitions.{Course, Sets, SlotLeaders}
 use Rattle.sc_base.specs.Definitions.{IsRoster}
-use Rattle.sc_node_table.specs.Definitions.{ReplicaState, last_slot, next}
-use Rattle.sc_live_orderly.specs.Definitions.{is_born, AreInTime}
-use Rattle.sc_meaning.specs.sound.Definitions.{Player}
+use Rattle.sc_node_table.specs.NodeDefinitions.{ReplicaState, last_slot, next}
+use Rattle.sc_live_orderly.specs.OrderlyDefinitions.{is_born, AreInTime}
+use Rattle.sc_meaning.specs.sound.SoundDefinitions.{Player}
 
 -- after some rows each replica of a group is bound by what `bonds` says of its next slot
 abbrev pub AreBoundBy : (ℕ → Bond) → List (Seat Player) → Rows → Draw → Type 0

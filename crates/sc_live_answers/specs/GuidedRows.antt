@@ -2,17 +2,17 @@
 use Rattle.std.specs.Prelude.{ℕ, ◌++◌, ◌≡◌}
 use Rattle.sc_node_table.specs.Values.{Seat, Event, Base, OrderLine}
 use Rattle.sc_live_answers.specs.GuidedGroups.{AreBoundBy, IsGuided, IsReachedSo}
-use Rattle.sc_live_journals.specs.groups.Definitions.{IsWellLed, IsSentSo}
-use Rattle.sc_live_steps.specs.calm.Definitions.{players, Rows}
+use Rattle.sc_live_journals.specs.groups.GroupDefinitions.{IsWellLed, IsSentSo}
+use Rattle.sc_live_steps.specs.calm.CalmDefinitions.{players, Rows}
 use Rattle.sc_live_answers.specs.LedGroups.{over_at}
 use Rattle.sc_live_answers.specs.SlotLeaders.{AreFew, slot_leaders_at}
-use Rattle.sc_live_journals.specs.logs.Definitions.{IsGroupOf, logged_sets}
-use Rattle.sc_live_steps.specs.orders.Definitions.{Bond}
-use Rattle.sc_live_journals.specs.rows.Definitions.{IsSeat, with_event}
-use Rattle.sc_live_steps.specs.following.Definitions.{Course}
-use Rattle.sc_live_orderly.specs.Definitions.{IsCalmEvent, AreInTime}
+use Rattle.sc_live_journals.specs.logs.LogDefinitions.{IsGroupOf, logged_sets}
+use Rattle.sc_live_steps.specs.orders.OrderDefinitions.{Bond}
+use Rattle.sc_live_journals.specs.rows.RowDefinitions.{IsSeat, with_event}
+use Rattle.sc_live_steps.specs.following.FollowingDefinitions.{Course}
+use Rattle.sc_live_orderly.specs.OrderlyDefinitions.{IsCalmEvent, AreInTime}
 use Rattle.sc_scenario.specs.declared.scenario.scenarios.Scenario.{Scenario}
-use Rattle.sc_meaning.specs.sound.Definitions.{Player, as_nodes, births}
+use Rattle.sc_meaning.specs.sound.SoundDefinitions.{Player, as_nodes, births}
 
 -- a group of a journal whose rows come in time is guided at a row, where its mail up to the row is as `IsSentSo` says, no replica of it uses up its slots or rounds, it is well led before the row, some replica of it has its newest state, and what its replicas are bound by depends only on how much they have executed
 abbrev pub RowsAreGuided : Type 0

@@ -1,13 +1,13 @@
 -- Hints rise after some rows of a calm journal: what each row keeps of a group in its course.
 use Rattle.std.specs.Prelude.{◌≡◌, ℕ, List, Some}
 use Rattle.sc_node_table.specs.Values.{Base, Seat}
-use Rattle.sc_words.specs.paxos.Definitions.{IsAtLeast}
-use Rattle.sc_node_table.specs.Definitions.{ReplicaState}
-use Rattle.sc_meaning.specs.sound.Definitions.{Player}
-use Rattle.sc_live_steps.specs.calm.Definitions.{players, Rows}
-use Rattle.sc_live_steps.specs.following.Definitions.{pledged, Course, Sets, SlotLeaders}
-use Rattle.sc_live_journals.specs.rows.Definitions.{view_at, marks_at, progress_at}
-use Rattle.sc_live_journals.specs.groups.Definitions.{hints_at}
+use Rattle.sc_words.specs.paxos.PaxosDefinitions.{IsAtLeast}
+use Rattle.sc_node_table.specs.NodeDefinitions.{ReplicaState}
+use Rattle.sc_meaning.specs.sound.SoundDefinitions.{Player}
+use Rattle.sc_live_steps.specs.calm.CalmDefinitions.{players, Rows}
+use Rattle.sc_live_steps.specs.following.FollowingDefinitions.{pledged, Course, Sets, SlotLeaders}
+use Rattle.sc_live_journals.specs.rows.RowDefinitions.{view_at, marks_at, progress_at}
+use Rattle.sc_live_journals.specs.groups.GroupDefinitions.{hints_at}
 use Rattle.sc_live_answers.specs.FormerMembers.{AreFated}
 use Rattle.sc_live_answers.specs.SeenBallots.{AreSeen}
 

@@ -1,15 +1,15 @@
 -- Hints rise in quiet prefixes of a calm journal: what each row keeps of each group, and what follows in quiet.
 use Rattle.std.specs.Prelude.{◌≡◌, ℕ, false, [], Some, None}
 use Rattle.sc_node_table.specs.Values.{Base, OrderLine, Seat, Event}
-use Rattle.sc_live_orderly.specs.Definitions.{AreInTime}
+use Rattle.sc_live_orderly.specs.OrderlyDefinitions.{AreInTime}
 use Rattle.sc_scenario.specs.declared.scenario.scenarios.Scenario.{Scenario}
-use Rattle.sc_node_table.specs.Definitions.{ReplicaState}
-use Rattle.sc_meaning.specs.sound.Definitions.{Player, births, as_nodes}
-use Rattle.sc_live_steps.specs.calm.Definitions.{players, RisesAt, Rows}
-use Rattle.sc_live_steps.specs.following.Definitions.{Sets, SlotLeaders}
-use Rattle.sc_live_journals.specs.rows.Definitions.{view_at, marks_at, IsSeat, with_event}
-use Rattle.sc_live_journals.specs.groups.Definitions.{Ends}
-use Rattle.sc_live_journals.specs.logs.Definitions.{logged_sets, IsGroupOf}
+use Rattle.sc_node_table.specs.NodeDefinitions.{ReplicaState}
+use Rattle.sc_meaning.specs.sound.SoundDefinitions.{Player, births, as_nodes}
+use Rattle.sc_live_steps.specs.calm.CalmDefinitions.{players, RisesAt, Rows}
+use Rattle.sc_live_steps.specs.following.FollowingDefinitions.{Sets, SlotLeaders}
+use Rattle.sc_live_journals.specs.rows.RowDefinitions.{view_at, marks_at, IsSeat, with_event}
+use Rattle.sc_live_journals.specs.groups.GroupDefinitions.{Ends}
+use Rattle.sc_live_journals.specs.logs.LogDefinitions.{logged_sets, IsGroupOf}
 use Rattle.sc_live_answers.specs.LedGroups.{over_at}
 use Rattle.sc_live_answers.specs.SlotLeaders.{slot_leaders_at}
 use Rattle.sc_live_answers.specs.GroupMail.{IsSentThrough, IsSentStep}

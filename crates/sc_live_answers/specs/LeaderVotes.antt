@@ -3,14 +3,14 @@ use Rattle.std.specs.Prelude.{List, None, Some, [], false, true, ℕ, ◌∷◌,
 use Rattle.sc_node_table.specs.Values.{Seat, Ballot, Draw, Command, Begin, Call, Finish, GiveUp, Join, Leave, Noop, Prepared, RecordVote, RecordWatch, Split, Watched, Base, Outcome, Mail, Accepted}
 use Rattle.sc_base.specs.Definitions.{Each}
 use Rattle.sc_live_answers.specs.FollowerMail.{IsHere}
-use Rattle.sc_live_journals.specs.groups.Definitions.{IsSlotKept}
-use Rattle.sc_live_steps.specs.calm.Definitions.{Rows}
-use Rattle.sc_live_steps.specs.orders.Definitions.{IsBegun, bond_of, Answers, Asking, Bond, Bound, Changes, Ends, First, GivesUp, Lone, Next, Opens, Records, Scene, Turn, Unbound, Work, is_watch, IsUnderWay, IsVote}
-use Rattle.sc_live_journals.specs.scenes.Definitions.{StaysIn, FindsFlight, IsWork, scene_at}
-use Rattle.sc_words.specs.commands.Definitions.{is_alone, decided_in, is_changed}
-use Rattle.sc_group_table.specs.machine.Definitions.{Group, applied, has_voted, watch_vote_of}
-use Rattle.sc_node_table.specs.Definitions.{NodeState, ReplicaState, before_of}
-use Rattle.sc_meaning.specs.sound.Definitions.{Player}
+use Rattle.sc_live_journals.specs.groups.GroupDefinitions.{IsSlotKept}
+use Rattle.sc_live_steps.specs.calm.CalmDefinitions.{Rows}
+use Rattle.sc_live_steps.specs.orders.OrderDefinitions.{IsBegun, bond_of, Answers, Asking, Bond, Bound, Changes, Ends, First, GivesUp, Lone, Next, Opens, Records, Scene, Turn, Unbound, Work, is_watch, IsUnderWay, IsVote}
+use Rattle.sc_live_journals.specs.scenes.SceneDefinitions.{StaysIn, FindsFlight, IsWork, scene_at}
+use Rattle.sc_words.specs.commands.CommandDefinitions.{is_alone, decided_in, is_changed}
+use Rattle.sc_group_table.specs.machine.MachineDefinitions.{Group, applied, has_voted, watch_vote_of}
+use Rattle.sc_node_table.specs.NodeDefinitions.{NodeState, ReplicaState, before_of}
+use Rattle.sc_meaning.specs.sound.SoundDefinitions.{Player}
 use Rattle.sc_words.specs.declared.commands.votes.Vote.TheVariants as Says
 
 -- only work of an order is in flight or ready at a replica: no request of a client and no filler

@@ -3,15 +3,15 @@ use Rattle.std.specs.Prelude.{◌≡◌, ℕ, ◌+◌, ◌-◌, ◌≤◌, true,
 use Rattle.sc_node_table.specs.Values.{Ballot, Draw, Command, Base, OrderLine, Mail, Accepted, Learn, Install, Node, Seat, Event}
 use Rattle.sc_base.specs.Definitions.{is_member}
 use Rattle.sc_actor.specs.Definitions.{mails, numbered, value}
-use Rattle.sc_group_table.specs.machine.Definitions.{group_of, state_after}
+use Rattle.sc_group_table.specs.machine.MachineDefinitions.{group_of, state_after}
 use Rattle.sc_scenario.specs.declared.scenario.scenarios.Scenario.{Scenario}
-use Rattle.sc_node_table.specs.Definitions.{entered, NodeState, replica_of, group_of_mail, ReplicaState, next, last_slot, mailed}
-use Rattle.sc_meaning.specs.sound.Definitions.{decided_log, Ahead, Player, births, player_table}
-use Rattle.sc_law_entries.specs.logs.Definitions.{Rows}
-use Rattle.sc_live_steps.specs.following.Definitions.{members_at, SlotLeaders}
-use Rattle.sc_live_journals.specs.rows.Definitions.{view_at, IsSeat, with_event, made_children, AreAsBegun}
-use Rattle.sc_live_journals.specs.logs.Definitions.{logged_sets, IsGroupOf, HasReplica}
-use Rattle.sc_live_journals.specs.groups.Definitions.{Ends, HasRounds, RestsBy, CountsAsMember, IsRowOf, Delivers, HasOneLog}
+use Rattle.sc_node_table.specs.NodeDefinitions.{entered, NodeState, replica_of, group_of_mail, ReplicaState, next, last_slot, mailed}
+use Rattle.sc_meaning.specs.sound.SoundDefinitions.{decided_log, Ahead, Player, births, player_table}
+use Rattle.sc_law_entries.specs.logs.LogDefinitions.{Rows}
+use Rattle.sc_live_steps.specs.following.FollowingDefinitions.{members_at, SlotLeaders}
+use Rattle.sc_live_journals.specs.rows.RowDefinitions.{view_at, IsSeat, with_event, made_children, AreAsBegun}
+use Rattle.sc_live_journals.specs.logs.LogDefinitions.{logged_sets, IsGroupOf, HasReplica}
+use Rattle.sc_live_journals.specs.groups.GroupDefinitions.{Ends, HasRounds, RestsBy, CountsAsMember, IsRowOf, Delivers, HasOneLog}
 
 -- whether the group is gone in the state in which a slot is the next one, by its decided log in a journal; beyond the end of the log, in the last state
 abbrev pub over_at : Ahead → Base → Rows → Ends

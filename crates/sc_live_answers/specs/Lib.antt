@@ -91,5 +91,5 @@ pub mod PlayerViews
 pub mod LeaderVotes
 pub mod WaitingWork
 pub mod YoungGroups
-pub mod Definitions
+pub mod AnswerDefinitions
 pub mod ReportedOrders

@@ -4,9 +4,9 @@ use Rattle.sc_node_table.specs.Values.{OrderLine, Mail, Row}
 use Rattle.sc_actor.specs.Definitions.{unsettled}
 use Rattle.sc_scenario.specs.declared.scenario.scenarios.Scenario.{Scenario}
 use Rattle.sc_scenario.specs.scenario.Definitions.{IsValid}
-use Rattle.sc_meaning.specs.sound.Definitions.{births, schedule, as_nodes, system_of, Lawful}
-use Rattle.sc_live_steps.specs.calm.Definitions.{Chart, players, KeepCalm, RestCalm, Rows}
-use Rattle.sc_live_plain.specs.Definitions.{orders_of, calm_budget_of, IsCalmAtBudget}
+use Rattle.sc_meaning.specs.sound.SoundDefinitions.{births, schedule, as_nodes, system_of, Lawful}
+use Rattle.sc_live_steps.specs.calm.CalmDefinitions.{Chart, players, KeepCalm, RestCalm, Rows}
+use Rattle.sc_live_plain.specs.PlainDefinitions.{orders_of, calm_budget_of, IsCalmAtBudget}
 use Rattle.sc_live_answers.specs.BudgetAtBirth.{IsFirstChart}
 
 -- an upper bound of the deliveries of a calm scenario at its budget with N orders: the budget, and 242 + 4 * (N + 1) for each order

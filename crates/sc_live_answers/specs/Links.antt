@@ -2,11 +2,11 @@
 use Rattle.std.specs.Prelude.{◌≡◌, ℕ, ◌≤◌, true, List, length, take, Some}
 use Rattle.sc_base.specs.Definitions.{Among, is_member}
 use Rattle.sc_node_table.specs.Values.{Draw, Base, Free, Route}
-use Rattle.sc_group_table.specs.machine.Definitions.{group_of, state_after}
+use Rattle.sc_group_table.specs.machine.MachineDefinitions.{group_of, state_after}
 use Rattle.sc_scenario.specs.scenario.Definitions.{IsValid}
 use Rattle.sc_scenario.specs.declared.scenario.scenarios.Scenario.{Scenario}
-use Rattle.sc_meaning.specs.sound.Definitions.{groups_at, decided_log, decided_state, as_nodes, Lawful}
-use Rattle.sc_law_entries.specs.logs.Definitions.{Rows}
+use Rattle.sc_meaning.specs.sound.SoundDefinitions.{groups_at, decided_log, decided_state, as_nodes, Lawful}
+use Rattle.sc_law_entries.specs.logs.LogDefinitions.{Rows}
 
 -- the node was a member of the group with this name, after some prefix of its decided log
 pub record WasMember (scenario : Scenario) (rows : Rows) (name : Draw) (node : ℕ) : Type 0 where

@@ -3,12 +3,12 @@ use Rattle.std.specs.Prelude.{◌≡◌, ℕ, ◌-◌, ◌<◌, ◌≤◌, true,
 use Rattle.sc_base.specs.Definitions.{Among, is_member}
 use Rattle.sc_node_table.specs.Values.{Ballot, Command, Base, Mail, Accepted, Learn, Seat}
 use Rattle.sc_actor.specs.Definitions.{mails, numbered}
-use Rattle.sc_group_table.specs.machine.Definitions.{child_by, group_of, state_after}
+use Rattle.sc_group_table.specs.machine.MachineDefinitions.{child_by, group_of, state_after}
 use Rattle.sc_scenario.specs.declared.scenario.scenarios.Scenario.{Scenario}
-use Rattle.sc_node_table.specs.Definitions.{NodeState, ReplicaState, next, last_slot, mailed}
-use Rattle.sc_meaning.specs.sound.Definitions.{decided_log, Ahead, Player}
-use Rattle.sc_law_entries.specs.logs.Definitions.{Rows}
-use Rattle.sc_live_journals.specs.logs.Definitions.{IsGroupOf, HasReplica}
+use Rattle.sc_node_table.specs.NodeDefinitions.{NodeState, ReplicaState, next, last_slot, mailed}
+use Rattle.sc_meaning.specs.sound.SoundDefinitions.{decided_log, Ahead, Player}
+use Rattle.sc_law_entries.specs.logs.LogDefinitions.{Rows}
+use Rattle.sc_live_journals.specs.logs.LogDefinitions.{IsGroupOf, HasReplica}
 
 -- the entry at this slot of a group's log makes this child, in the state after the entries before it
 pub record IsBirth (all : List Command) (base : Base) (slot : ℕ) (child : Base) : Type 0 where

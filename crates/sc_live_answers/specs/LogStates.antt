@@ -2,13 +2,13 @@
 use Rattle.std.specs.Prelude.{◌≡◌, ℕ, suc, ◌-◌, ◌≤◌, true, false, take}
 use Rattle.sc_node_table.specs.Values.{Base, Free, Seat}
 use Rattle.sc_base.specs.Definitions.{is_member}
-use Rattle.sc_group_table.specs.machine.Definitions.{Group, group_of, state_after}
+use Rattle.sc_group_table.specs.machine.MachineDefinitions.{Group, group_of, state_after}
 use Rattle.sc_scenario.specs.declared.scenario.scenarios.Scenario.{Scenario}
-use Rattle.sc_node_table.specs.Definitions.{NodeState, ReplicaState, next}
-use Rattle.sc_meaning.specs.sound.Definitions.{decided_log, Ahead, Player}
-use Rattle.sc_law_entries.specs.logs.Definitions.{Rows}
-use Rattle.sc_live_steps.specs.following.Definitions.{members_at}
-use Rattle.sc_live_journals.specs.logs.Definitions.{logged_sets, IsGroupOf, HasReplica}
+use Rattle.sc_node_table.specs.NodeDefinitions.{NodeState, ReplicaState, next}
+use Rattle.sc_meaning.specs.sound.SoundDefinitions.{decided_log, Ahead, Player}
+use Rattle.sc_law_entries.specs.logs.LogDefinitions.{Rows}
+use Rattle.sc_live_steps.specs.following.FollowingDefinitions.{members_at}
+use Rattle.sc_live_journals.specs.logs.LogDefinitions.{logged_sets, IsGroupOf, HasReplica}
 
 -- the state of a group after the entries before this slot, by its decided log in a journal
 abbrev pub state_at : Ahead → Base → Rows → ℕ → Group

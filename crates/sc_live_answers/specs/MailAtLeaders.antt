@@ -2,11 +2,11 @@
 use Rattle.std.specs.Prelude.{List, Option, true, ℕ, ◌≡◌}
 use Rattle.sc_node_table.specs.Values.{Seat, Ballot, Draw, Op, Base, Mail, Accepted, Request}
 use Rattle.sc_live_answers.specs.FollowerMail.{IsHere, IsUnsettled}
-use Rattle.sc_live_steps.specs.calm.Definitions.{Rows}
-use Rattle.sc_live_steps.specs.orders.Definitions.{Scene, Work, IsUnderWay}
-use Rattle.sc_live_journals.specs.scenes.Definitions.{FindsFlight, LeaderFinds, scene_at, LeadsAlone}
-use Rattle.sc_node_table.specs.Definitions.{NodeState, ReplicaState, listed}
-use Rattle.sc_meaning.specs.sound.Definitions.{Player}
+use Rattle.sc_live_steps.specs.calm.CalmDefinitions.{Rows}
+use Rattle.sc_live_steps.specs.orders.OrderDefinitions.{Scene, Work, IsUnderWay}
+use Rattle.sc_live_journals.specs.scenes.SceneDefinitions.{FindsFlight, LeaderFinds, scene_at, LeadsAlone}
+use Rattle.sc_node_table.specs.NodeDefinitions.{NodeState, ReplicaState, listed}
+use Rattle.sc_meaning.specs.sound.SoundDefinitions.{Player}
 
 -- while an order is under way each leader has one work of it, or none
 abbrev pub StagesLeaveOneWork : Type 0

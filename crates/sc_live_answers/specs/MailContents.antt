@@ -2,7 +2,7 @@
 use Rattle.std.specs.Prelude.{◌≡◌, List, []}
 use Rattle.sc_base.specs.Definitions.{Each}
 use Rattle.sc_node_table.specs.Values.{Ballot, Draw, Mail, MailBody, Request, Answer, Prepare, Promise, Accept, Accepted, Nack, Learn, Ask, Install, TxPrepare, TxVote, TxOutcome, TxElsewhere, TxWatch, TxWatched, Told}
-use Rattle.sc_words.specs.paxos.Definitions.{IsAtLeast}
+use Rattle.sc_words.specs.paxos.PaxosDefinitions.{IsAtLeast}
 
 -- a mail, if it is of the group with this name, asks for no entries, names no later ballot in a Nack, and reports nothing in a Promise
 abbrev pub SaysWell : Draw → Ballot → MailBody → Type 0

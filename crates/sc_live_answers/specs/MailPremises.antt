@@ -2,15 +2,15 @@
 use Rattle.std.specs.Prelude.{◌≡◌, ℕ, ◌+◌, false, List, ◌++◌, Some, None}
 use Rattle.sc_node_table.specs.Values.{Draw, Base, Mail, Install, Node, Seat, Deliver}
 use Rattle.sc_actor.specs.Definitions.{mails, numbered, value}
-use Rattle.sc_live_orderly.specs.Definitions.{AreInTime}
+use Rattle.sc_live_orderly.specs.OrderlyDefinitions.{AreInTime}
 use Rattle.sc_scenario.specs.declared.scenario.scenarios.Scenario.{Scenario}
-use Rattle.sc_node_table.specs.Definitions.{NodeState, replica_of, group_of_mail}
-use Rattle.sc_meaning.specs.sound.Definitions.{Player, births, as_nodes, player_table}
-use Rattle.sc_live_steps.specs.calm.Definitions.{players, Chart, IsCalmMailAt, Ways, Elsewhere, StandsOnce, Rows, led_elsewhere}
-use Rattle.sc_live_steps.specs.following.Definitions.{Course, SlotLeaders}
-use Rattle.sc_live_journals.specs.rows.Definitions.{IsSeat, with_event}
-use Rattle.sc_live_journals.specs.logs.Definitions.{logged_sets, IsGroupOf}
-use Rattle.sc_live_journals.specs.groups.Definitions.{Delivers, IsSentSo}
+use Rattle.sc_node_table.specs.NodeDefinitions.{NodeState, replica_of, group_of_mail}
+use Rattle.sc_meaning.specs.sound.SoundDefinitions.{Player, births, as_nodes, player_table}
+use Rattle.sc_live_steps.specs.calm.CalmDefinitions.{players, Chart, IsCalmMailAt, Ways, Elsewhere, StandsOnce, Rows, led_elsewhere}
+use Rattle.sc_live_steps.specs.following.FollowingDefinitions.{Course, SlotLeaders}
+use Rattle.sc_live_journals.specs.rows.RowDefinitions.{IsSeat, with_event}
+use Rattle.sc_live_journals.specs.logs.LogDefinitions.{logged_sets, IsGroupOf}
+use Rattle.sc_live_journals.specs.groups.GroupDefinitions.{Delivers, IsSentSo}
 use Rattle.sc_live_answers.specs.LedGroups.{over_at}
 use Rattle.sc_live_answers.specs.SlotLeaders.{AreFew}
 use Rattle.sc_live_answers.specs.DeliveredMail.{MeetsMail, NeedsAt}

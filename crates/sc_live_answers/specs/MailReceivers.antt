@@ -2,7 +2,7 @@
 use Rattle.std.specs.Prelude.{◌≡◌, ℕ, ◌≤◌, false, List, [], Option}
 use Rattle.sc_base.specs.Definitions.{Each, is_member}
 use Rattle.sc_node_table.specs.Values.{Ballot}
-use Rattle.sc_live_steps.specs.following.Definitions.{Mark, Asks, Votes, Teaches, Installs, Prepares, Promises, Progress, Sets, IsFollowing, IsRow, IsIdle, Takes, Leads, Elects}
+use Rattle.sc_live_steps.specs.following.FollowingDefinitions.{Mark, Asks, Votes, Teaches, Installs, Prepares, Promises, Progress, Sets, IsFollowing, IsRow, IsIdle, Takes, Leads, Elects}
 
 -- the node of the ballot has a replica
 abbrev pub IsHeld : Progress → Ballot → Type 0

@@ -2,15 +2,15 @@
 use Rattle.std.specs.Prelude.{List, None, Some, ℕ, ◌≡◌}
 use Rattle.sc_node_table.specs.Values.{Seat, Deliver, Draw, Base, Free, Mail, Install}
 use Rattle.sc_live_answers.specs.GuidedGroups.{IsNamedGuide}
-use Rattle.sc_live_journals.specs.groups.Definitions.{Ends, IsWellLed}
-use Rattle.sc_live_steps.specs.calm.Definitions.{Rows}
-use Rattle.sc_live_journals.specs.mail.Definitions.{IsPosted}
-use Rattle.sc_live_steps.specs.orders.Definitions.{bond_of, Unbound}
-use Rattle.sc_live_journals.specs.rows.Definitions.{view_at}
-use Rattle.sc_live_journals.specs.scenes.Definitions.{NodeFinds, IsThere, IsTaking, MayCreate}
-use Rattle.sc_live_steps.specs.following.Definitions.{Course, Sets, SlotLeaders}
-use Rattle.sc_node_table.specs.Definitions.{NodeState, ReplicaState}
-use Rattle.sc_meaning.specs.sound.Definitions.{Player}
+use Rattle.sc_live_journals.specs.groups.GroupDefinitions.{Ends, IsWellLed}
+use Rattle.sc_live_steps.specs.calm.CalmDefinitions.{Rows}
+use Rattle.sc_live_journals.specs.mail.MailDefinitions.{IsPosted}
+use Rattle.sc_live_steps.specs.orders.OrderDefinitions.{bond_of, Unbound}
+use Rattle.sc_live_journals.specs.rows.RowDefinitions.{view_at}
+use Rattle.sc_live_journals.specs.scenes.SceneDefinitions.{NodeFinds, IsThere, IsTaking, MayCreate}
+use Rattle.sc_live_steps.specs.following.FollowingDefinitions.{Course, Sets, SlotLeaders}
+use Rattle.sc_node_table.specs.NodeDefinitions.{NodeState, ReplicaState}
+use Rattle.sc_meaning.specs.sound.SoundDefinitions.{Player}
 
 -- a mail to a node without a replica of its group finds what an order needs, where a group of which a state comes is guided at the row and has a replica
 abbrev pub MissedAreFound : Type 0

@@ -3,9 +3,9 @@ use Rattle.std.specs.Prelude.{◌≡◌, ℕ, ◌≤◌, true}
 use Rattle.sc_node_table.specs.Values.{Base}
 use Rattle.sc_base.specs.Definitions.{is_member}
 use Rattle.sc_scenario.specs.declared.scenario.scenarios.Scenario.{Scenario}
-use Rattle.sc_meaning.specs.sound.Definitions.{Ahead}
-use Rattle.sc_law_entries.specs.logs.Definitions.{Rows}
-use Rattle.sc_live_journals.specs.logs.Definitions.{logged_sets, IsGroupOf}
+use Rattle.sc_meaning.specs.sound.SoundDefinitions.{Ahead}
+use Rattle.sc_law_entries.specs.logs.LogDefinitions.{Rows}
+use Rattle.sc_live_journals.specs.logs.LogDefinitions.{logged_sets, IsGroupOf}
 
 -- the first members of each group of a lawful journal of a valid scenario, and the members of each slot of its log, are nodes of the scenario
 pub record MembersAreHome : Type 0 where

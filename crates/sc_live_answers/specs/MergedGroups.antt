@@ -2,9 +2,9 @@
 use Rattle.std.specs.Prelude.{◌≡◌, ℕ, Some}
 use Rattle.sc_node_table.specs.Values.{Draw, Offer, Finish, Prepared, Base, Route, Merged}
 use Rattle.sc_scenario.specs.declared.scenario.scenarios.Scenario.{Scenario}
-use Rattle.sc_meaning.specs.sound.Definitions.{as_nodes}
-use Rattle.sc_live_steps.specs.calm.Definitions.{Rows}
-use Rattle.sc_live_journals.specs.logs.Definitions.{IsGroupOf}
+use Rattle.sc_meaning.specs.sound.SoundDefinitions.{as_nodes}
+use Rattle.sc_live_steps.specs.calm.CalmDefinitions.{Rows}
+use Rattle.sc_live_journals.specs.logs.LogDefinitions.{IsGroupOf}
 use Rattle.sc_live_answers.specs.AllowedCommands.{IsAllowedBy, sources_of}
 
 -- a group that promised a transaction whose outcome is a merge goes into the group for which the transaction's name was drawn, which is another group

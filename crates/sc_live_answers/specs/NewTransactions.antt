@@ -2,12 +2,12 @@
 use Rattle.std.specs.Prelude.{Option, Some, None}
 use Rattle.sc_base.specs.Definitions.{Each}
 use Rattle.sc_node_table.specs.Values.{Draw}
-use Rattle.sc_node_table.specs.Definitions.{listed}
-use Rattle.sc_law_entries.specs.names.Definitions.{IsUsed}
+use Rattle.sc_node_table.specs.NodeDefinitions.{listed}
+use Rattle.sc_law_entries.specs.names.NameDefinitions.{IsUsed}
 use Rattle.sc_scenario.specs.declared.scenario.scenarios.Scenario.{Scenario}
-use Rattle.sc_meaning.specs.sound.Definitions.{as_nodes}
-use Rattle.sc_live_steps.specs.calm.Definitions.{Rows}
-use Rattle.sc_live_steps.specs.orders.Definitions.{Work, Changes, Opens, Answers, Records, GivesUp, Ends, Stage, Still, Ordered, Asks, SentOn, Weighs, Replied, Recorded, Closes, ClosesBoth}
+use Rattle.sc_meaning.specs.sound.SoundDefinitions.{as_nodes}
+use Rattle.sc_live_steps.specs.calm.CalmDefinitions.{Rows}
+use Rattle.sc_live_steps.specs.orders.OrderDefinitions.{Work, Changes, Opens, Answers, Records, GivesUp, Ends, Stage, Still, Ordered, Asks, SentOn, Weighs, Replied, Recorded, Closes, ClosesBoth}
 
 -- the transaction that the command of an order begins, or None
 abbrev pub opened_by : Work → Option Draw

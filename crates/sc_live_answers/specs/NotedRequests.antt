@@ -3,13 +3,13 @@ use Rattle.std.specs.Prelude.{◌≡◌, ℕ, ◌≤◌, List, ◌∷◌, Some}
 use Rattle.sc_base.specs.Definitions.{Among}
 use Rattle.sc_node_table.specs.Values.{Draw, Base}
 use Rattle.sc_actor.specs.Definitions.{value}
-use Rattle.sc_live_orderly.specs.Definitions.{AreInTime}
+use Rattle.sc_live_orderly.specs.OrderlyDefinitions.{AreInTime}
 use Rattle.sc_scenario.specs.scenario.Definitions.{IsValid}
 use Rattle.sc_scenario.specs.declared.scenario.scenarios.Asks.{Asks}
 use Rattle.sc_scenario.specs.declared.scenario.scenarios.Scenario.{Scenario}
-use Rattle.sc_meaning.specs.sound.Definitions.{births, as_nodes, player_table, client_seat, route_of, issue_row}
-use Rattle.sc_live_steps.specs.calm.Definitions.{players, StandsQuiet, Rows}
-use Rattle.sc_live_plain.specs.Definitions.{replicas_after, frame_at_rest, IsBegun, begun_of, IsPlainGroup}
+use Rattle.sc_meaning.specs.sound.SoundDefinitions.{births, as_nodes, player_table, client_seat, route_of, issue_row}
+use Rattle.sc_live_steps.specs.calm.CalmDefinitions.{players, StandsQuiet, Rows}
+use Rattle.sc_live_plain.specs.PlainDefinitions.{replicas_after, frame_at_rest, IsBegun, begun_of, IsPlainGroup}
 use Rattle.sc_live_answers.specs.QuietPrefixes.{IsQuietPrefix}
 use Rattle.sc_live_answers.specs.Links.{AreAllFree}
 

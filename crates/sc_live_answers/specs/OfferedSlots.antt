@@ -3,11 +3,11 @@ use Rattle.std.specs.Prelude.{◌≡◌, ℕ, ◌<◌, List, []}
 use Rattle.sc_base.specs.Definitions.{Each}
 use Rattle.sc_node_table.specs.Values.{Draw, Base, Mail, MailBody, Request, Answer, Prepare, Promise, Accept, Accepted, Nack, Learn, Ask, Install, TxPrepare, TxVote, TxOutcome, TxElsewhere, TxWatch, TxWatched, Told, Seat}
 use Rattle.sc_actor.specs.Definitions.{mails}
-use Rattle.sc_live_orderly.specs.Definitions.{AreInTime}
-use Rattle.sc_meaning.specs.sound.Definitions.{Player}
-use Rattle.sc_live_steps.specs.calm.Definitions.{players, Rows}
-use Rattle.sc_live_steps.specs.following.Definitions.{Course, Sets, SlotLeaders}
-use Rattle.sc_live_journals.specs.groups.Definitions.{Ends, IsWellLed, AreTaughtAt, IsTaughtOn, AreWellBorn, HasOneLog, IsSentSo}
+use Rattle.sc_live_orderly.specs.OrderlyDefinitions.{AreInTime}
+use Rattle.sc_meaning.specs.sound.SoundDefinitions.{Player}
+use Rattle.sc_live_steps.specs.calm.CalmDefinitions.{players, Rows}
+use Rattle.sc_live_steps.specs.following.FollowingDefinitions.{Course, Sets, SlotLeaders}
+use Rattle.sc_live_journals.specs.groups.GroupDefinitions.{Ends, IsWellLed, AreTaughtAt, IsTaughtOn, AreWellBorn, HasOneLog, IsSentSo}
 
 -- the mail asks to accept only below this slot in the group with this name; all other mail is allowed
 abbrev pub AsksBelow : Draw → ℕ → MailBody → Type 0

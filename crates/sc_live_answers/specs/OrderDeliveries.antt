@@ -3,15 +3,15 @@ use Rattle.std.specs.Prelude.{◌≡◌, ℕ, ◌≤◌, true, [], Some, length}
 use Rattle.sc_base.specs.Definitions.{Among, Each}
 use Rattle.sc_node_table.specs.Values.{Draw, Base, Mail, Node, Client, Seat, Deliver}
 use Rattle.sc_actor.specs.Definitions.{mails, numbered, value}
-use Rattle.sc_client_table.specs.table.Definitions.{Client as ClientState}
-use Rattle.sc_group_table.specs.machine.Definitions.{applied}
-use Rattle.sc_node_table.specs.Definitions.{NodeState, replica_of, group_of_mail, ReplicaState}
+use Rattle.sc_client_table.specs.table.TableDefinitions.{Client as ClientState}
+use Rattle.sc_group_table.specs.machine.MachineDefinitions.{applied}
+use Rattle.sc_node_table.specs.NodeDefinitions.{NodeState, replica_of, group_of_mail, ReplicaState}
 use Rattle.sc_scenario.specs.declared.scenario.scenarios.Scenario.{Scenario}
-use Rattle.sc_meaning.specs.sound.Definitions.{groups_at, Player, player_table, births, as_nodes}
-use Rattle.sc_live_steps.specs.calm.Definitions.{players, FindsCalm, Rows}
-use Rattle.sc_live_journals.specs.rows.Definitions.{with_event}
-use Rattle.sc_live_journals.specs.charts.Definitions.{chart_at, quiet_prefix}
-use Rattle.sc_live_plain.specs.Definitions.{replicas_after, DoHintsRise}
+use Rattle.sc_meaning.specs.sound.SoundDefinitions.{groups_at, Player, player_table, births, as_nodes}
+use Rattle.sc_live_steps.specs.calm.CalmDefinitions.{players, FindsCalm, Rows}
+use Rattle.sc_live_journals.specs.rows.RowDefinitions.{with_event}
+use Rattle.sc_live_journals.specs.charts.ChartDefinitions.{chart_at, quiet_prefix}
+use Rattle.sc_live_plain.specs.PlainDefinitions.{replicas_after, DoHintsRise}
 use Rattle.sc_live_answers.specs.Settings.{AreAtNodes}
 use Rattle.sc_live_steps.specs.entries.StageEntries.{IsEntry}
 use Rattle.sc_live_answers.specs.DeliveredMail.{IsPlainAt, IsNoRequest}

@@ -3,11 +3,11 @@ use Rattle.std.specs.Prelude.{◌≡◌, ℕ, List, [], ◌∷◌}
 use Rattle.sc_base.specs.Definitions.{Each}
 use Rattle.sc_node_table.specs.Values.{Draw}
 use Rattle.sc_scenario.specs.declared.scenario.scenarios.Scenario.{Scenario}
-use Rattle.sc_meaning.specs.sound.Definitions.{as_nodes, births}
-use Rattle.sc_live_steps.specs.calm.Definitions.{StandsQuiet, Rows}
-use Rattle.sc_live_steps.specs.orders.Definitions.{Stage, Still, Ordered, Asks, SentOn, Weighs, Replied, Recorded, Closes, ClosesBoth}
-use Rattle.sc_live_journals.specs.rows.Definitions.{view_at}
-use Rattle.sc_live_plain.specs.Definitions.{replicas_after}
+use Rattle.sc_meaning.specs.sound.SoundDefinitions.{as_nodes, births}
+use Rattle.sc_live_steps.specs.calm.CalmDefinitions.{StandsQuiet, Rows}
+use Rattle.sc_live_steps.specs.orders.OrderDefinitions.{Stage, Still, Ordered, Asks, SentOn, Weighs, Replied, Recorded, Closes, ClosesBoth}
+use Rattle.sc_live_journals.specs.rows.RowDefinitions.{view_at}
+use Rattle.sc_live_plain.specs.PlainDefinitions.{replicas_after}
 use Rattle.sc_live_answers.specs.Deeds.{HasDone, doers_of}
 use Rattle.sc_live_answers.specs.NewTransactions.{IsOfNew}
 

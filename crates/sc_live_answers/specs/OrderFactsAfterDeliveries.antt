@@ -2,12 +2,12 @@
 use Rattle.std.specs.Prelude.{◌≡◌, ℕ, ◌⊎◌}
 use Rattle.sc_node_table.specs.Values.{Seat, Deliver, Base}
 use Rattle.sc_scenario.specs.declared.scenario.scenarios.Scenario.{Scenario}
-use Rattle.sc_meaning.specs.sound.Definitions.{Player, as_nodes, births}
-use Rattle.sc_live_steps.specs.calm.Definitions.{StandsQuiet, Rows}
-use Rattle.sc_live_steps.specs.orders.Definitions.{Asks, Deal, IsAt, Stage}
-use Rattle.sc_live_journals.specs.rows.Definitions.{with_event}
-use Rattle.sc_live_journals.specs.scenes.Definitions.{FindsOrder, AreUntouched, IsDelivered, IsThere, GoesBy, scene_at}
-use Rattle.sc_live_plain.specs.Definitions.{replicas_after}
+use Rattle.sc_meaning.specs.sound.SoundDefinitions.{Player, as_nodes, births}
+use Rattle.sc_live_steps.specs.calm.CalmDefinitions.{StandsQuiet, Rows}
+use Rattle.sc_live_steps.specs.orders.OrderDefinitions.{Asks, Deal, IsAt, Stage}
+use Rattle.sc_live_journals.specs.rows.RowDefinitions.{with_event}
+use Rattle.sc_live_journals.specs.scenes.SceneDefinitions.{FindsOrder, AreUntouched, IsDelivered, IsThere, GoesBy, scene_at}
+use Rattle.sc_live_plain.specs.PlainDefinitions.{replicas_after}
 use Rattle.sc_live_answers.specs.CalmJournals.{ContinuesBy, IsCalmJournal}
 use Rattle.sc_live_answers.specs.RestingPrefixes.{RestsAt}
 use Rattle.sc_live_answers.specs.OrderFacts.{AreSeen, IsTrueSince}

@@ -2,12 +2,12 @@
 use Rattle.sc_node_table.specs.Values.{Seat, Base, OrderLine}
 use Rattle.sc_actor.specs.declared.rows.Event.TheVariants.{Told}
 use Rattle.sc_scenario.specs.declared.scenario.scenarios.Scenario.{Scenario}
-use Rattle.sc_meaning.specs.sound.Definitions.{Player, as_nodes, births}
+use Rattle.sc_meaning.specs.sound.SoundDefinitions.{Player, as_nodes, births}
 use Rattle.std.specs.Prelude.{ℕ}
-use Rattle.sc_live_steps.specs.calm.Definitions.{Rows}
-use Rattle.sc_live_steps.specs.orders.Definitions.{IsAt, Stage}
-use Rattle.sc_live_journals.specs.rows.Definitions.{with_event}
-use Rattle.sc_live_journals.specs.scenes.Definitions.{IsGivenInQuiet, scene_at}
+use Rattle.sc_live_steps.specs.calm.CalmDefinitions.{Rows}
+use Rattle.sc_live_steps.specs.orders.OrderDefinitions.{IsAt, Stage}
+use Rattle.sc_live_journals.specs.rows.RowDefinitions.{with_event}
+use Rattle.sc_live_journals.specs.scenes.SceneDefinitions.{IsGivenInQuiet, scene_at}
 use Rattle.sc_live_answers.specs.CalmJournals.{IsCalmJournal}
 use Rattle.sc_live_answers.specs.RestingPrefixes.{RestsAt}
 use Rattle.sc_live_answers.specs.OrderFacts.{AreSeen, IsTrueSince}

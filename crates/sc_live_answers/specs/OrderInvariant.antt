@@ -4,18 +4,18 @@ use Rattle.sc_base.specs.Definitions.{Among, Each}
 use Rattle.sc_node_table.specs.Values.{Draw, Base, OrderLine, Mail, Client, Seat, Deliver}
 use Rattle.sc_actor.specs.declared.rows.Event.TheVariants.{Told}
 use Rattle.sc_actor.specs.Definitions.{mails, value, has_started}
-use Rattle.sc_client_table.specs.table.Definitions.{Client as ClientState}
-use Rattle.sc_live_orderly.specs.Definitions.{is_born, orders, rest, AreInTime}
+use Rattle.sc_client_table.specs.table.TableDefinitions.{Client as ClientState}
+use Rattle.sc_live_orderly.specs.OrderlyDefinitions.{is_born, orders, rest, AreInTime}
 use Rattle.sc_scenario.specs.declared.scenario.scenarios.Scenario.{Scenario}
-use Rattle.sc_node_table.specs.Definitions.{group_of_mail}
-use Rattle.sc_meaning.specs.sound.Definitions.{groups_at, Player, player_table, births, as_nodes}
-use Rattle.sc_live_steps.specs.calm.Definitions.{players, FindsCalm, Rows}
-use Rattle.sc_live_journals.specs.rows.Definitions.{IsSeat, with_event}
-use Rattle.sc_live_journals.specs.charts.Definitions.{chart_at, quiet_prefix}
-use Rattle.sc_live_steps.specs.orders.Definitions.{Still}
-use Rattle.sc_live_journals.specs.scenes.Definitions.{StageAfter, scene_at}
-use Rattle.sc_live_plain.specs.Definitions.{replicas_after, DoHintsRise}
-use Rattle.sc_live_journals.specs.logs.Definitions.{logged_sets}
+use Rattle.sc_node_table.specs.NodeDefinitions.{group_of_mail}
+use Rattle.sc_meaning.specs.sound.SoundDefinitions.{groups_at, Player, player_table, births, as_nodes}
+use Rattle.sc_live_steps.specs.calm.CalmDefinitions.{players, FindsCalm, Rows}
+use Rattle.sc_live_journals.specs.rows.RowDefinitions.{IsSeat, with_event}
+use Rattle.sc_live_journals.specs.charts.ChartDefinitions.{chart_at, quiet_prefix}
+use Rattle.sc_live_steps.specs.orders.OrderDefinitions.{Still}
+use Rattle.sc_live_journals.specs.scenes.SceneDefinitions.{StageAfter, scene_at}
+use Rattle.sc_live_plain.specs.PlainDefinitions.{replicas_after, DoHintsRise}
+use Rattle.sc_live_journals.specs.logs.LogDefinitions.{logged_sets}
 use Rattle.sc_live_answers.specs.SlotLeaders.{slot_leaders_at}
 use Rattle.sc_live_answers.specs.HintInvariant.{IsRisingOn}
 use Rattle.sc_live_answers.specs.RoundBounds.{IsRoundSince}
@@ -30,7 +30,7 @@ use Rattle.sc_live_answers.specs.EndingGroups.{IsGoingSince}
 use Rattle.sc_live_answers.specs.RedirectBounds.{HasNamesSince}
 use Rattle.sc_live_answers.specs.WaitingActs.{HaveNoneWaiting}
 use Rattle.sc_live_answers.specs.CreatedGroups.{AreCreatedByOrder}
-use Rattle.sc_group_table.specs.policy.Definitions.{is_reported}
+use Rattle.sc_group_table.specs.policy.PolicyDefinitions.{is_reported}
 use Rattle.sc_live_answers.specs.OrderTasks.{Task}
 use Rattle.sc_live_answers.specs.ReportedOrders.{IsGiven, IsRefusalSent, IsReported, IsOrderHeld}
 use Rattle.sc_live_answers.specs.WaitingWork.{AreAtWork, IsTaskOf}

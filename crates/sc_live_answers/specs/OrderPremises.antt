@@ -3,10 +3,10 @@ use Rattle.std.specs.Prelude.{ℕ}
 use Rattle.sc_node_table.specs.Values.{Base, OrderLine, Seat}
 use Rattle.sc_actor.specs.declared.rows.Event.TheVariants.{Told}
 use Rattle.sc_scenario.specs.declared.scenario.scenarios.Scenario.{Scenario}
-use Rattle.sc_meaning.specs.sound.Definitions.{Player, births, as_nodes}
-use Rattle.sc_live_steps.specs.calm.Definitions.{players, FindsCalm, Rows}
-use Rattle.sc_live_journals.specs.rows.Definitions.{IsSeat}
-use Rattle.sc_live_journals.specs.charts.Definitions.{chart_at}
+use Rattle.sc_meaning.specs.sound.SoundDefinitions.{Player, births, as_nodes}
+use Rattle.sc_live_steps.specs.calm.CalmDefinitions.{players, FindsCalm, Rows}
+use Rattle.sc_live_journals.specs.rows.RowDefinitions.{IsSeat}
+use Rattle.sc_live_journals.specs.charts.ChartDefinitions.{chart_at}
 use Rattle.sc_live_answers.specs.Settings.{AreAtNodes}
 use Rattle.sc_live_answers.specs.CalmJournals.{IsCalmJournal}
 use Rattle.sc_live_answers.specs.RestingPrefixes.{RestsAt}

@@ -8,16 +8,16 @@ use Rattle.sc_live_answers.specs.FollowerMail.{IsUnsettled}
 use Rattle.sc_live_answers.specs.GuidedGroups.{IsNamedGuide, WaitsForFlights}
 use Rattle.sc_live_answers.specs.MailWithoutReplica.{IsYoung}
 use Rattle.sc_live_answers.specs.LeaderVotes.{IsOrdersAlone, IsTrueEntry}
-use Rattle.sc_live_steps.specs.calm.Definitions.{players, Rows}
-use Rattle.sc_live_steps.specs.orders.Definitions.{IsUnderWay}
-use Rattle.sc_live_journals.specs.rows.Definitions.{marks_at, view_at, IsSeat, with_event}
-use Rattle.sc_live_journals.specs.scenes.Definitions.{FindsOrder, FindsReplica, NodeFinds, IsThere, GoesToActor, errand_taken, scene_at, IsTaking}
-use Rattle.sc_node_table.specs.Definitions.{NodeState, replica_of, ReplicaState, last_slot, next, mailed}
-use Rattle.sc_live_orderly.specs.Definitions.{is_born, AreInTime}
+use Rattle.sc_live_steps.specs.calm.CalmDefinitions.{players, Rows}
+use Rattle.sc_live_steps.specs.orders.OrderDefinitions.{IsUnderWay}
+use Rattle.sc_live_journals.specs.rows.RowDefinitions.{marks_at, view_at, IsSeat, with_event}
+use Rattle.sc_live_journals.specs.scenes.SceneDefinitions.{FindsOrder, FindsReplica, NodeFinds, IsThere, GoesToActor, errand_taken, scene_at, IsTaking}
+use Rattle.sc_node_table.specs.NodeDefinitions.{NodeState, replica_of, ReplicaState, last_slot, next, mailed}
+use Rattle.sc_live_orderly.specs.OrderlyDefinitions.{is_born, AreInTime}
 use Rattle.sc_scenario.specs.scenario.Definitions.{IsBounded}
 use Rattle.sc_scenario.specs.declared.scenario.scenarios.Scenario.{Scenario}
-use Rattle.sc_meaning.specs.sound.Definitions.{Player, as_nodes, player_table, births}
-use Rattle.sc_client_table.specs.table.Definitions.{Client as ClientState}
+use Rattle.sc_meaning.specs.sound.SoundDefinitions.{Player, as_nodes, player_table, births}
+use Rattle.sc_client_table.specs.table.TableDefinitions.{Client as ClientState}
 
 -- what is known where an order is given: the journal is quiet, mail of transactions and of groups goes to players, and each leader has slots left and has no act or order waiting with nothing in flight
 pub record IsGivenCalmly (words : ℕ → ℕ → ℕ × ℕ) (births : List (Seat Player)) (rows : Rows) : Type 0 where

@@ -5,7 +5,7 @@ use Rattle.sc_base.specs.Definitions.{Each, same_draw}
 use Rattle.sc_node_table.specs.Values.{Draw, Body, Command, Noop, Call, Join, Leave, Split, Begin, Prepared, RecordVote, GiveUp, Finish, Watched, RecordWatch, Base, Core, Lock, Free, Coordinating, Promised, Watching, Order, MailBody, Request, Answer, Prepare, Promise, Accept, Accepted, Nack, Learn, Ask, Install, TxPrepare, TxVote, TxOutcome, TxElsewhere, TxWatch, TxWatched, Told}
 use Rattle.sc_words.specs.declared.commands.bodies.Body.TheVariants as At
 use Rattle.sc_words.specs.declared.commands.orders.Order.TheVariants as An
-use Rattle.sc_node_table.specs.Definitions.{ReplicaState}
+use Rattle.sc_node_table.specs.NodeDefinitions.{ReplicaState}
 
 -- what an order is to do: its number, the group that it is given to, the name that it draws, and whether it splits that group
 pub record Task : Type 0 where

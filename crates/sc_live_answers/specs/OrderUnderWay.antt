@@ -2,14 +2,14 @@
 use Rattle.std.specs.Prelude.{◌≡◌, ℕ, true, List, Some, None, ◌⊎◌}
 use Rattle.sc_base.specs.Definitions.{Among, Each}
 use Rattle.sc_node_table.specs.Values.{Base, Seat}
-use Rattle.sc_live_orderly.specs.Definitions.{is_born, rest}
+use Rattle.sc_live_orderly.specs.OrderlyDefinitions.{is_born, rest}
 use Rattle.sc_scenario.specs.declared.scenario.scenarios.Scenario.{Scenario}
-use Rattle.sc_node_table.specs.Definitions.{group_of_mail, born_replica, slots_ahead}
-use Rattle.sc_meaning.specs.sound.Definitions.{groups_at, Player, births, as_nodes}
-use Rattle.sc_live_steps.specs.calm.Definitions.{players, Rows}
-use Rattle.sc_live_journals.specs.rows.Definitions.{view_at}
-use Rattle.sc_live_steps.specs.orders.Definitions.{Stage}
-use Rattle.sc_live_journals.specs.scenes.Definitions.{IsNowhere, AreUntouched}
+use Rattle.sc_node_table.specs.NodeDefinitions.{group_of_mail, born_replica, slots_ahead}
+use Rattle.sc_meaning.specs.sound.SoundDefinitions.{groups_at, Player, births, as_nodes}
+use Rattle.sc_live_steps.specs.calm.CalmDefinitions.{players, Rows}
+use Rattle.sc_live_journals.specs.rows.RowDefinitions.{view_at}
+use Rattle.sc_live_steps.specs.orders.OrderDefinitions.{Stage}
+use Rattle.sc_live_journals.specs.scenes.SceneDefinitions.{IsNowhere, AreUntouched}
 use Rattle.sc_live_answers.specs.GuidedGroups.{IsReachedSo}
 use Rattle.sc_live_answers.specs.CalmJournals.{IsPrefixOf, AreSent}
 use Rattle.sc_live_answers.specs.RestingPrefixes.{RestsAt}

@@ -3,13 +3,13 @@ use Rattle.std.specs.Prelude.{◌≡◌, ℕ, false, List, Some, None}
 use Rattle.std.specs.FinMap.{get}
 use Rattle.sc_node_table.specs.Values.{Draw, Offer, Finish, Prepared, RecordVote, Base, Frozen, Outcome}
 use Rattle.sc_words.specs.declared.commands.votes.Vote.TheVariants as Vows
-use Rattle.sc_words.specs.ideal.Definitions.{holds_key}
-use Rattle.sc_group_table.specs.machine.Definitions.{participant_after, Group, frozen_of}
-use Rattle.sc_law_entries.specs.ring.Definitions.{unsigned}
+use Rattle.sc_words.specs.ideal.IdealDefinitions.{holds_key}
+use Rattle.sc_group_table.specs.machine.MachineDefinitions.{participant_after, Group, frozen_of}
+use Rattle.sc_law_entries.specs.ring.RingDefinitions.{unsigned}
 use Rattle.sc_scenario.specs.declared.scenario.scenarios.Scenario.{Scenario}
-use Rattle.sc_meaning.specs.sound.Definitions.{as_nodes}
-use Rattle.sc_live_steps.specs.calm.Definitions.{Rows}
-use Rattle.sc_live_journals.specs.logs.Definitions.{IsGroupOf}
+use Rattle.sc_meaning.specs.sound.SoundDefinitions.{as_nodes}
+use Rattle.sc_live_steps.specs.calm.CalmDefinitions.{Rows}
+use Rattle.sc_live_journals.specs.logs.LogDefinitions.{IsGroupOf}
 use Rattle.sc_live_answers.specs.AllowedCommands.{IsAllowedBy}
 
 -- all pairs of the group lie on its arc

@@ -2,13 +2,13 @@
 use Rattle.std.specs.Prelude.{◌≡◌, ℕ, suc, max, ◌<◌, ◌≤◌, List, [], ◌∷◌, Some}
 use Rattle.sc_base.specs.Definitions.{Each}
 use Rattle.sc_node_table.specs.Values.{Base, Seat}
-use Rattle.sc_words.specs.paxos.Definitions.{IsAtLeast}
-use Rattle.sc_node_table.specs.Definitions.{ReplicaState}
-use Rattle.sc_meaning.specs.sound.Definitions.{Player}
-use Rattle.sc_live_steps.specs.calm.Definitions.{players, Rows}
-use Rattle.sc_live_steps.specs.following.Definitions.{Dated, Mark, Asks, Votes, Teaches, Installs, Prepares, Promises, Course}
-use Rattle.sc_live_journals.specs.rows.Definitions.{view_at}
-use Rattle.sc_live_journals.specs.groups.Definitions.{dated_at}
+use Rattle.sc_words.specs.paxos.PaxosDefinitions.{IsAtLeast}
+use Rattle.sc_node_table.specs.NodeDefinitions.{ReplicaState}
+use Rattle.sc_meaning.specs.sound.SoundDefinitions.{Player}
+use Rattle.sc_live_steps.specs.calm.CalmDefinitions.{players, Rows}
+use Rattle.sc_live_steps.specs.following.FollowingDefinitions.{Dated, Mark, Asks, Votes, Teaches, Installs, Prepares, Promises, Course}
+use Rattle.sc_live_journals.specs.rows.RowDefinitions.{view_at}
+use Rattle.sc_live_journals.specs.groups.GroupDefinitions.{dated_at}
 
 -- a node that has accepted nothing from the slot `top` on is asked to promise a ballot only for slots from `top` or a later one on; other marks ask nothing of it
 abbrev pub IsAbove : ℕ → Mark → ℕ → Type 0

@@ -3,15 +3,15 @@ use Rattle.std.specs.Prelude.{◌≡◌, ℕ, true, Option, Some, ◌⊎◌}
 use Rattle.sc_node_table.specs.Values.{Seat, Deliver, Draw, Command, Base, OrderLine, Mail, TxElsewhere, Flight}
 use Rattle.sc_actor.specs.declared.rows.Event.TheVariants.{Told}
 use Rattle.sc_base.specs.Definitions.{Among, Each}
-use Rattle.sc_node_table.specs.Definitions.{NodeState, ReplicaState}
+use Rattle.sc_node_table.specs.NodeDefinitions.{NodeState, ReplicaState}
 use Rattle.sc_scenario.specs.declared.scenario.scenarios.Scenario.{Scenario}
-use Rattle.sc_meaning.specs.sound.Definitions.{Player, as_nodes, births}
-use Rattle.sc_live_plain.specs.Definitions.{replicas_after}
-use Rattle.sc_live_steps.specs.calm.Definitions.{HasReplica, Rows}
+use Rattle.sc_meaning.specs.sound.SoundDefinitions.{Player, as_nodes, births}
+use Rattle.sc_live_plain.specs.PlainDefinitions.{replicas_after}
+use Rattle.sc_live_steps.specs.calm.CalmDefinitions.{HasReplica, Rows}
 use Rattle.sc_live_answers.specs.LeaderVotes.{IsTrueEntry}
-use Rattle.sc_live_steps.specs.orders.Definitions.{Asks, Closes, ClosesBoth, IsAt, Ordered, Recorded, Replied, SentOn, Stage, Still, Weighs}
-use Rattle.sc_live_journals.specs.rows.Definitions.{view_at, with_event}
-use Rattle.sc_live_journals.specs.scenes.Definitions.{IsGivenInQuiet, GoesBy, left_after, scene_at}
+use Rattle.sc_live_steps.specs.orders.OrderDefinitions.{Asks, Closes, ClosesBoth, IsAt, Ordered, Recorded, Replied, SentOn, Stage, Still, Weighs}
+use Rattle.sc_live_journals.specs.rows.RowDefinitions.{view_at, with_event}
+use Rattle.sc_live_journals.specs.scenes.SceneDefinitions.{IsGivenInQuiet, GoesBy, left_after, scene_at}
 use Rattle.sc_live_answers.specs.OrderFactsAfterDeliveries.{ContinuesSince}
 use Rattle.sc_live_answers.specs.OrderFacts.{IsTrueSince}
 use Rattle.sc_live_answers.specs.UnsettledMail.{TakesSince}

@@ -3,7 +3,7 @@ use Rattle.std.specs.Prelude.{◌≡◌, ℕ, List, [], ◌∷◌}
 use Rattle.sc_node_table.specs.Values.{Base}
 use Rattle.sc_scenario.specs.declared.scenario.scenarios.Scenario.{Scenario}
 use Rattle.sc_scenario.specs.scenario.Definitions.{IsValid}
-use Rattle.sc_live_plain.specs.Definitions.{IsQuietJournal}
+use Rattle.sc_live_plain.specs.PlainDefinitions.{IsQuietJournal}
 
 -- before its first row the journal of a valid scenario is quiet (`IsQuietJournal`)
 abbrev pub QuietJournalsBegin : Type 0

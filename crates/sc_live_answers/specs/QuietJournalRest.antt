@@ -3,17 +3,17 @@ use Rattle.std.specs.Prelude.{◌≡◌, ℕ, ◌+◌, ◌≤◌, List, ◌∷�
 use Rattle.sc_base.specs.Definitions.{Each, Among}
 use Rattle.sc_node_table.specs.Values.{Draw, Base}
 use Rattle.sc_actor.specs.Definitions.{mails}
-use Rattle.sc_live_orderly.specs.Definitions.{orders}
+use Rattle.sc_live_orderly.specs.OrderlyDefinitions.{orders}
 use Rattle.sc_scenario.specs.declared.scenario.scenarios.Scenario.{Scenario}
-use Rattle.sc_node_table.specs.Definitions.{ReplicaState}
-use Rattle.sc_meaning.specs.sound.Definitions.{births, as_nodes, groups_at}
-use Rattle.sc_live_steps.specs.calm.Definitions.{Rows}
-use Rattle.sc_live_journals.specs.rows.Definitions.{view_at}
-use Rattle.sc_live_journals.specs.scenes.Definitions.{GoesToActor}
-use Rattle.sc_live_journals.specs.charts.Definitions.{names_at, all_replicas, GoInTurn}
-use Rattle.sc_live_plain.specs.Definitions.{IsQuietJournal}
+use Rattle.sc_node_table.specs.NodeDefinitions.{ReplicaState}
+use Rattle.sc_meaning.specs.sound.SoundDefinitions.{births, as_nodes, groups_at}
+use Rattle.sc_live_steps.specs.calm.CalmDefinitions.{Rows}
+use Rattle.sc_live_journals.specs.rows.RowDefinitions.{view_at}
+use Rattle.sc_live_journals.specs.scenes.SceneDefinitions.{GoesToActor}
+use Rattle.sc_live_journals.specs.charts.ChartDefinitions.{names_at, all_replicas, GoInTurn}
+use Rattle.sc_live_plain.specs.PlainDefinitions.{IsQuietJournal}
 use Rattle.sc_live_answers.specs.QuietPrefixes.{IsQuietPrefix}
-use Rattle.sc_live_journals.specs.logs.Definitions.{logged_sets}
+use Rattle.sc_live_journals.specs.logs.LogDefinitions.{logged_sets}
 use Rattle.sc_live_answers.specs.SlotLeaders.{slot_leaders_at}
 use Rattle.sc_live_answers.specs.HintInvariant.{IsRisingOn}
 use Rattle.sc_live_answers.specs.CalmJournals.{AreSent}

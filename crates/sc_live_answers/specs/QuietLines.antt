@@ -1,13 +1,13 @@
 -- A line of requests leaves a quiet journal.
 use Rattle.std.specs.Prelude.{◌≡◌, ℕ, true, false, List, [], ◌∷◌, ◌++◌, Some, None, ◌⊎◌}
 use Rattle.sc_node_table.specs.Values.{Draw, Base, OrderLine, Mail, Row}
-use Rattle.sc_node_table.specs.Definitions.{ReplicaState, next}
+use Rattle.sc_node_table.specs.NodeDefinitions.{ReplicaState, next}
 use Rattle.sc_scenario.specs.declared.scenario.scenarios.Scenario.{Scenario}
 use Rattle.sc_scenario.specs.scenario.Definitions.{IsValid}
-use Rattle.sc_meaning.specs.sound.Definitions.{system_of, as_nodes}
-use Rattle.sc_live_orderly.specs.Definitions.{rest, is_born}
-use Rattle.sc_live_steps.specs.calm.Definitions.{MayPump, Ways, View as Replicas, HasReplica, StandsQuiet, IsGoneQuiet, IsAtRest, RisesAt}
-use Rattle.sc_live_plain.specs.Definitions.{AreRequests, AreSeated, replicas_after, setting_at, AreFramesOf, DoHintsRise, IsQuietJournal, IsKept, IsLinkedSetting, Frame}
+use Rattle.sc_meaning.specs.sound.SoundDefinitions.{system_of, as_nodes}
+use Rattle.sc_live_orderly.specs.OrderlyDefinitions.{rest, is_born}
+use Rattle.sc_live_steps.specs.calm.CalmDefinitions.{MayPump, Ways, View as Replicas, HasReplica, StandsQuiet, IsGoneQuiet, IsAtRest, RisesAt}
+use Rattle.sc_live_plain.specs.PlainDefinitions.{AreRequests, AreSeated, replicas_after, setting_at, AreFramesOf, DoHintsRise, IsQuietJournal, IsKept, IsLinkedSetting, Frame}
 
 -- replicas of one group that have executed as many entries are in the same state
 abbrev pub HaveOneLog : Replicas → Type 0

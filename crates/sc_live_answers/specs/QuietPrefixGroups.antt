@@ -3,15 +3,15 @@ use Rattle.std.specs.Prelude.{◌≡◌, ℕ, ◌+◌, false, length, Some}
 use Rattle.sc_base.specs.Definitions.{Among}
 use Rattle.sc_node_table.specs.Values.{Base, Route}
 use Rattle.sc_scenario.specs.declared.scenario.scenarios.Scenario.{Scenario}
-use Rattle.sc_node_table.specs.Definitions.{ReplicaState}
-use Rattle.sc_meaning.specs.sound.Definitions.{groups_at, decided_log, births, as_nodes}
-use Rattle.sc_live_steps.specs.calm.Definitions.{IsLinked, Rows}
-use Rattle.sc_live_steps.specs.following.Definitions.{Course, SlotLeaders}
-use Rattle.sc_live_steps.specs.orders.Definitions.{Still, IsAt}
+use Rattle.sc_node_table.specs.NodeDefinitions.{ReplicaState}
+use Rattle.sc_meaning.specs.sound.SoundDefinitions.{groups_at, decided_log, births, as_nodes}
+use Rattle.sc_live_steps.specs.calm.CalmDefinitions.{IsLinked, Rows}
+use Rattle.sc_live_steps.specs.following.FollowingDefinitions.{Course, SlotLeaders}
+use Rattle.sc_live_steps.specs.orders.OrderDefinitions.{Still, IsAt}
 use Rattle.sc_live_answers.specs.LogStates.{state_at}
-use Rattle.sc_live_journals.specs.scenes.Definitions.{IsThere, scene_at}
+use Rattle.sc_live_journals.specs.scenes.SceneDefinitions.{IsThere, scene_at}
 use Rattle.sc_live_answers.specs.WellLedQuietGroups.{replicas_at, IsQuietGroup, IsTakenIn}
-use Rattle.sc_live_plain.specs.Definitions.{replicas_after}
+use Rattle.sc_live_plain.specs.PlainDefinitions.{replicas_after}
 use Rattle.sc_live_answers.specs.QuietRanges.{AreKnown}
 use Rattle.sc_live_answers.specs.SettingCharts.{GoneAgree}
 use Rattle.sc_live_answers.specs.Settings.{AreReachable}

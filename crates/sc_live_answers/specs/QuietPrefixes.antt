@@ -3,17 +3,17 @@ use Rattle.std.specs.Prelude.{◌≡◌, ℕ, ◌+◌, true, length, Some}
 use Rattle.sc_base.specs.Definitions.{Among}
 use Rattle.sc_node_table.specs.Values.{Draw, Base}
 use Rattle.sc_actor.specs.Definitions.{mails, is_quiet}
-use Rattle.sc_paxos_law.specs.Definitions.{IsLog}
+use Rattle.sc_paxos_law.specs.PaxosLawDefinitions.{IsLog}
 use Rattle.sc_scenario.specs.declared.scenario.scenarios.Scenario.{Scenario}
-use Rattle.sc_node_table.specs.Definitions.{ReplicaState}
-use Rattle.sc_meaning.specs.sound.Definitions.{groups_at, accepts, rule_of, decided_log, Lawful, births, as_nodes, Continues, HasRun}
-use Rattle.sc_live_steps.specs.calm.Definitions.{players, Rows}
-use Rattle.sc_live_steps.specs.following.Definitions.{Course}
-use Rattle.sc_live_journals.specs.rows.Definitions.{view_at}
+use Rattle.sc_node_table.specs.NodeDefinitions.{ReplicaState}
+use Rattle.sc_meaning.specs.sound.SoundDefinitions.{groups_at, accepts, rule_of, decided_log, Lawful, births, as_nodes, Continues, HasRun}
+use Rattle.sc_live_steps.specs.calm.CalmDefinitions.{players, Rows}
+use Rattle.sc_live_steps.specs.following.FollowingDefinitions.{Course}
+use Rattle.sc_live_journals.specs.rows.RowDefinitions.{view_at}
 use Rattle.sc_live_answers.specs.SlotLeaders.{slot_leaders_at}
-use Rattle.sc_live_journals.specs.scenes.Definitions.{IsThere}
+use Rattle.sc_live_journals.specs.scenes.SceneDefinitions.{IsThere}
 use Rattle.sc_live_answers.specs.WellLedQuietGroups.{IsQuietGroup}
-use Rattle.sc_live_plain.specs.Definitions.{replicas_after}
+use Rattle.sc_live_plain.specs.PlainDefinitions.{replicas_after}
 use Rattle.sc_live_answers.specs.Settings.{AreAtNodes}
 use Rattle.sc_live_answers.specs.CalmJournals.{IsCalmJournal, IsPrefixOf, AreSent}
 use Rattle.sc_live_answers.specs.OfferedSlots.{AreAskedBelow}

@@ -2,13 +2,13 @@
 use Rattle.std.specs.Prelude.{◌≡◌, ℕ, ◌<◌, ◌^◌, List, None, Some}
 use Rattle.sc_base.specs.Definitions.{Among, IsArc}
 use Rattle.sc_node_table.specs.Values.{Draw, Base, OrderLine, Mail, Row}
-use Rattle.sc_law_entries.specs.logs.Definitions.{AreItsLogs}
-use Rattle.sc_group_table.specs.machine.Definitions.{Group}
-use Rattle.sc_node_table.specs.Definitions.{ReplicaState}
+use Rattle.sc_law_entries.specs.logs.LogDefinitions.{AreItsLogs}
+use Rattle.sc_group_table.specs.machine.MachineDefinitions.{Group}
+use Rattle.sc_node_table.specs.NodeDefinitions.{ReplicaState}
 use Rattle.sc_scenario.specs.declared.scenario.scenarios.Scenario.{Scenario}
-use Rattle.sc_meaning.specs.sound.Definitions.{groups_at, world_at, decided_state, as_nodes, IsOneMap}
-use Rattle.sc_live_steps.specs.calm.Definitions.{HasReplica, IsNewest}
-use Rattle.sc_live_plain.specs.Definitions.{replicas_after, AreFramesOf, IsQuietJournal, Frame}
+use Rattle.sc_meaning.specs.sound.SoundDefinitions.{groups_at, world_at, decided_state, as_nodes, IsOneMap}
+use Rattle.sc_live_steps.specs.calm.CalmDefinitions.{HasReplica, IsNewest}
+use Rattle.sc_live_plain.specs.PlainDefinitions.{replicas_after, AreFramesOf, IsQuietJournal, Frame}
 use Rattle.sc_live_answers.specs.GroupRing.{AreOfCuts}
 
 -- the state of a group after its decided log in these rows

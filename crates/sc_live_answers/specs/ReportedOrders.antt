@@ -4,17 +4,17 @@ use Rattle.sc_base.specs.Definitions.{Among}
 use Rattle.sc_node_table.specs.Values.{Draw, OrderLine, OrderResult, Body, Coordinating, Heard, No, Mail, Told, TxVote, Seat, Row}
 use Rattle.sc_words.specs.declared.commands.orders.OrderResult.TheVariants.{Aborted}
 use Rattle.sc_words.specs.declared.commands.votes.Vote.TheVariants as Says
-use Rattle.sc_node_table.specs.Definitions.{ReplicaState}
-use Rattle.sc_live_journals.specs.rows.Definitions.{view_at}
+use Rattle.sc_node_table.specs.NodeDefinitions.{ReplicaState}
+use Rattle.sc_live_journals.specs.rows.RowDefinitions.{view_at}
 use Rattle.sc_actor.specs.declared.rows.Event.TheVariants.{Told as GivesOrder}
 use Rattle.sc_actor.specs.Definitions.{mails, is_quiet, unsettled}
 use Rattle.sc_scenario.specs.scenario.Definitions.{IsValid}
 use Rattle.sc_scenario.specs.declared.scenario.scenarios.Scenario.{Scenario}
 use Rattle.sc_scenario.specs.declared.scenario.scenarios.SchedLine.TheVariants.{Told as OrderOf}
-use Rattle.sc_meaning.specs.sound.Definitions.{Player, births, system_of, schedule, as_nodes, Lawful, Whole}
-use Rattle.sc_live_steps.specs.calm.Definitions.{Rows}
-use Rattle.sc_live_steps.specs.orders.Definitions.{Turn, Work, Asking, Here, Scene, IsOrder, Stage, Still, Ordered, Asks, SentOn, Weighs, Replied, Recorded, Closes, ClosesBoth}
-use Rattle.sc_live_plain.specs.Definitions.{IsCalm}
+use Rattle.sc_meaning.specs.sound.SoundDefinitions.{Player, births, system_of, schedule, as_nodes, Lawful, Whole}
+use Rattle.sc_live_steps.specs.calm.CalmDefinitions.{Rows}
+use Rattle.sc_live_steps.specs.orders.OrderDefinitions.{Turn, Work, Asking, Here, Scene, IsOrder, Stage, Still, Ordered, Asks, SentOn, Weighs, Replied, Recorded, Closes, ClosesBoth}
+use Rattle.sc_live_plain.specs.PlainDefinitions.{IsCalm}
 
 -- one of these mails reports this result of the order with this number
 pub record IsTold (sent : List Mail) (number : ℕ) (result : OrderResult) : Type 0 where

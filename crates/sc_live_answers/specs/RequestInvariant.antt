@@ -3,15 +3,15 @@ use Rattle.std.specs.Prelude.{◌≡◌, ℕ, ◌+◌, ◌≤◌, List, [], ◌�
 use Rattle.sc_base.specs.Definitions.{Among, is_member}
 use Rattle.sc_node_table.specs.Values.{Base, OrderLine, Seat, Event}
 use Rattle.sc_actor.specs.Definitions.{row_of}
-use Rattle.sc_live_orderly.specs.Definitions.{IsInOrder, is_born, orders}
-use Rattle.sc_law_entries.specs.logs.Definitions.{AreItsLogs}
-use Rattle.sc_meaning.specs.sound.Definitions.{IsOneMap, groups_at, world_at, Player, player_table, births, as_nodes}
+use Rattle.sc_live_orderly.specs.OrderlyDefinitions.{IsInOrder, is_born, orders}
+use Rattle.sc_law_entries.specs.logs.LogDefinitions.{AreItsLogs}
+use Rattle.sc_meaning.specs.sound.SoundDefinitions.{IsOneMap, groups_at, world_at, Player, player_table, births, as_nodes}
 use Rattle.sc_scenario.specs.declared.scenario.scenarios.Scenario.{Scenario}
-use Rattle.sc_live_steps.specs.calm.Definitions.{players, FindsCalm, Rows}
-use Rattle.sc_live_journals.specs.rows.Definitions.{IsSeat}
+use Rattle.sc_live_steps.specs.calm.CalmDefinitions.{players, FindsCalm, Rows}
+use Rattle.sc_live_journals.specs.rows.RowDefinitions.{IsSeat}
 use Rattle.sc_live_answers.specs.GroupMail.{IsQuietWhileYoung}
-use Rattle.sc_live_journals.specs.charts.Definitions.{chart_at, quiet_prefix}
-use Rattle.sc_live_plain.specs.Definitions.{IsAsking, AreRequests, NobodyWaits, replicas_after, setting_at, Setting}
+use Rattle.sc_live_journals.specs.charts.ChartDefinitions.{chart_at, quiet_prefix}
+use Rattle.sc_live_plain.specs.PlainDefinitions.{IsAsking, AreRequests, NobodyWaits, replicas_after, setting_at, Setting}
 use Rattle.sc_live_answers.specs.RequestRows.{NodesMayPump, AreNear}
 use Rattle.sc_live_answers.specs.SettingCharts.{GoneAgree}
 use Rattle.sc_live_answers.specs.Settings.{frames_after, AreAtNodes}

@@ -3,12 +3,12 @@ use Rattle.std.specs.Prelude.{◌≡◌, ℕ, ◌≤◌, Bool, List, [], ◌∷�
 use Rattle.sc_base.specs.Definitions.{Each}
 use Rattle.sc_node_table.specs.Values.{Draw, Base, OrderLine, Mail, Node, Row}
 use Rattle.sc_actor.specs.Definitions.{value}
-use Rattle.sc_node_table.specs.Definitions.{NodeState, ReplicaState, name_of}
+use Rattle.sc_node_table.specs.NodeDefinitions.{NodeState, ReplicaState, name_of}
 use Rattle.sc_scenario.specs.declared.scenario.scenarios.Scenario.{Scenario}
 use Rattle.sc_scenario.specs.scenario.Definitions.{IsValid}
-use Rattle.sc_meaning.specs.sound.Definitions.{Lawful, player_table, node_seat, system_of, as_nodes}
-use Rattle.sc_live_orderly.specs.Definitions.{under_way, owed}
-use Rattle.sc_live_plain.specs.Definitions.{IsAsking, replicas_after, setting_at, AreFramesOf, ways_at, IsQuietJournal, Setting, Frame}
+use Rattle.sc_meaning.specs.sound.SoundDefinitions.{Lawful, player_table, node_seat, system_of, as_nodes}
+use Rattle.sc_live_orderly.specs.OrderlyDefinitions.{under_way, owed}
+use Rattle.sc_live_plain.specs.PlainDefinitions.{IsAsking, replicas_after, setting_at, AreFramesOf, ways_at, IsQuietJournal, Setting, Frame}
 use Rattle.sc_live_answers.specs.ClientAnswers.{AreReached, KnowOne}
 use Rattle.sc_live_answers.specs.Tokens.{token_owing}
 

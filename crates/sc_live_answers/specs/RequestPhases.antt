@@ -3,15 +3,15 @@ use Rattle.std.specs.Prelude.{◌≡◌, ℕ, ◌+◌, ◌≤◌, true, false, L
 use Rattle.sc_base.specs.Definitions.{Among, Each}
 use Rattle.sc_node_table.specs.Values.{Draw, Base, OrderLine, Mail, Seat, Event, Row}
 use Rattle.sc_actor.specs.Definitions.{mails, row_of, is_quiet}
-use Rattle.sc_live_orderly.specs.Definitions.{IsInOrder, is_told, orders}
+use Rattle.sc_live_orderly.specs.OrderlyDefinitions.{IsInOrder, is_told, orders}
 use Rattle.sc_scenario.specs.declared.scenario.scenarios.Scenario.{Scenario}
-use Rattle.sc_meaning.specs.sound.Definitions.{groups_at, Player, player_table, births, as_nodes}
-use Rattle.sc_live_steps.specs.calm.Definitions.{players, FindsCalm, Rows}
-use Rattle.sc_live_journals.specs.rows.Definitions.{IsSeat, with_event}
-use Rattle.sc_live_journals.specs.scenes.Definitions.{IsThere, GoesToActor}
-use Rattle.sc_live_journals.specs.charts.Definitions.{chart_at, quiet_prefix}
-use Rattle.sc_live_journals.specs.logs.Definitions.{logged_sets}
-use Rattle.sc_live_plain.specs.Definitions.{NobodyWaits}
+use Rattle.sc_meaning.specs.sound.SoundDefinitions.{groups_at, Player, player_table, births, as_nodes}
+use Rattle.sc_live_steps.specs.calm.CalmDefinitions.{players, FindsCalm, Rows}
+use Rattle.sc_live_journals.specs.rows.RowDefinitions.{IsSeat, with_event}
+use Rattle.sc_live_journals.specs.scenes.SceneDefinitions.{IsThere, GoesToActor}
+use Rattle.sc_live_journals.specs.charts.ChartDefinitions.{chart_at, quiet_prefix}
+use Rattle.sc_live_journals.specs.logs.LogDefinitions.{logged_sets}
+use Rattle.sc_live_plain.specs.PlainDefinitions.{NobodyWaits}
 use Rattle.sc_live_answers.specs.SlotLeaders.{slot_leaders_at}
 use Rattle.sc_live_answers.specs.HintInvariant.{IsRisingOn}
 use Rattle.sc_live_answers.specs.RoundBounds.{IsBallotSince}

@@ -2,10 +2,10 @@
 use Rattle.std.specs.Prelude.{◌≡◌, ℕ, ◌+◌, ◌≤◌, List}
 use Rattle.sc_base.specs.Definitions.{Among, Each, client_actor}
 use Rattle.sc_node_table.specs.Values.{Draw, Op, Route, OrderLine, Mail, Node, Row}
-use Rattle.sc_node_table.specs.Definitions.{NodeState}
+use Rattle.sc_node_table.specs.NodeDefinitions.{NodeState}
 use Rattle.sc_scenario.specs.declared.scenario.scenarios.Scenario.{Scenario}
-use Rattle.sc_live_steps.specs.calm.Definitions.{Chart, AreBounded, IsCalmFor, MayPump, Elsewhere, StandsOnce}
-use Rattle.sc_live_plain.specs.Definitions.{Setting, IsHome, HasGoneTo, IsSetting, IsCalmNode, IsCalmMail, ComesInTime, Frame, IsBegun}
+use Rattle.sc_live_steps.specs.calm.CalmDefinitions.{Chart, AreBounded, IsCalmFor, MayPump, Elsewhere, StandsOnce}
+use Rattle.sc_live_plain.specs.PlainDefinitions.{Setting, IsHome, HasGoneTo, IsSetting, IsCalmNode, IsCalmMail, ComesInTime, Frame, IsBegun}
 
 -- a chart counts as a setting does: its ways are the setting's, each group that has a replica is among its groups once, and a group that is gone is farther, by at least one end, from a group that stands than the one that it went into
 pub record CountsAs (set : Setting) (chart : Chart) : Type 0 where

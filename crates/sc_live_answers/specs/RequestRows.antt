@@ -3,15 +3,15 @@ use Rattle.std.specs.Prelude.{◌≡◌, ℕ, ◌≤◌, ◌==◌, ◌++◌, fal
 use Rattle.sc_base.specs.Definitions.{Among, Each, client_actor}
 use Rattle.sc_node_table.specs.Values.{Base, OrderLine, Mail, Node, Client, Seat, Event, Row}
 use Rattle.sc_actor.specs.Definitions.{value, has_started}
-use Rattle.sc_client_table.specs.table.Definitions.{Client as ClientState}
-use Rattle.sc_node_table.specs.Definitions.{NodeState}
+use Rattle.sc_client_table.specs.table.TableDefinitions.{Client as ClientState}
+use Rattle.sc_node_table.specs.NodeDefinitions.{NodeState}
 use Rattle.sc_scenario.specs.declared.scenario.scenarios.Asks.{Asks}
 use Rattle.sc_scenario.specs.declared.scenario.scenarios.Scenario.{Scenario}
 use Rattle.sc_scenario.specs.scenario.Definitions.{IsValid}
-use Rattle.sc_live_orderly.specs.Definitions.{IsTidy, IsInOrder, owed}
-use Rattle.sc_meaning.specs.sound.Definitions.{Player, player_table, births, node_seat, client_seat, route_of, system_of, as_nodes}
-use Rattle.sc_live_steps.specs.calm.Definitions.{Chart, FindsCalm, MayPump, sent_on}
-use Rattle.sc_live_plain.specs.Definitions.{IsAsking, AreFarFromLast, AreRequests, NobodyWaits, AreSeated, IsLinkedSetting, Setting, IsSetting}
+use Rattle.sc_live_orderly.specs.OrderlyDefinitions.{IsTidy, IsInOrder, owed}
+use Rattle.sc_meaning.specs.sound.SoundDefinitions.{Player, player_table, births, node_seat, client_seat, route_of, system_of, as_nodes}
+use Rattle.sc_live_steps.specs.calm.CalmDefinitions.{Chart, FindsCalm, MayPump, sent_on}
+use Rattle.sc_live_plain.specs.PlainDefinitions.{IsAsking, AreFarFromLast, AreRequests, NobodyWaits, AreSeated, IsLinkedSetting, Setting, IsSetting}
 use Rattle.sc_live_answers.specs.RequestPremises.{CountsAs}
 use Rattle.sc_live_answers.specs.ClientAnswers.{AreReached, KnowOne}
 use Rattle.sc_live_answers.specs.Tokens.{token_owing}

@@ -3,8 +3,8 @@ use Rattle.std.specs.Prelude.{◌≡◌, ℕ, true, List, ◌∷◌}
 use Rattle.sc_node_table.specs.Values.{Base}
 use Rattle.sc_actor.specs.Definitions.{is_quiet}
 use Rattle.sc_scenario.specs.declared.scenario.scenarios.Scenario.{Scenario}
-use Rattle.sc_meaning.specs.sound.Definitions.{births, as_nodes}
-use Rattle.sc_live_steps.specs.calm.Definitions.{players, Rows}
+use Rattle.sc_meaning.specs.sound.SoundDefinitions.{births, as_nodes}
+use Rattle.sc_live_steps.specs.calm.CalmDefinitions.{players, Rows}
 use Rattle.sc_live_answers.specs.CalmJournals.{IsCalmJournal}
 use Rattle.sc_live_answers.specs.RestingPrefixes.{RestsAt}
 use Rattle.sc_live_answers.specs.OrderInvariant.{IsOrderedSince}

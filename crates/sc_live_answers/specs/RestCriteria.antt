@@ -3,20 +3,20 @@ use Rattle.std.specs.Prelude.{◌≡◌, ℕ, ◌+◌, ◌≤◌, Bool, true, Li
 use Rattle.sc_base.specs.Definitions.{Among, Each, client_actor, least_of}
 use Rattle.sc_node_table.specs.Values.{Draw, Base, Client}
 use Rattle.sc_actor.specs.Definitions.{value, has_started}
-use Rattle.sc_live_orderly.specs.Definitions.{orders}
-use Rattle.sc_client_table.specs.table.Definitions.{Client as ClientState}
+use Rattle.sc_live_orderly.specs.OrderlyDefinitions.{orders}
+use Rattle.sc_client_table.specs.table.TableDefinitions.{Client as ClientState}
 use Rattle.sc_scenario.specs.declared.scenario.scenarios.Asks.{Asks}
 use Rattle.sc_scenario.specs.declared.scenario.scenarios.Scenario.{Scenario}
-use Rattle.sc_node_table.specs.Definitions.{ReplicaState}
-use Rattle.sc_meaning.specs.sound.Definitions.{player_table, births, client_seat, route_of, as_nodes, groups_at}
-use Rattle.sc_live_steps.specs.calm.Definitions.{HasReplica, IsAnswered, Rows}
-use Rattle.sc_live_journals.specs.rows.Definitions.{view_at}
-use Rattle.sc_live_steps.specs.orders.Definitions.{Still, IsAt}
-use Rattle.sc_live_journals.specs.scenes.Definitions.{scene_at}
-use Rattle.sc_live_journals.specs.charts.Definitions.{names_at, all_replicas, GoInTurn}
-use Rattle.sc_live_plain.specs.Definitions.{replicas_after}
+use Rattle.sc_node_table.specs.NodeDefinitions.{ReplicaState}
+use Rattle.sc_meaning.specs.sound.SoundDefinitions.{player_table, births, client_seat, route_of, as_nodes, groups_at}
+use Rattle.sc_live_steps.specs.calm.CalmDefinitions.{HasReplica, IsAnswered, Rows}
+use Rattle.sc_live_journals.specs.rows.RowDefinitions.{view_at}
+use Rattle.sc_live_steps.specs.orders.OrderDefinitions.{Still, IsAt}
+use Rattle.sc_live_journals.specs.scenes.SceneDefinitions.{scene_at}
+use Rattle.sc_live_journals.specs.charts.ChartDefinitions.{names_at, all_replicas, GoInTurn}
+use Rattle.sc_live_plain.specs.PlainDefinitions.{replicas_after}
 use Rattle.sc_live_answers.specs.QuietPrefixes.{IsQuietPrefix}
-use Rattle.sc_live_journals.specs.logs.Definitions.{logged_sets}
+use Rattle.sc_live_journals.specs.logs.LogDefinitions.{logged_sets}
 use Rattle.sc_live_answers.specs.SlotLeaders.{slot_leaders_at}
 use Rattle.sc_live_answers.specs.HintInvariant.{IsRisingOn}
 use Rattle.sc_live_answers.specs.CalmJournals.{AreSent}

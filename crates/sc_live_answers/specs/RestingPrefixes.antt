@@ -3,20 +3,20 @@ use Rattle.std.specs.Prelude.{◌≡◌, ℕ, ◌+◌, ◌≤◌, true, Some}
 use Rattle.sc_base.specs.Definitions.{Among, is_member}
 use Rattle.sc_node_table.specs.Values.{Draw, Base}
 use Rattle.sc_actor.specs.Definitions.{is_quiet}
-use Rattle.sc_live_orderly.specs.Definitions.{orders}
+use Rattle.sc_live_orderly.specs.OrderlyDefinitions.{orders}
 use Rattle.sc_scenario.specs.declared.scenario.scenarios.Scenario.{Scenario}
-use Rattle.sc_node_table.specs.Definitions.{ReplicaState}
-use Rattle.sc_meaning.specs.sound.Definitions.{groups_at, births, as_nodes}
-use Rattle.sc_live_steps.specs.calm.Definitions.{players, HasReplica, Rows}
-use Rattle.sc_live_journals.specs.rows.Definitions.{view_at}
-use Rattle.sc_live_steps.specs.orders.Definitions.{Still, IsAt}
-use Rattle.sc_live_journals.specs.scenes.Definitions.{scene_at, IsThere}
-use Rattle.sc_live_journals.specs.charts.Definitions.{names_at, all_replicas, GoInTurn}
-use Rattle.sc_live_plain.specs.Definitions.{IsQuietJournal, replicas_after}
+use Rattle.sc_node_table.specs.NodeDefinitions.{ReplicaState}
+use Rattle.sc_meaning.specs.sound.SoundDefinitions.{groups_at, births, as_nodes}
+use Rattle.sc_live_steps.specs.calm.CalmDefinitions.{players, HasReplica, Rows}
+use Rattle.sc_live_journals.specs.rows.RowDefinitions.{view_at}
+use Rattle.sc_live_steps.specs.orders.OrderDefinitions.{Still, IsAt}
+use Rattle.sc_live_journals.specs.scenes.SceneDefinitions.{scene_at, IsThere}
+use Rattle.sc_live_journals.specs.charts.ChartDefinitions.{names_at, all_replicas, GoInTurn}
+use Rattle.sc_live_plain.specs.PlainDefinitions.{IsQuietJournal, replicas_after}
 use Rattle.sc_live_answers.specs.QuietRanges.{AreKnown}
 use Rattle.sc_live_answers.specs.EqualReplicas.{AllMayPump}
 use Rattle.sc_live_answers.specs.Settings.{AreReachable}
-use Rattle.sc_live_journals.specs.logs.Definitions.{logged_sets}
+use Rattle.sc_live_journals.specs.logs.LogDefinitions.{logged_sets}
 use Rattle.sc_live_answers.specs.SlotLeaders.{slot_leaders_at}
 use Rattle.sc_live_answers.specs.HintInvariant.{IsRisingOn}
 use Rattle.sc_live_answers.specs.CalmJournals.{IsPrefixOf, AreSent}

@@ -2,18 +2,18 @@
 use Rattle.std.specs.Prelude.{◌≡◌, ℕ, ◌+◌, ◌≤◌, true, false, List, [], Some, ◌⊎◌}
 use Rattle.sc_base.specs.Definitions.{Among, is_member}
 use Rattle.sc_node_table.specs.Values.{Ballot, Draw, Base, OrderLine, Seat, Event, Deliver}
-use Rattle.sc_live_orderly.specs.Definitions.{AreInTime}
+use Rattle.sc_live_orderly.specs.OrderlyDefinitions.{AreInTime}
 use Rattle.sc_scenario.specs.declared.scenario.scenarios.Scenario.{Scenario}
-use Rattle.sc_node_table.specs.Definitions.{ReplicaState}
-use Rattle.sc_meaning.specs.sound.Definitions.{Player, births, as_nodes}
-use Rattle.sc_live_steps.specs.calm.Definitions.{players, HasReplica, Rows}
-use Rattle.sc_live_steps.specs.following.Definitions.{Course, Sets, SlotLeaders}
-use Rattle.sc_live_steps.specs.orders.Definitions.{Deal, Stage, Still, Asks, leads_of, IsAt, works}
+use Rattle.sc_node_table.specs.NodeDefinitions.{ReplicaState}
+use Rattle.sc_meaning.specs.sound.SoundDefinitions.{Player, births, as_nodes}
+use Rattle.sc_live_steps.specs.calm.CalmDefinitions.{players, HasReplica, Rows}
+use Rattle.sc_live_steps.specs.following.FollowingDefinitions.{Course, Sets, SlotLeaders}
+use Rattle.sc_live_steps.specs.orders.OrderDefinitions.{Deal, Stage, Still, Asks, leads_of, IsAt, works}
 use Rattle.sc_actor.specs.declared.rows.Event.TheVariants.{Told}
-use Rattle.sc_live_journals.specs.scenes.Definitions.{IsThere, AreUntouched, GivesAnOrder, GoesBy, scene_at}
+use Rattle.sc_live_journals.specs.scenes.SceneDefinitions.{IsThere, AreUntouched, GivesAnOrder, GoesBy, scene_at}
 use Rattle.sc_live_answers.specs.HintInvariant.{IsRisingOn}
-use Rattle.sc_live_journals.specs.rows.Definitions.{view_at, marks_at, IsSeat, with_event}
-use Rattle.sc_live_journals.specs.groups.Definitions.{Ends}
+use Rattle.sc_live_journals.specs.rows.RowDefinitions.{view_at, marks_at, IsSeat, with_event}
+use Rattle.sc_live_journals.specs.groups.GroupDefinitions.{Ends}
 use Rattle.sc_live_answers.specs.GroupMail.{IsSentThrough, IsSentStep}
 
 -- if the group has a replica, each of its first members has one

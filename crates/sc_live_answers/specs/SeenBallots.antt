@@ -3,12 +3,12 @@ use Rattle.std.specs.Prelude.{◌≡◌, ℕ, List, Option, Some, None}
 use Rattle.sc_base.specs.Definitions.{Each}
 use Rattle.sc_node_table.specs.Values.{Ballot, Base, Mail, Nack, Seat}
 use Rattle.sc_actor.specs.Definitions.{mails}
-use Rattle.sc_words.specs.paxos.Definitions.{IsAtLeast}
-use Rattle.sc_node_table.specs.Definitions.{ReplicaState, first_ballot}
-use Rattle.sc_meaning.specs.sound.Definitions.{Player}
-use Rattle.sc_live_steps.specs.calm.Definitions.{players, Rows}
-use Rattle.sc_live_steps.specs.following.Definitions.{Mark, Asks, Votes, Teaches, Installs, Prepares, Promises}
-use Rattle.sc_live_journals.specs.rows.Definitions.{view_at, marks_at, promise_in}
+use Rattle.sc_words.specs.paxos.PaxosDefinitions.{IsAtLeast}
+use Rattle.sc_node_table.specs.NodeDefinitions.{ReplicaState, first_ballot}
+use Rattle.sc_meaning.specs.sound.SoundDefinitions.{Player}
+use Rattle.sc_live_steps.specs.calm.CalmDefinitions.{players, Rows}
+use Rattle.sc_live_steps.specs.following.FollowingDefinitions.{Mark, Asks, Votes, Teaches, Installs, Prepares, Promises}
+use Rattle.sc_live_journals.specs.rows.RowDefinitions.{view_at, marks_at, promise_in}
 
 -- the greatest ballot that a replica saw, or the group's first where there is no replica
 abbrev pub top_in : Base → Option ReplicaState → Ballot

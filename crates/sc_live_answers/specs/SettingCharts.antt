@@ -1,13 +1,13 @@
 -- The chart of some rows counts as the setting does that the last quiet journal before them gives.
 use Rattle.std.specs.Prelude.{◌≡◌, ℕ, List, ◌∷◌, Some}
 use Rattle.sc_node_table.specs.Values.{Draw, Base, Route, OrderLine, Mail, Row}
-use Rattle.sc_node_table.specs.Definitions.{ReplicaState}
+use Rattle.sc_node_table.specs.NodeDefinitions.{ReplicaState}
 use Rattle.sc_scenario.specs.declared.scenario.scenarios.Scenario.{Scenario}
 use Rattle.sc_scenario.specs.scenario.Definitions.{IsValid}
-use Rattle.sc_meaning.specs.sound.Definitions.{as_nodes, births, Lawful}
-use Rattle.sc_live_steps.specs.calm.Definitions.{players, View as Replicas}
-use Rattle.sc_live_journals.specs.charts.Definitions.{all_replicas, names_at, chart_at, GoInTurn, quiet_prefix}
-use Rattle.sc_live_plain.specs.Definitions.{replicas_after, setting_at, AreFramesOf, IsQuietJournal, Frame}
+use Rattle.sc_meaning.specs.sound.SoundDefinitions.{as_nodes, births, Lawful}
+use Rattle.sc_live_steps.specs.calm.CalmDefinitions.{players, View as Replicas}
+use Rattle.sc_live_journals.specs.charts.ChartDefinitions.{all_replicas, names_at, chart_at, GoInTurn, quiet_prefix}
+use Rattle.sc_live_plain.specs.PlainDefinitions.{replicas_after, setting_at, AreFramesOf, IsQuietJournal, Frame}
 use Rattle.sc_live_answers.specs.RequestPremises.{CountsAs}
 use Rattle.sc_live_answers.specs.Settings.{AreAtNodes, AreReachable}
 

@@ -3,12 +3,12 @@ use Rattle.std.specs.Prelude.{◌≡◌, ℕ, ◌≤◌, true, List, ◌∷◌, 
 use Rattle.sc_base.specs.Definitions.{Among, is_member}
 use Rattle.sc_node_table.specs.Values.{Draw, Base, Route, OrderLine, Mail, Row}
 use Rattle.sc_actor.specs.Definitions.{value}
-use Rattle.sc_node_table.specs.Definitions.{ReplicaState, numbers_from}
+use Rattle.sc_node_table.specs.NodeDefinitions.{ReplicaState, numbers_from}
 use Rattle.sc_scenario.specs.declared.scenario.scenarios.Scenario.{Scenario}
 use Rattle.sc_scenario.specs.scenario.Definitions.{IsValid}
-use Rattle.sc_meaning.specs.sound.Definitions.{player_table, node_seat, as_nodes, Lawful}
-use Rattle.sc_live_steps.specs.calm.Definitions.{Ways, View as Replicas, HasReplica, StandsQuiet}
-use Rattle.sc_live_plain.specs.Definitions.{replicas_after, setting_at, AreFramesOf, IsQuietJournal, frame_at_rest, replicas_of, IsRingOf, IsLinkedSetting, Frame}
+use Rattle.sc_meaning.specs.sound.SoundDefinitions.{player_table, node_seat, as_nodes, Lawful}
+use Rattle.sc_live_steps.specs.calm.CalmDefinitions.{Ways, View as Replicas, HasReplica, StandsQuiet}
+use Rattle.sc_live_plain.specs.PlainDefinitions.{replicas_after, setting_at, AreFramesOf, IsQuietJournal, frame_at_rest, replicas_of, IsRingOf, IsLinkedSetting, Frame}
 
 -- the replicas of all nodes of the scenario after some rows, node by node
 abbrev pub nodes_replicas : Scenario → List (Row Mail OrderLine) → List ReplicaState

@@ -3,15 +3,15 @@ use Rattle.std.specs.Prelude.{◌≡◌, ℕ, true, false, List, [], ◌∷◌, 
 use Rattle.sc_node_table.specs.Values.{Seat, Deliver, Draw, Base, OrderLine, Mail, TxElsewhere}
 use Rattle.sc_actor.specs.declared.rows.Event.TheVariants.{Told}
 use Rattle.sc_base.specs.Definitions.{Each}
-use Rattle.sc_node_table.specs.Definitions.{NodeState, ReplicaState, settled}
-use Rattle.sc_live_orderly.specs.Definitions.{is_born}
+use Rattle.sc_node_table.specs.NodeDefinitions.{NodeState, ReplicaState, settled}
+use Rattle.sc_live_orderly.specs.OrderlyDefinitions.{is_born}
 use Rattle.sc_scenario.specs.declared.scenario.scenarios.Scenario.{Scenario}
-use Rattle.sc_meaning.specs.sound.Definitions.{Player, as_nodes, births}
-use Rattle.sc_live_steps.specs.following.Definitions.{Asks as AsksFor, Installs, Mark, Prepares, Promises, Teaches, Votes}
-use Rattle.sc_live_steps.specs.calm.Definitions.{players, Rows}
-use Rattle.sc_live_steps.specs.orders.Definitions.{Asks, Closes, ClosesBoth, IsAt, Ordered, Recorded, Replied, SentOn, Stage, Still, Weighs}
-use Rattle.sc_live_journals.specs.rows.Definitions.{marks_at, view_at, with_event}
-use Rattle.sc_live_journals.specs.scenes.Definitions.{IsGivenInQuiet, GoesBy, scene_at}
+use Rattle.sc_meaning.specs.sound.SoundDefinitions.{Player, as_nodes, births}
+use Rattle.sc_live_steps.specs.following.FollowingDefinitions.{Asks as AsksFor, Installs, Mark, Prepares, Promises, Teaches, Votes}
+use Rattle.sc_live_steps.specs.calm.CalmDefinitions.{players, Rows}
+use Rattle.sc_live_steps.specs.orders.OrderDefinitions.{Asks, Closes, ClosesBoth, IsAt, Ordered, Recorded, Replied, SentOn, Stage, Still, Weighs}
+use Rattle.sc_live_journals.specs.rows.RowDefinitions.{marks_at, view_at, with_event}
+use Rattle.sc_live_journals.specs.scenes.SceneDefinitions.{IsGivenInQuiet, GoesBy, scene_at}
 use Rattle.sc_live_answers.specs.LeaderVotes.{IsOrdersAlone}
 use Rattle.sc_live_answers.specs.CalmJournals.{AreSent, IsCalmJournal, IsPrefixOf}
 use Rattle.sc_live_answers.specs.RestingPrefixes.{RestsAt}

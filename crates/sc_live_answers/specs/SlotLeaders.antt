@@ -2,16 +2,16 @@
 use Rattle.std.specs.Prelude.{◌≡◌, ℕ, ◌-◌, ◌^◌, ◌<◌, ◌≤◌, nat_lt, Bool, false, List, [], ◌∷◌, ◌++◌, if◌then◌else◌, Option, Some, None, ◌⊎◌}
 use Rattle.sc_base.specs.Definitions.{Among, is_member, least_of}
 use Rattle.sc_node_table.specs.Values.{Draw, Base, Seat, OrderLine, Event}
-use Rattle.sc_live_orderly.specs.Definitions.{AreInTime, IsCalmEvent}
+use Rattle.sc_live_orderly.specs.OrderlyDefinitions.{AreInTime, IsCalmEvent}
 use Rattle.sc_scenario.specs.declared.scenario.scenarios.Scenario.{Scenario}
-use Rattle.sc_node_table.specs.Definitions.{ReplicaState, next, last_slot}
-use Rattle.sc_meaning.specs.sound.Definitions.{Ahead, Player, births, as_nodes}
-use Rattle.sc_live_steps.specs.calm.Definitions.{players}
-use Rattle.sc_law_entries.specs.logs.Definitions.{Rows}
-use Rattle.sc_live_steps.specs.following.Definitions.{members_at, Course, SlotLeaders}
-use Rattle.sc_live_journals.specs.rows.Definitions.{view_at, IsSeat}
-use Rattle.sc_live_journals.specs.logs.Definitions.{logged_sets, IsGroupOf}
-use Rattle.sc_live_journals.specs.groups.Definitions.{IsLedOn, IsWellLed, IsSentSo, IsRowOf, IsLedStep}
+use Rattle.sc_node_table.specs.NodeDefinitions.{ReplicaState, next, last_slot}
+use Rattle.sc_meaning.specs.sound.SoundDefinitions.{Ahead, Player, births, as_nodes}
+use Rattle.sc_live_steps.specs.calm.CalmDefinitions.{players}
+use Rattle.sc_law_entries.specs.logs.LogDefinitions.{Rows}
+use Rattle.sc_live_steps.specs.following.FollowingDefinitions.{members_at, Course, SlotLeaders}
+use Rattle.sc_live_journals.specs.rows.RowDefinitions.{view_at, IsSeat}
+use Rattle.sc_live_journals.specs.logs.LogDefinitions.{logged_sets, IsGroupOf}
+use Rattle.sc_live_journals.specs.groups.GroupDefinitions.{IsLedOn, IsWellLed, IsSentSo, IsRowOf, IsLedStep}
 use Rattle.sc_live_answers.specs.LedGroups.{over_at, HasLeaders}
 
 -- whether there is a replica and it has executed the slot

@@ -5,11 +5,11 @@ use Rattle.sc_node_table.specs.Values.{Op, Command, Noop, Call, Join, Leave, Spl
 use Rattle.sc_actor.specs.Definitions.{value}
 use Rattle.sc_scenario.specs.declared.scenario.scenarios.Scenario.{Scenario}
 use Rattle.sc_scenario.specs.scenario.Definitions.{IsValid}
-use Rattle.sc_meaning.specs.sound.Definitions.{Player, player_table, node_seat, system_of, as_nodes}
-use Rattle.sc_live_orderly.specs.Definitions.{IsTidy, IsOrderly, Owing, under_way, owed}
-use Rattle.sc_live_steps.specs.calm.Definitions.{waiting_one}
-use Rattle.sc_live_plain.specs.Definitions.{IsAsking, AreFarFromLast, IsLinkedSetting, Setting, IsSetting, Frame, IsFrame, IsBegun, IsPlainBody, IsPlainAt, IsDue}
-use Rattle.sc_node_table.specs.Definitions.{NodeState, ReplicaState, Place, next, last_slot, mailed, slots_ahead}
+use Rattle.sc_meaning.specs.sound.SoundDefinitions.{Player, player_table, node_seat, system_of, as_nodes}
+use Rattle.sc_live_orderly.specs.OrderlyDefinitions.{IsTidy, IsOrderly, Owing, under_way, owed}
+use Rattle.sc_live_steps.specs.calm.CalmDefinitions.{waiting_one}
+use Rattle.sc_live_plain.specs.PlainDefinitions.{IsAsking, AreFarFromLast, IsLinkedSetting, Setting, IsSetting, Frame, IsFrame, IsBegun, IsPlainBody, IsPlainAt, IsDue}
+use Rattle.sc_node_table.specs.NodeDefinitions.{NodeState, ReplicaState, Place, next, last_slot, mailed, slots_ahead}
 
 -- one token if the command is a request of client c
 abbrev pub command_token : ℕ → Command → ℕ

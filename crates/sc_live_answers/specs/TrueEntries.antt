@@ -2,12 +2,12 @@
 use Rattle.std.specs.Prelude.{ℕ}
 use Rattle.sc_base.specs.Definitions.{Among}
 use Rattle.sc_node_table.specs.Values.{Draw, Command, Noop, Call, Join, Leave, Split, Begin, Prepared, RecordVote, GiveUp, Finish, Watched, RecordWatch, Base, Flight}
-use Rattle.sc_node_table.specs.Definitions.{ReplicaState}
+use Rattle.sc_node_table.specs.NodeDefinitions.{ReplicaState}
 use Rattle.sc_scenario.specs.declared.scenario.scenarios.Scenario.{Scenario}
-use Rattle.sc_meaning.specs.sound.Definitions.{as_nodes, births}
-use Rattle.sc_live_steps.specs.calm.Definitions.{Rows}
-use Rattle.sc_live_steps.specs.orders.Definitions.{Stage}
-use Rattle.sc_live_journals.specs.scenes.Definitions.{AreUntouched, LeadsAlone}
+use Rattle.sc_meaning.specs.sound.SoundDefinitions.{as_nodes, births}
+use Rattle.sc_live_steps.specs.calm.CalmDefinitions.{Rows}
+use Rattle.sc_live_steps.specs.orders.OrderDefinitions.{Stage}
+use Rattle.sc_live_journals.specs.scenes.SceneDefinitions.{AreUntouched, LeadsAlone}
 use Rattle.sc_live_answers.specs.LeaderVotes.{IsOrdersAlone, IsTrueEntry}
 use Rattle.sc_live_answers.specs.CalmJournals.{AreSent, IsCalmJournal, IsPrefixOf}
 use Rattle.sc_live_answers.specs.RestingPrefixes.{RestsAt}

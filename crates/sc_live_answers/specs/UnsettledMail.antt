@@ -1,12 +1,12 @@
 -- Mail of a transaction which is under way since a quiet prefix finds what `IsUnsettled` says.
 use Rattle.std.specs.Prelude.{◌≡◌, ℕ, Option, Some}
 use Rattle.sc_node_table.specs.Values.{Seat, Draw, Base, Mail, TxElsewhere}
-use Rattle.sc_node_table.specs.Definitions.{NodeState, replica_of, ReplicaState}
+use Rattle.sc_node_table.specs.NodeDefinitions.{NodeState, replica_of, ReplicaState}
 use Rattle.sc_scenario.specs.declared.scenario.scenarios.Scenario.{Scenario}
-use Rattle.sc_meaning.specs.sound.Definitions.{Player, as_nodes, births}
-use Rattle.sc_live_steps.specs.calm.Definitions.{Rows}
-use Rattle.sc_live_steps.specs.orders.Definitions.{Stage}
-use Rattle.sc_live_journals.specs.scenes.Definitions.{AreUntouched, IsTaking}
+use Rattle.sc_meaning.specs.sound.SoundDefinitions.{Player, as_nodes, births}
+use Rattle.sc_live_steps.specs.calm.CalmDefinitions.{Rows}
+use Rattle.sc_live_steps.specs.orders.OrderDefinitions.{Stage}
+use Rattle.sc_live_journals.specs.scenes.SceneDefinitions.{AreUntouched, IsTaking}
 use Rattle.sc_live_answers.specs.FollowerMail.{IsUnsettled}
 use Rattle.sc_live_answers.specs.CalmJournals.{IsCalmJournal}
 use Rattle.sc_live_answers.specs.RestingPrefixes.{RestsAt}

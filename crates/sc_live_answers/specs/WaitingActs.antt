@@ -4,11 +4,11 @@ use Rattle.sc_node_table.specs.Values.{Draw, Base, OrderLine, Seat, Deliver}
 use Rattle.sc_actor.specs.Definitions.{is_quiet}
 use Rattle.sc_actor.specs.declared.rows.Event.TheVariants.{Told}
 use Rattle.sc_scenario.specs.declared.scenario.scenarios.Scenario.{Scenario}
-use Rattle.sc_node_table.specs.Definitions.{ReplicaState}
+use Rattle.sc_node_table.specs.NodeDefinitions.{ReplicaState}
 use Rattle.sc_live_steps.specs.pump.Waiting.{HasNoneWaiting}
-use Rattle.sc_meaning.specs.sound.Definitions.{Player, births, as_nodes}
-use Rattle.sc_live_steps.specs.calm.Definitions.{players, Rows}
-use Rattle.sc_live_journals.specs.rows.Definitions.{view_at, IsSeat, with_event}
+use Rattle.sc_meaning.specs.sound.SoundDefinitions.{Player, births, as_nodes}
+use Rattle.sc_live_steps.specs.calm.CalmDefinitions.{players, Rows}
+use Rattle.sc_live_journals.specs.rows.RowDefinitions.{view_at, IsSeat, with_event}
 use Rattle.sc_live_answers.specs.CalmJournals.{IsCalmJournal, IsPrefixOf, AreSent, ContinuesBy}
 use Rattle.sc_live_answers.specs.RestingPrefixes.{RestsAt}
 

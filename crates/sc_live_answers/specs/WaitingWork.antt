@@ -5,14 +5,14 @@ use Rattle.sc_base.specs.Definitions.{same_draw, Each}
 use Rattle.sc_node_table.specs.Values.{Draw, Op, OrderLine, AnswerBody, Mail, Request, Answer, Seat, Deliver}
 use Rattle.sc_actor.specs.Definitions.{mails, numbered, is_quiet}
 use Rattle.sc_actor.specs.declared.rows.Event.TheVariants.{Told}
-use Rattle.sc_live_orderly.specs.Definitions.{is_born, rest, AreInTime}
+use Rattle.sc_live_orderly.specs.OrderlyDefinitions.{is_born, rest, AreInTime}
 use Rattle.sc_scenario.specs.scenario.Definitions.{IsValid}
 use Rattle.sc_scenario.specs.declared.scenario.scenarios.Scenario.{Scenario}
-use Rattle.sc_node_table.specs.Definitions.{NodeState, replica_of, group_of_order, ReplicaState, next, last_slot, mailed}
-use Rattle.sc_meaning.specs.sound.Definitions.{Player, births, as_nodes, Lawful}
-use Rattle.sc_live_steps.specs.calm.Definitions.{players, IsAtRest, Rows}
-use Rattle.sc_live_journals.specs.rows.Definitions.{view_at, IsSeat, with_event}
-use Rattle.sc_live_journals.specs.scenes.Definitions.{IsThere, IsNowhere, IsTaking}
+use Rattle.sc_node_table.specs.NodeDefinitions.{NodeState, replica_of, group_of_order, ReplicaState, next, last_slot, mailed}
+use Rattle.sc_meaning.specs.sound.SoundDefinitions.{Player, births, as_nodes, Lawful}
+use Rattle.sc_live_steps.specs.calm.CalmDefinitions.{players, IsAtRest, Rows}
+use Rattle.sc_live_journals.specs.rows.RowDefinitions.{view_at, IsSeat, with_event}
+use Rattle.sc_live_journals.specs.scenes.SceneDefinitions.{IsThere, IsNowhere, IsTaking}
 use Rattle.sc_live_answers.specs.GuidedGroups.{IsNamedGuide, WaitsForFlights}
 use Rattle.sc_live_answers.specs.OrderRowPremises.{MeetsOrder}
 use Rattle.sc_live_answers.specs.LeaderVotes.{IsOrdersAlone}

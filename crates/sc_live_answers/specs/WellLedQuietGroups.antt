@@ -3,18 +3,18 @@ use Rattle.std.specs.Prelude.{◌≡◌, ℕ, ◌^◌, ◌<◌, ◌≤◌, true,
 use Rattle.sc_base.specs.Definitions.{Each, is_member}
 use Rattle.sc_node_table.specs.Values.{Base, Free, Route}
 use Rattle.sc_actor.specs.Definitions.{is_quiet}
-use Rattle.sc_live_orderly.specs.Definitions.{is_born, AreInTime}
-use Rattle.sc_words.specs.paxos.Definitions.{IsAtLeast}
+use Rattle.sc_live_orderly.specs.OrderlyDefinitions.{is_born, AreInTime}
+use Rattle.sc_words.specs.paxos.PaxosDefinitions.{IsAtLeast}
 use Rattle.sc_scenario.specs.declared.scenario.scenarios.Scenario.{Scenario}
-use Rattle.sc_node_table.specs.Definitions.{ReplicaState}
-use Rattle.sc_meaning.specs.sound.Definitions.{births, as_nodes}
-use Rattle.sc_live_steps.specs.calm.Definitions.{players, MayPump, View, HasReplica, IsAtRest, IsLinked, StandsQuiet, IsGoneQuiet}
-use Rattle.sc_live_plain.specs.Definitions.{IsKept}
-use Rattle.sc_law_entries.specs.logs.Definitions.{Rows}
-use Rattle.sc_live_steps.specs.following.Definitions.{members_at, Course, SlotLeaders}
-use Rattle.sc_live_journals.specs.rows.Definitions.{view_at, marks_at}
-use Rattle.sc_live_journals.specs.logs.Definitions.{logged_sets, IsGroupOf}
-use Rattle.sc_live_journals.specs.groups.Definitions.{IsWellLed, AreTaughtAt, HasOneLog}
+use Rattle.sc_node_table.specs.NodeDefinitions.{ReplicaState}
+use Rattle.sc_meaning.specs.sound.SoundDefinitions.{births, as_nodes}
+use Rattle.sc_live_steps.specs.calm.CalmDefinitions.{players, MayPump, View, HasReplica, IsAtRest, IsLinked, StandsQuiet, IsGoneQuiet}
+use Rattle.sc_live_plain.specs.PlainDefinitions.{IsKept}
+use Rattle.sc_law_entries.specs.logs.LogDefinitions.{Rows}
+use Rattle.sc_live_steps.specs.following.FollowingDefinitions.{members_at, Course, SlotLeaders}
+use Rattle.sc_live_journals.specs.rows.RowDefinitions.{view_at, marks_at}
+use Rattle.sc_live_journals.specs.logs.LogDefinitions.{logged_sets, IsGroupOf}
+use Rattle.sc_live_journals.specs.groups.GroupDefinitions.{IsWellLed, AreTaughtAt, HasOneLog}
 use Rattle.sc_live_answers.specs.LedGroups.{over_at}
 use Rattle.sc_live_answers.specs.LogStates.{state_at}
 

@@ -4,13 +4,13 @@ use Rattle.sc_base.specs.Definitions.{Among}
 use Rattle.sc_node_table.specs.Values.{Draw, Base, OrderLine, AnswerBody, Mail, Answer, Seat, Deliver}
 use Rattle.sc_actor.specs.Definitions.{mails, numbered, is_quiet}
 use Rattle.sc_actor.specs.declared.rows.Event.TheVariants.{Told}
-use Rattle.sc_live_orderly.specs.Definitions.{AreInTime}
+use Rattle.sc_live_orderly.specs.OrderlyDefinitions.{AreInTime}
 use Rattle.sc_scenario.specs.declared.scenario.scenarios.Scenario.{Scenario}
-use Rattle.sc_meaning.specs.sound.Definitions.{groups_at, Player, births, as_nodes}
-use Rattle.sc_live_steps.specs.calm.Definitions.{players, Rows}
-use Rattle.sc_live_journals.specs.rows.Definitions.{IsSeat, with_event}
-use Rattle.sc_live_steps.specs.orders.Definitions.{Stage}
-use Rattle.sc_live_journals.specs.scenes.Definitions.{IsNowhere, AreUntouched}
+use Rattle.sc_meaning.specs.sound.SoundDefinitions.{groups_at, Player, births, as_nodes}
+use Rattle.sc_live_steps.specs.calm.CalmDefinitions.{players, Rows}
+use Rattle.sc_live_journals.specs.rows.RowDefinitions.{IsSeat, with_event}
+use Rattle.sc_live_steps.specs.orders.OrderDefinitions.{Stage}
+use Rattle.sc_live_journals.specs.scenes.SceneDefinitions.{IsNowhere, AreUntouched}
 use Rattle.sc_live_answers.specs.CalmJournals.{IsCalmJournal, ContinuesBy}
 use Rattle.sc_live_answers.specs.OrderUnderWay.{IsYoungAt}
 

@@ -3,18 +3,18 @@ use Rattle.std.proofs.Common.{◌≡◌, ℕ, ◌<◌, ◌≤◌, Bool, false, L
 use Rattle.std.specs.Option.{option_map}
 use Rattle.sc_base.specs.Definitions.{Among, Each, Drawer, same_draw}
 use Rattle.sc_base.proofs.Lemmas.{draw_is}
-use Rattle.sc_words.proofs.PaxosProofs.Lemmas.{Each-among, Each-append, find_found, Each-weaker}
-use Rattle.sc_law_groups.proofs.GroupProofs.Lemmas.{number_among}
+use Rattle.sc_words.proofs.PaxosProofs.PaxosLemmas.{Each-among, Each-append, find_found, Each-weaker}
+use Rattle.sc_law_groups.proofs.GroupProofs.GroupLemmas.{number_among}
 use Rattle.sc_node_table.specs.Values.{Event, Deliver, Drop, Again, Crash, Input, Got, Base, OrderLine, Mail, Ask, Node, Client}
 use Rattle.sc_actor.specs.declared.rows.Event.TheVariants.{Tick as TickEvent, Go as GoEvent, Told as ToldEvent}
 use Rattle.sc_actor.specs.declared.rows.Input.TheVariants.{Tick, Go, Told as ToldInput}
 use Rattle.sc_actor.specs.Definitions.{acted, input_of}
-use Rattle.sc_client_table.specs.table.Definitions.{Client as ClientState}
+use Rattle.sc_client_table.specs.table.TableDefinitions.{Client as ClientState}
 use Rattle.sc_client_table.proofs.TableProofs.TurnLemmas.{sends_in_turn}
-use Rattle.sc_node_table.specs.Definitions.{NodeState, ReplicaState, Place, name_of, group_of_mail, mailed, ticked, tick_row, next}
+use Rattle.sc_node_table.specs.NodeDefinitions.{NodeState, ReplicaState, Place, name_of, group_of_mail, mailed, ticked, tick_row, next}
 use Rattle.sc_scenario.specs.declared.scenario.scenarios.Scenario.{Scenario}
 use Rattle.sc_scenario.specs.scenario.Definitions.{IsBounded}
-use Rattle.sc_meaning.specs.sound.Definitions.{Player, player_table}
+use Rattle.sc_meaning.specs.sound.SoundDefinitions.{Player, player_table}
 use Rattle.sc_live_healed.proofs.FixedWalks.{IsFixedPlace, IsMember, IsSaid}
 use Rattle.sc_live_healed.proofs.FixedNodes.{AreFresh, MayTake, IsOne, into, name_one}
 use Rattle.sc_live_healed.proofs.FixedBirths.{groups_fresh}
@@ -25,7 +25,7 @@ use Rattle.sc_live_healed.proofs.NearSlots.{StaysNear}
 use Rattle.sc_live_healed.proofs.NodeViews.{mail_view}
 use Rattle.sc_live_healed.proofs.NodeTicks.{OneNamed, none_found, found_none, tick_none, others_say, one_of_all_ticks}
 use Rattle.sc_live_healed.proofs.DeliveredViews.{player_view}
-use Rattle.sc_live_healed.specs.Definitions.{IsFixedMail, IsFixedNode}
+use Rattle.sc_live_healed.specs.HealedDefinitions.{IsFixedMail, IsFixedNode}
 
 -- both hold of each
 each_both : {X : Type 0} (P Q : X → Type 0) (xs : List X) → Each P xs → Each Q xs → Each (λ x. P x × Q x) xs

@@ -4,12 +4,12 @@ use Rattle.std.proofs.lemmas.Bool.{cond_both, leb-true}
 use Rattle.sc_base.specs.Definitions.{Among}
 use Rattle.sc_node_table.specs.Values.{Ballot, Draw, Base, Command, Mail, Accepted, Nack, Install, AcceptAnswer}
 use Rattle.sc_words.specs.declared.paxos.answers.AcceptAnswer.TheVariants as Votes
-use Rattle.sc_words.specs.paxos.Definitions.{below, AcceptorState, after_accept, may_accept}
-use Rattle.sc_group_table.specs.machine.Definitions.{base_of}
-use Rattle.sc_node_table.specs.Definitions.{stopped, ended, saw, install_to, sent, ReplicaState, Place, name_of, next, accepted_to, took, accept_row}
-use Rattle.sc_law_walks.proofs.Lemmas.{either_way}
-use Rattle.sc_live_plain.proofs.Lemmas.{last_among}
-use Rattle.sc_live_healed.specs.Definitions.{mail_between, IsAnswered, Accepts, Refuses, Installs, IsInBounds}
+use Rattle.sc_words.specs.paxos.PaxosDefinitions.{below, AcceptorState, after_accept, may_accept}
+use Rattle.sc_group_table.specs.machine.MachineDefinitions.{base_of}
+use Rattle.sc_node_table.specs.NodeDefinitions.{stopped, ended, saw, install_to, sent, ReplicaState, Place, name_of, next, accepted_to, took, accept_row}
+use Rattle.sc_law_walks.proofs.WalkLemmas.{either_way}
+use Rattle.sc_live_plain.proofs.PlainLemmas.{last_among}
+use Rattle.sc_live_healed.specs.HealedDefinitions.{mail_between, IsAnswered, Accepts, Refuses, Installs, IsInBounds}
 
 -- a ballot that is seen leaves what answers an Accept
 pub record IsSameVoter (before after : ReplicaState) : Type 0 where

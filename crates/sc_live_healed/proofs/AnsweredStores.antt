@@ -4,21 +4,21 @@ use Rattle.std.specs.List.{flat_map, list_any}
 use Rattle.std.proofs.lemmas.Bool.{cases_Bool, ne_eqb, and_from, le-leb}
 use Rattle.std.proofs.lemmas.List.Folds.{list_any-append}
 use Rattle.sc_base.specs.Definitions.{Among, Each, client_actor}
-use Rattle.sc_words.proofs.PaxosProofs.Lemmas.{Each-among, Each-from_All, find_found}
+use Rattle.sc_words.proofs.PaxosProofs.PaxosLemmas.{Each-among, Each-from_All, find_found}
 use Rattle.sc_node_table.specs.Values.{Seat, Base, OrderLine, Mail, Node}
 use Rattle.sc_actor.specs.declared.schedules.Line.{Line}
 use Rattle.sc_actor.specs.declared.schedules.Line.TheVariants.{Crash as CrashLine}
 use Rattle.sc_actor.specs.Definitions.{value, is_quiet, has_crashed, has_started, unsettled, tasks_of, System, IsLawful, IsWhole}
 use Rattle.sc_actor.proofs.Lemmas.{lawful-prefix, Stands}
-use Rattle.sc_node_table.specs.Definitions.{NodeState, ReplicaState}
+use Rattle.sc_node_table.specs.NodeDefinitions.{NodeState, ReplicaState}
 use Rattle.sc_scenario.specs.declared.scenario.scenarios.Scenario.{Scenario}
 use Rattle.sc_scenario.specs.declared.scenario.scenarios.Asks.{Asks as Requests}
 use Rattle.sc_scenario.specs.declared.scenario.scenarios.SchedLine.{SchedLine}
 use Rattle.sc_scenario.specs.declared.scenario.scenarios.SchedLine.TheVariants.{Go, Deliver, Drop, Again, Tick, Crash, Told, Settle, Free, Storm}
 use Rattle.sc_scenario.specs.scenario.Definitions.{IsValid, IsBounded, IsBoundedLine, IsBoundedClient}
 use Rattle.sc_scenario.proofs.ScenarioProofs.Lemmas.{valid_scenarios_are_bounded}
-use Rattle.sc_meaning.specs.sound.Definitions.{Lawful, Whole, Player, as_nodes, births, line_of, player_table, schedule, system_of}
-use Rattle.sc_live_orderly.specs.Definitions.{Ticks, Starts, HasTurns, IsTurn}
+use Rattle.sc_meaning.specs.sound.SoundDefinitions.{Lawful, Whole, Player, as_nodes, births, line_of, player_table, schedule, system_of}
+use Rattle.sc_live_orderly.specs.OrderlyDefinitions.{Ticks, Starts, HasTurns, IsTurn}
 use Rattle.sc_live_orderly.proofs.PassedTasks.{flat_append}
 use Rattle.sc_live_orderly.proofs.TakenTurns.{turns_taken}
 use Rattle.sc_live_healed.proofs.FixedJournals.{Rows, IsOf, AreWithoutOrders}
@@ -30,7 +30,7 @@ use Rattle.sc_live_healed.proofs.RowsWithoutOrders.{Spares, rows_untold, rows_sp
 use Rattle.sc_live_orderly.proofs.TakenTurns.{turns_from}
 use Rattle.sc_live_healed.proofs.CrashedNodes.{has_crash, line_crashes, asks_spare}
 use Rattle.sc_live_healed.proofs.AnsweredTurns.{turn_answers}
-use Rattle.sc_live_healed.specs.Definitions.{crashes, lives, HasLivingMajorities, NodeTurn, ClientTurn, node_lines, client_lines, IsHealed, IsIdle, IsAtEnd, IsKicked, HasReplies, AskedACrashedNode, HealedStoresAnswer}
+use Rattle.sc_live_healed.specs.HealedDefinitions.{crashes, lives, HasLivingMajorities, NodeTurn, ClientTurn, node_lines, client_lines, IsHealed, IsIdle, IsAtEnd, IsKicked, HasReplies, AskedACrashedNode, HealedStoresAnswer}
 
 -- the lines up to some turns of clients, and those of the other turns
 lines_apart : (before : List SchedLine) (most : ℕ) (sweep : List NodeTurn) (done rest : List ClientTurn) → lines_to before most sweep (done ++ rest) ≡ lines_to before most sweep done ++ flat_map client_lines rest

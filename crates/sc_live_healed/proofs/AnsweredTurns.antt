@@ -3,24 +3,24 @@ use Rattle.std.proofs.Common.{◌≡◌, ℕ, eqb, true, false, true≢false, co
 use Rattle.std.specs.Option.{option_map}
 use Rattle.std.proofs.lemmas.Bool.{cond_both, cond-false}
 use Rattle.sc_base.specs.Definitions.{Among, client_actor, same_draw}
-use Rattle.sc_words.proofs.PaxosProofs.Lemmas.{Each-among, find_found}
+use Rattle.sc_words.proofs.PaxosProofs.PaxosLemmas.{Each-among, find_found}
 use Rattle.sc_paxos_law.proofs.Lemmas.{Among-right}
 use Rattle.sc_node_table.specs.Values.{Seat, Row, Event, Op, Base, Command, Flight, OrderLine, Input, Mail, Node, Client}
 use Rattle.sc_actor.specs.declared.rows.Event.TheVariants.{Tick as TickEvent, Go as GoEvent}
 use Rattle.sc_actor.specs.Definitions.{acted, input_of, replay, value, has_started, has_crashed, is_quiet, acts, row_of, line_row}
-use Rattle.sc_node_table.specs.Definitions.{ReplicaState, name_of, numbers_from}
-use Rattle.sc_client_table.specs.table.Definitions.{Client as ClientState}
+use Rattle.sc_node_table.specs.NodeDefinitions.{ReplicaState, name_of, numbers_from}
+use Rattle.sc_client_table.specs.table.TableDefinitions.{Client as ClientState}
 use Rattle.sc_client_table.proofs.TableProofs.TurnLemmas.{sends_in_turn}
 use Rattle.sc_scenario.specs.declared.scenario.scenarios.Scenario.{Scenario}
 use Rattle.sc_scenario.specs.declared.scenario.scenarios.Asks.{Asks as Requests}
 use Rattle.sc_scenario.specs.scenario.Definitions.{IsBounded}
-use Rattle.sc_meaning.specs.sound.Definitions.{Player, Lawful, as_nodes, births, client_seat, client_seats, node_seat, player_table, route_of, kept_replies, replies_of}
+use Rattle.sc_meaning.specs.sound.SoundDefinitions.{Player, Lawful, as_nodes, births, client_seat, client_seats, node_seat, player_table, route_of, kept_replies, replies_of}
 use Rattle.sc_law_groups.proofs.WholeProofs.Seats.{all_apart}
-use Rattle.sc_live_orderly.specs.Definitions.{Kick, Ticks, Starts, Turn, IsTurn, AreDelivered, kick_line}
+use Rattle.sc_live_orderly.specs.OrderlyDefinitions.{Kick, Ticks, Starts, Turn, IsTurn, AreDelivered, kick_line}
 use Rattle.sc_live_orderly.specs.Turns.{as_list}
 use Rattle.sc_live_orderly.proofs.PendingMail.{none_pending}
 use Rattle.sc_live_orderly.proofs.SeatSums.{seat_found}
-use Rattle.sc_live_healed.specs.Definitions.{IsIdle, HasReplies, AskedACrashedNode}
+use Rattle.sc_live_healed.specs.HealedDefinitions.{IsIdle, HasReplies, AskedACrashedNode}
 use Rattle.sc_live_healed.proofs.FixedJournals.{Rows, IsOf, IsFixedJournal, AreWithoutOrders}
 use Rattle.sc_live_healed.proofs.AskingJournals.{IsAskingPlayer, IsAskingAt}
 use Rattle.sc_live_healed.proofs.TakenRequests.{IsHeld, Queued, Flying, Ready}

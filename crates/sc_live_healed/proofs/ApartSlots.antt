@@ -4,10 +4,10 @@ use Rattle.std.specs.Option.{option_map}
 use Rattle.std.proofs.lemmas.Bool.{cond_both, cases_eq, cases_lt, eqb-true, eq-eqb, ne_eqb}
 use Rattle.sc_base.specs.Definitions.{Among, same_ballot, is_majority}
 use Rattle.sc_node_table.specs.Values.{Ballot, Command, Flight, Counted, Chosen, NotYet}
-use Rattle.sc_words.specs.paxos.Definitions.{LeaderState, flight_at, without_flight, without_flight_at, with_flight_at, with_voters, counted, vote_at, voters_after, kept_voters}
-use Rattle.sc_words.proofs.PaxosProofs.Lemmas.{find_found}
-use Rattle.sc_node_table.specs.Definitions.{ReplicaState, next, taken_at, at_slot, with_slot, without_slot, either}
-use Rattle.sc_live_plain.specs.Definitions.{takers}
+use Rattle.sc_words.specs.paxos.PaxosDefinitions.{LeaderState, flight_at, without_flight, without_flight_at, with_flight_at, with_voters, counted, vote_at, voters_after, kept_voters}
+use Rattle.sc_words.proofs.PaxosProofs.PaxosLemmas.{find_found}
+use Rattle.sc_node_table.specs.NodeDefinitions.{ReplicaState, next, taken_at, at_slot, with_slot, without_slot, either}
+use Rattle.sc_live_plain.specs.PlainDefinitions.{takers}
 use Rattle.sc_live_plain.proofs.PlainRowsProofs.SlotCounts.{count-push, one_if, one_yes, one_no, one_if_most, entries_at, at_nothing, out_here, out_other, out_none, out_among, with_count, with_it, with_among, find_some}
 use Rattle.sc_live_plain.proofs.LeadersProofs.LeadingReplicas.{flights_at}
 use Rattle.sc_live_plain.proofs.LeadersProofs.Flights.{only_flight, voted_count, voted_value}

@@ -3,8 +3,8 @@ use Rattle.std.proofs.Common.{◌≡◌, ℕ, ◌≤◌, ◌||◌, Bool, true, f
 use Rattle.std.proofs.lemmas.Bool.{cond_both, eq-eqb}
 use Rattle.sc_node_table.specs.Values.{Draw, OrderLine, AnswerBody, Input, Got, Mail, MailBody, Answer, Value}
 use Rattle.sc_actor.specs.declared.rows.Input.TheVariants.{Tick, Go, Told}
-use Rattle.sc_client_table.specs.table.Definitions.{Client, ClientStep, waits_for, answer_taken, got, client_ticked, table}
-use Rattle.sc_live_plain.specs.Definitions.{IsResting}
+use Rattle.sc_client_table.specs.table.TableDefinitions.{Client, ClientStep, waits_for, answer_taken, got, client_ticked, table}
+use Rattle.sc_live_plain.specs.PlainDefinitions.{IsResting}
 use Rattle.sc_client_table.proofs.TableProofs.TurnLemmas.{waited_for}
 use Rattle.sc_live_healed.specs.AskingClients.{IsAskingOn, IsAskingClient}
 use Rattle.sc_live_healed.proofs.AskingClients.{Asks, Ends, Ignores, Does, AsksOn, AsksNext, EndsNow, TakesNoNotice, turned, begun_on, answered_on}

@@ -10,11 +10,11 @@ use Rattle.sc_base.specs.Definitions.{Among, key_of, same_draw, pos_of}
 use Rattle.sc_base.proofs.Lemmas.{draw_is, same_name}
 use Rattle.sc_node_table.specs.Values.{Draw, Op, Reply, AnswerBody, Value, NotLeader, NotMine, Gone, Stale, Mail, Answer}
 use Rattle.sc_client_table.specs.declared.lookup.ways.Way.{Way}
-use Rattle.sc_client_table.specs.lookup.Definitions.{KnownGroups, way_to, learnt_from_not_mine, learnt_from_gone, changed, target_of}
+use Rattle.sc_client_table.specs.lookup.LookupDefinitions.{KnownGroups, way_to, learnt_from_not_mine, learnt_from_gone, changed, target_of}
 use Rattle.sc_client_table.proofs.LookupProofs.KnownLemmas.{set_value-known, length-changed, some_learnt}
-use Rattle.sc_client_table.specs.table.Definitions.{Client, request_at, waiting_request, ClientStep, asked_of, sent_to, sent_where, chosen_for, request_sent, started, was_asked, redirected, answer_taken, request_of, turned_on}
+use Rattle.sc_client_table.specs.table.TableDefinitions.{Client, request_at, waiting_request, ClientStep, asked_of, sent_to, sent_where, chosen_for, request_sent, started, was_asked, redirected, answer_taken, request_of, turned_on}
 use Rattle.sc_live_plain.proofs.PlainProofs.PlainKnownGroups.{one_chosen, chosen_is}
-use Rattle.sc_law_walks.proofs.Lemmas.{some_there}
+use Rattle.sc_law_walks.proofs.WalkLemmas.{some_there}
 use Rattle.sc_live_healed.specs.AskingClients.{IsAskingOn, IsAskingClient}
 
 -- ---- groups that are known

@@ -13,10 +13,10 @@ use Rattle.sc_actor.specs.declared.rows.Input.TheVariants.{Tick, Go, Told}
 use Rattle.sc_actor.specs.Definitions.{mails, numbered, acted, input_of, value, has_started, is_go, IsStep, IsOpen, IsLoose}
 use Rattle.sc_actor.proofs.Lemmas.{lawful-induction, value-snoc}
 use Rattle.sc_scenario.specs.declared.scenario.scenarios.Scenario.{Scenario}
-use Rattle.sc_client_table.specs.table.Definitions.{Client as ClientState, table, request_at, InTurn, SendsWaiting, Waits, Begins, TakesReply}
+use Rattle.sc_client_table.specs.table.TableDefinitions.{Client as ClientState, table, request_at, InTurn, SendsWaiting, Waits, Begins, TakesReply}
 use Rattle.sc_client_table.proofs.TableProofs.TurnLemmas.{sends_in_turn}
-use Rattle.sc_meaning.specs.sound.Definitions.{Lawful, Player, as_nodes, births, player_table, schedule, system_of, issues, asks_for, issued_from}
-use Rattle.sc_live_plain.specs.Definitions.{begun_ones, waiting_ones}
+use Rattle.sc_meaning.specs.sound.SoundDefinitions.{Lawful, Player, as_nodes, births, player_table, schedule, system_of, issues, asks_for, issued_from}
+use Rattle.sc_live_plain.specs.PlainDefinitions.{begun_ones, waiting_ones}
 use Rattle.sc_live_healed.proofs.SeatBirths.{seat_born}
 use Rattle.sc_live_healed.proofs.FixedJournals.{Rows, IsOf}
 use Rattle.sc_live_healed.specs.AskingClients.{IsAskingClient}

@@ -3,18 +3,18 @@ use Rattle.std.proofs.Common.{◌≡◌, ℕ, zero, suc, ◌≤◌, ◌&&◌, na
 use Rattle.std.specs.Option.{option_map}
 use Rattle.std.proofs.lemmas.Bool.{cond_both, cond-true, cond-false, cases_Bool, eqb-true, eq-eqb, leb-true}
 use Rattle.sc_base.specs.Definitions.{Among, Each, client_actor, most_nodes}
-use Rattle.sc_words.proofs.PaxosProofs.Lemmas.{Each-among, Each-append, Each-filter, Each-weaker, Each-from_All, find_found}
+use Rattle.sc_words.proofs.PaxosProofs.PaxosLemmas.{Each-among, Each-append, Each-filter, Each-weaker, Each-from_All, find_found}
 use Rattle.sc_paxos_law.proofs.Lemmas.{place_among}
 use Rattle.sc_node_table.specs.Values.{Draw, Seat, Row, Event, Deliver, Input, Got, Base, OrderLine, Mail, Install, Node, Client}
 use Rattle.sc_actor.specs.Definitions.{System, mails, numbered, acted, input_of, replay, value, may_get, numbers_of}
 use Rattle.sc_actor.proofs.Lemmas.{value-snoc, find-who}
-use Rattle.sc_client_table.specs.table.Definitions.{Client as ClientState, table}
+use Rattle.sc_client_table.specs.table.TableDefinitions.{Client as ClientState, table}
 use Rattle.sc_client_table.proofs.TableProofs.TurnLemmas.{sends_in_turn}
-use Rattle.sc_node_table.specs.Definitions.{NodeState, ReplicaState, replica_of, node_table, group_of_mail, is_node, last_slot, numbers_from}
+use Rattle.sc_node_table.specs.NodeDefinitions.{NodeState, ReplicaState, replica_of, node_table, group_of_mail, is_node, last_slot, numbers_from}
 use Rattle.sc_scenario.specs.declared.scenario.scenarios.Scenario.{Scenario}
 use Rattle.sc_scenario.specs.declared.scenario.scenarios.Asks.{Asks as Requests}
 use Rattle.sc_scenario.specs.scenario.Definitions.{IsBounded, IsBoundedClient}
-use Rattle.sc_meaning.specs.sound.Definitions.{Player, as_nodes, births, client_seat, client_seats, node_seat, player_table, route_of, system_of}
+use Rattle.sc_meaning.specs.sound.SoundDefinitions.{Player, as_nodes, births, client_seat, client_seats, node_seat, player_table, route_of, system_of}
 use Rattle.sc_live_orderly.specs.Turns.{TakesLowest}
 use Rattle.sc_live_healed.proofs.FixedWalks.{IsFresh, IsMember, IsFixedPlace}
 use Rattle.sc_live_healed.proofs.FixedNodes.{AreFresh, group_is, to_member}
@@ -22,7 +22,7 @@ use Rattle.sc_live_healed.proofs.FixedBirths.{groups_fresh}
 use Rattle.sc_live_healed.proofs.FixedJournals.{Rows, IsOf, IsFixedPlayer, IsFixedJournal}
 use Rattle.sc_live_healed.proofs.NodeViews.{TakesMail, PassesMail, mail_view}
 use Rattle.sc_live_healed.proofs.PollTurns.{Replicas, IsOfGroup, IsDelivered}
-use Rattle.sc_live_healed.specs.Definitions.{IsFixedBody, IsFixedMail, IsFixedNode, IsAnswerKind}
+use Rattle.sc_live_healed.specs.HealedDefinitions.{IsFixedBody, IsFixedMail, IsFixedNode, IsAnswerKind}
 
 module _ (words : ℕ → ℕ → ℕ × ℕ) (scenario : Scenario) (bounded : IsBounded scenario) (base : Base) (among : Among base scenario.groups) where
   abbrev pub s : System Player Mail OrderLine

@@ -1,12 +1,12 @@
 -- What an entry of a group that is not reshaped leaves: the replica with one more entry, whose slot is cleared; and of a counted one the answer and the Learns.
 use Rattle.std.proofs.Common.{◌≡◌, ℕ, Bool, true, false, List, Option, Some, None, refl, ◌∙◌, ap}
 use Rattle.sc_node_table.specs.Values.{Base, Core, Command, Effect, Mail, Learn, OrderResult}
-use Rattle.sc_group_table.specs.machine.Definitions.{Group, applied}
-use Rattle.sc_node_table.specs.Definitions.{ReplicaState, Place, name_of, next, members, entered, answer_of, order_result, answered_or_put_back, effect_reported, announced, before_of, spoken, learnt_to, welcomed, welcomed_all, sent_others, landed, flying}
-use Rattle.sc_law_walks.proofs.Lemmas.{entered_group, entered_place, lost_counted}
+use Rattle.sc_group_table.specs.machine.MachineDefinitions.{Group, applied}
+use Rattle.sc_node_table.specs.NodeDefinitions.{ReplicaState, Place, name_of, next, members, entered, answer_of, order_result, answered_or_put_back, effect_reported, announced, before_of, spoken, learnt_to, welcomed, welcomed_all, sent_others, landed, flying}
+use Rattle.sc_law_walks.proofs.WalkLemmas.{entered_group, entered_place, lost_counted}
 use Rattle.sc_law_walks.proofs.Places.{cleared}
-use Rattle.sc_live_healed.specs.Definitions.{IsFixedCommand}
-use Rattle.sc_live_plain.proofs.Lemmas.{none_new}
+use Rattle.sc_live_healed.specs.HealedDefinitions.{IsFixedCommand}
+use Rattle.sc_live_plain.proofs.PlainLemmas.{none_new}
 use Rattle.sc_live_healed.proofs.FixedEntries.{no_result, no_speech}
 use Rattle.sc_live_healed.proofs.FixedParts.{applied_core}
 

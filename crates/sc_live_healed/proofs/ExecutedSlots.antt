@@ -5,18 +5,18 @@ use Rattle.std.specs.Option.{option_map}
 use Rattle.std.proofs.lemmas.Bool.{cond-true, cases_lt, cases_eq, ne_eqb}
 use Rattle.sc_base.specs.Definitions.{Each, is_member, least_of}
 use Rattle.sc_node_table.specs.Values.{Ballot, Noted, Op, Base, Command, Noop, Call, Core, Lock, Free, Effect, Route, AnswerBody, Mail, Learn, Flight}
-use Rattle.sc_words.specs.ideal.Definitions.{key_of, holds_key}
+use Rattle.sc_words.specs.ideal.IdealDefinitions.{key_of, holds_key}
 use Rattle.sc_words.specs.declared.commands.effects.Effect.TheVariants as Was
-use Rattle.sc_words.specs.paxos.Definitions.{flight_at, without_flight}
-use Rattle.sc_words.proofs.PaxosProofs.Lemmas.{Each-among, find_found}
-use Rattle.sc_group_table.specs.machine.Definitions.{Group, served_by_note, called, applied}
+use Rattle.sc_words.specs.paxos.PaxosDefinitions.{flight_at, without_flight}
+use Rattle.sc_words.proofs.PaxosProofs.PaxosLemmas.{Each-among, find_found}
+use Rattle.sc_group_table.specs.machine.MachineDefinitions.{Group, served_by_note, called, applied}
 use Rattle.sc_node_table.specs.declared.Before.{Before}
-use Rattle.sc_node_table.specs.Definitions.{stopped, entered, answer_of, answered_or_put_back, effect_reported, announced, learnt_to, welcomed, slot_lost, landed, left_gone, left, looked_for, looked, executed_one, welcomed_all, answer_to, sent_others, put_back, queued_number, request_before, is_request_of, without_request, same_command, ReplicaState, Place, name_of, next, members, flying, forgotten, rest_of, without_slot, before_of, spoken, spoken_mails, begun_reported, went_on}
-use Rattle.sc_law_walks.proofs.Lemmas.{either_way, cleared, entered_next}
-use Rattle.sc_live_plain.specs.Definitions.{takers}
-use Rattle.sc_live_plain.proofs.Lemmas.{one_if_most, entries_at, out_none, out_here, out_other, standing, range_before, range_less, flights_at, among_push, others_kept, in_range, range_behind, one_if, one_no, out_each}
-use Rattle.sc_live_plain.proofs.Lemmas.{none_new}
-use Rattle.sc_live_healed.specs.Definitions.{IsFixedCommand, IsFixedRequest}
+use Rattle.sc_node_table.specs.NodeDefinitions.{stopped, entered, answer_of, answered_or_put_back, effect_reported, announced, learnt_to, welcomed, slot_lost, landed, left_gone, left, looked_for, looked, executed_one, welcomed_all, answer_to, sent_others, put_back, queued_number, request_before, is_request_of, without_request, same_command, ReplicaState, Place, name_of, next, members, flying, forgotten, rest_of, without_slot, before_of, spoken, spoken_mails, begun_reported, went_on}
+use Rattle.sc_law_walks.proofs.WalkLemmas.{either_way, cleared, entered_next}
+use Rattle.sc_live_plain.specs.PlainDefinitions.{takers}
+use Rattle.sc_live_plain.proofs.PlainLemmas.{one_if_most, entries_at, out_none, out_here, out_other, standing, range_before, range_less, flights_at, among_push, others_kept, in_range, range_behind, one_if, one_no, out_each}
+use Rattle.sc_live_plain.proofs.PlainLemmas.{none_new}
+use Rattle.sc_live_healed.specs.HealedDefinitions.{IsFixedCommand, IsFixedRequest}
 use Rattle.sc_live_healed.proofs.ServingReplicas.{Grows, IsServing, IsUnderWay, grown}
 use Rattle.sc_live_healed.proofs.OfferedQueues.{requeued}
 

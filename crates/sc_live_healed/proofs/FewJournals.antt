@@ -10,22 +10,22 @@ use Rattle.sc_actor.specs.declared.rows.Event.TheVariants.{Tick as TickEvent, Go
 use Rattle.sc_actor.specs.declared.rows.Input.TheVariants.{Tick, Go, Told as ToldInput}
 use Rattle.sc_actor.specs.Definitions.{mails, numbered, acted, input_of, value, IsStep}
 use Rattle.sc_actor.proofs.Lemmas.{lawful-induction, value-snoc, mails-snoc}
-use Rattle.sc_words.proofs.PaxosProofs.Lemmas.{Each-among, Each-append, find_found}
-use Rattle.sc_group_table.specs.machine.Definitions.{group_of}
-use Rattle.sc_node_table.specs.Definitions.{NodeState, ReplicaState, Place, next, name_of, flying, open_nodes, with_replica, mailed, ticked, tick_row, names_after_tick, node_table, slots_ahead, born_replica, born_replicas}
+use Rattle.sc_words.proofs.PaxosProofs.PaxosLemmas.{Each-among, Each-append, find_found}
+use Rattle.sc_group_table.specs.machine.MachineDefinitions.{group_of}
+use Rattle.sc_node_table.specs.NodeDefinitions.{NodeState, ReplicaState, Place, next, name_of, flying, open_nodes, with_replica, mailed, ticked, tick_row, names_after_tick, node_table, slots_ahead, born_replica, born_replicas}
 use Rattle.sc_law_refusal.proofs.HeldCommands as held
 use Rattle.sc_law_walks.proofs.Talks.{all_sent}
-use Rattle.sc_law_walks.proofs.Lemmas.{either_way}
-use Rattle.sc_client_table.specs.table.Definitions.{Client as ClientState, table}
+use Rattle.sc_law_walks.proofs.WalkLemmas.{either_way}
+use Rattle.sc_client_table.specs.table.TableDefinitions.{Client as ClientState, table}
 use Rattle.sc_client_table.proofs.TableProofs.TurnLemmas.{sends_in_turn}
 use Rattle.sc_paxos_law.proofs.Lemmas.{place_among}
 use Rattle.sc_scenario.specs.declared.scenario.scenarios.Scenario.{Scenario}
 use Rattle.sc_scenario.specs.scenario.Definitions.{IsBounded}
-use Rattle.sc_meaning.specs.sound.Definitions.{Lawful, Player, as_nodes, player_table, schedule, system_of, issues, asks_for}
-use Rattle.sc_live_orderly.specs.Definitions.{is_told}
-use Rattle.sc_law_groups.proofs.WholeProofs.Lemmas.{group_place}
+use Rattle.sc_meaning.specs.sound.SoundDefinitions.{Lawful, Player, as_nodes, player_table, schedule, system_of, issues, asks_for}
+use Rattle.sc_live_orderly.specs.OrderlyDefinitions.{is_told}
+use Rattle.sc_law_groups.proofs.WholeProofs.WholeLemmas.{group_place}
 use Rattle.sc_live_healed.proofs.SeatBirths.{seat_born}
-use Rattle.sc_live_healed.specs.Definitions.{IsFixedMail, IsFixedNode, IsFixedBody}
+use Rattle.sc_live_healed.specs.HealedDefinitions.{IsFixedMail, IsFixedNode, IsFixedBody}
 use Rattle.sc_live_healed.proofs.FixedWalks.{IsFresh, IsFixedPlace}
 use Rattle.sc_live_healed.proofs.FixedParts.{opt_some}
 use Rattle.sc_live_healed.proofs.FixedRows.{takes_mail}

@@ -3,12 +3,12 @@ use Rattle.std.proofs.Common.{◌≡◌, ℕ, ◌+◌, ◌-◌, ◌<◌, ◌≤�
 use Rattle.sc_base.specs.Definitions.{Each}
 use Rattle.sc_node_table.specs.Values.{Ballot, Draw, Op, Command, Noop, Call, Base, AnswerBody, Mail, MailBody, Request, Prepare, Promise, Accept, Accepted, Nack, Learn, Ask, Install, Chosen, NotYet, Report}
 use Rattle.sc_words.specs.declared.paxos.answers.Must.TheVariants.{Value, Gap}
-use Rattle.sc_group_table.specs.machine.Definitions.{base_of}
-use Rattle.sc_words.specs.paxos.Definitions.{IsAtLeast, reports_from, after_promise, after_accept, may_promise, may_accept, promise_counted, entry_at, counted, must, below}
-use Rattle.sc_node_table.specs.Definitions.{stopped, offered, answered, answer_to, turned_down, sent, jumped, hinted, refused_at, ReplicaState, Place, name_of, next, taken_at, at_slot, with_slot, queued_number, without_request, flying, settled}
-use Rattle.sc_law_walks.specs.Definitions.{GoesOn}
-use Rattle.sc_law_walks.proofs.Lemmas.{entered_place, elected_place}
-use Rattle.sc_live_healed.specs.Definitions.{IsFixedBody}
+use Rattle.sc_group_table.specs.machine.MachineDefinitions.{base_of}
+use Rattle.sc_words.specs.paxos.PaxosDefinitions.{IsAtLeast, reports_from, after_promise, after_accept, may_promise, may_accept, promise_counted, entry_at, counted, must, below}
+use Rattle.sc_node_table.specs.NodeDefinitions.{stopped, offered, answered, answer_to, turned_down, sent, jumped, hinted, refused_at, ReplicaState, Place, name_of, next, taken_at, at_slot, with_slot, queued_number, without_request, flying, settled}
+use Rattle.sc_law_walks.specs.WalkDefinitions.{GoesOn}
+use Rattle.sc_law_walks.proofs.WalkLemmas.{entered_place, elected_place}
+use Rattle.sc_live_healed.specs.HealedDefinitions.{IsFixedBody}
 use Rattle.sc_live_healed.proofs.FixedWalks.{IsFresh, IsMember, IsFixedPlace, FixedWalk, FixedTickParts}
 use Rattle.sc_live_healed.proofs.FixedPlaces.{fixed_walk, fixed_ticks}
 

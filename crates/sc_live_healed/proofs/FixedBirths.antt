@@ -3,12 +3,12 @@ use Rattle.std.proofs.Common.{◌≡◌, ℕ, ◌+◌, ◌<◌, ◌≤◌, nat_l
 use Rattle.std.proofs.lemmas.Bool.{le-leb}
 use Rattle.sc_base.specs.Definitions.{Among, least_of, most_nodes}
 use Rattle.sc_node_table.specs.Values.{Draw, Base}
-use Rattle.sc_words.proofs.PaxosProofs.Lemmas.{Each-among, Each-from_All}
+use Rattle.sc_words.proofs.PaxosProofs.PaxosLemmas.{Each-among, Each-from_All}
 use Rattle.sc_scenario.specs.declared.scenario.scenarios.Scenario.{Scenario}
 use Rattle.sc_scenario.specs.scenario.Definitions.{IsBounded, IsUpTo, base_at, place_right}
 use Rattle.sc_paxos_law.proofs.Lemmas.{member-among}
-use Rattle.sc_law_groups.proofs.WholeProofs.Lemmas.{in_up_to, group_place, right_in}
-use Rattle.sc_live_steps.proofs.FollowingProofs.Lemmas.{least_in}
+use Rattle.sc_law_groups.proofs.WholeProofs.WholeLemmas.{in_up_to, group_place, right_in}
+use Rattle.sc_live_steps.proofs.FollowingProofs.FollowingLemmas.{least_in}
 use Rattle.sc_base.proofs.Lemmas.{and_both}
 use Rattle.sc_live_healed.proofs.FixedWalks.{IsFresh, IsMember}
 use Rattle.sc_live_healed.proofs.FixedNodes.{AreFresh}

@@ -3,20 +3,20 @@ use Rattle.std.proofs.Common.{◌≡◌, ℕ, ◌+◌, ◌-◌, ◌&&◌, not, n
 use Rattle.std.specs.Option.{option_map}
 use Rattle.std.proofs.lemmas.Bool.{cond_both}
 use Rattle.sc_base.specs.Definitions.{Each, is_member, client_actor, same_ballot}
-use Rattle.sc_words.proofs.PaxosProofs.Lemmas.{Each-append, Each-filter, at_least_itself, at_least_trans, at_least_from_below, below_from}
+use Rattle.sc_words.proofs.PaxosProofs.PaxosLemmas.{Each-append, Each-filter, at_least_itself, at_least_trans, at_least_from_below, below_from}
 use Rattle.sc_node_table.specs.Values.{Ballot, Draw, Command, Noop, Call, Base, Core, Lock, AnswerBody, Mail, MailBody, Answer, Prepare, Accept, Learn, Flight, Report}
 use Rattle.sc_mail.specs.declared.bodies.AnswerBody.TheVariants as Says
-use Rattle.sc_group_table.specs.machine.Definitions.{applied}
-use Rattle.sc_words.specs.paxos.Definitions.{IsAtLeast, AcceptorState, LeaderState, below, promise_counted, counted, with_flight_at, without_flight, flight_at}
-use Rattle.sc_node_table.specs.Definitions.{ended, stopped, entered, forgotten, floor_of, jumped, offered, put_back, request_before, queued_number, answered, answered_all, dismissed, dismissed_all, sent, sent_all, under_way, without_slot, hinted, name_of, next, rest_of, ReplicaState, Place, answer_of, waits_in, open_nodes, flying, slots_ahead, with_entry}
+use Rattle.sc_group_table.specs.machine.MachineDefinitions.{applied}
+use Rattle.sc_words.specs.paxos.PaxosDefinitions.{IsAtLeast, AcceptorState, LeaderState, below, promise_counted, counted, with_flight_at, without_flight, flight_at}
+use Rattle.sc_node_table.specs.NodeDefinitions.{ended, stopped, entered, forgotten, floor_of, jumped, offered, put_back, request_before, queued_number, answered, answered_all, dismissed, dismissed_all, sent, sent_all, under_way, without_slot, hinted, name_of, next, rest_of, ReplicaState, Place, answer_of, waits_in, open_nodes, flying, slots_ahead, with_entry}
 use Rattle.sc_law_entries.proofs.NamesProofs.EachFound.{Each-drop, slot_without, flight_without}
-use Rattle.sc_law_walks.proofs.Lemmas.{either_way, elected_place, TableEntry, entry_holds, entered_place}
-use Rattle.sc_law_walks.specs.Definitions.{GoesOn}
+use Rattle.sc_law_walks.proofs.WalkLemmas.{either_way, elected_place, TableEntry, entry_holds, entered_place}
+use Rattle.sc_law_walks.specs.WalkDefinitions.{GoesOn}
 use Rattle.sc_live_healed.proofs.FixedWalks.{IsFixedPlace, IsSaid, IsMember, IsFresh}
 use Rattle.sc_live_healed.proofs.FixedEntries.{unreported, unspoken, learner, none_joined}
 use Rattle.sc_law_walks.proofs.Talks.{each_sent}
 use Rattle.sc_live_healed.proofs.FixedParts as parts
-use Rattle.sc_live_healed.specs.Definitions.{IsFixedRequest, IsFixedCommand, IsFixedReplica, KeepsBallots, IsFixedBody, IsFixedAnswer}
+use Rattle.sc_live_healed.specs.HealedDefinitions.{IsFixedRequest, IsFixedCommand, IsFixedReplica, KeepsBallots, IsFixedBody, IsFixedAnswer}
 
 -- a filler or a request that goes back
 back_filler : (command : Command) (r : ReplicaState) → command ≡ Noop → put_back command r ≡ r

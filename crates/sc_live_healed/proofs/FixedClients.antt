@@ -7,19 +7,19 @@ use Rattle.std.specs.Map.{set_value}
 use Rattle.std.proofs.lemmas.Bool.{cond_both}
 use Rattle.sc_base.specs.Definitions.{Among, Each, Arc, end_of, same_draw, is_member, least_of, next_after}
 use Rattle.sc_base.proofs.Lemmas.{draw_is}
-use Rattle.sc_words.proofs.PaxosProofs.Lemmas.{Each-append, find_found}
+use Rattle.sc_words.proofs.PaxosProofs.PaxosLemmas.{Each-append, find_found}
 use Rattle.sc_words.specs.declared.commands.links.Link.{Link}
 use Rattle.sc_paxos_law.proofs.Lemmas.{among-member}
 use Rattle.sc_mail.specs.declared.bodies.AnswerBody.TheVariants as Says
 use Rattle.sc_node_table.specs.Values.{Draw, Op, Base, AnswerBody, Input, Got, OrderLine, Mail, MailBody, Answer}
 use Rattle.sc_actor.specs.declared.rows.Input.TheVariants.{Tick, Go, Told as ToldInput}
 use Rattle.sc_client_table.specs.declared.lookup.ways.Way.{Way}
-use Rattle.sc_client_table.specs.lookup.Definitions.{KnownGroups, way_to, target_of, next_target, changed, preferring, passed_on, starting, learnt_from_not_mine, new_way}
-use Rattle.sc_client_table.specs.table.Definitions.{Client, ClientStep, table, asked_of, sent_to, sent_where, chosen_for, request_sent, started, turned_on, client_ticked, waits_for, was_asked, redirected, answer_taken, got, request_of, waiting_request}
-use Rattle.sc_law_walks.proofs.Lemmas.{either_way}
+use Rattle.sc_client_table.specs.lookup.LookupDefinitions.{KnownGroups, way_to, target_of, next_target, changed, preferring, passed_on, starting, learnt_from_not_mine, new_way}
+use Rattle.sc_client_table.specs.table.TableDefinitions.{Client, ClientStep, table, asked_of, sent_to, sent_where, chosen_for, request_sent, started, turned_on, client_ticked, waits_for, was_asked, redirected, answer_taken, got, request_of, waiting_request}
+use Rattle.sc_law_walks.proofs.WalkLemmas.{either_way}
 use Rattle.sc_live_healed.proofs.FixedWalks.{IsMember}
 use Rattle.sc_live_healed.proofs.FixedNodes.{AreFresh}
-use Rattle.sc_live_healed.specs.Definitions.{IsFixedAnswer, IsFixedBody, IsFixedMail, KnowsFixed, IsFixedClient}
+use Rattle.sc_live_healed.specs.HealedDefinitions.{IsFixedAnswer, IsFixedBody, IsFixedMail, KnowsFixed, IsFixedClient}
 
 module _ (bases : List Base) (fresh : AreFresh bases) where
   abbrev Knows : Draw × Way → Type 0

@@ -2,13 +2,13 @@
 use Rattle.std.proofs.Common.{◌≡◌, ℕ, Bool, List, Some, None, refl, sym, ◌∙◌, ap, subst, inl, inr}
 use Rattle.sc_base.specs.Definitions.{Among}
 use Rattle.sc_node_table.specs.Values.{Command, Noop, Call, Base, Core, OrderResult, Effect, Mail}
-use Rattle.sc_group_table.specs.machine.Definitions.{applied, Group}
-use Rattle.sc_node_table.specs.Definitions.{order_result, before_of, spoken_mails, begun_reported, went_on, ReplicaState, Place, members}
+use Rattle.sc_group_table.specs.machine.MachineDefinitions.{applied, Group}
+use Rattle.sc_node_table.specs.NodeDefinitions.{order_result, before_of, spoken_mails, begun_reported, went_on, ReplicaState, Place, members}
 use Rattle.sc_paxos_law.proofs.Lemmas.{among-member}
-use Rattle.sc_law_walks.proofs.Lemmas.{either_way, joined}
-use Rattle.sc_live_plain.proofs.Lemmas.{none_new}
+use Rattle.sc_law_walks.proofs.WalkLemmas.{either_way, joined}
+use Rattle.sc_live_plain.proofs.PlainLemmas.{none_new}
 use Rattle.sc_live_healed.proofs.FixedWalks.{IsMember}
-use Rattle.sc_live_healed.specs.Definitions.{IsFixedCommand, IsFixedRequest}
+use Rattle.sc_live_healed.specs.HealedDefinitions.{IsFixedCommand, IsFixedRequest}
 
 -- of a request or a Noop nothing is reported to the desk
 pub no_result : (base : Base) (command : Command) (effect : Effect) → IsFixedCommand base command → order_result command effect ≡ None

@@ -3,13 +3,13 @@ use Rattle.std.proofs.Common.{◌≡◌, ℕ, true, false, List, [], Option, Som
 use Rattle.std.proofs.lemmas.Bool.{cond_both}
 use Rattle.sc_base.specs.Definitions.{Among, same_draw, is_member}
 use Rattle.sc_base.proofs.Lemmas.{draw_is}
-use Rattle.sc_words.proofs.PaxosProofs.Lemmas.{Each-among, find_found}
+use Rattle.sc_words.proofs.PaxosProofs.PaxosLemmas.{Each-among, find_found}
 use Rattle.sc_node_table.specs.Values.{Draw, Base, Got, Mail}
-use Rattle.sc_node_table.specs.Definitions.{NodeState, ReplicaState, Executed, name_of, replica_of, with_replica, with_children, taken_by, routed, may_come, group_of_mail, mailed, node_table}
+use Rattle.sc_node_table.specs.NodeDefinitions.{NodeState, ReplicaState, Executed, name_of, replica_of, with_replica, with_children, taken_by, routed, may_come, group_of_mail, mailed, node_table}
 use Rattle.sc_live_healed.proofs.FixedWalks.{IsFixedPlace, IsMember}
 use Rattle.sc_live_healed.proofs.FixedPlaces.{mailed_fixed}
 use Rattle.sc_live_healed.proofs.FixedNodes.{AreFresh, into, group_is, to_member, name_one, One}
-use Rattle.sc_live_healed.specs.Definitions.{IsFixedReplica, KeepsBallots, IsFixedBody, IsFixedMail, IsFixedNode}
+use Rattle.sc_live_healed.specs.HealedDefinitions.{IsFixedReplica, KeepsBallots, IsFixedBody, IsFixedMail, IsFixedNode}
 
 -- the node's replica of a group takes the mail
 pub record TakesMail (bases : List Base) (node : NodeState) (mail : Mail) : Type 0 where

@@ -9,19 +9,19 @@ use Rattle.sc_actor.specs.declared.rows.Event.TheVariants.{Tick as TickEvent, Go
 use Rattle.sc_actor.specs.declared.rows.Input.TheVariants.{Tick, Go, Told}
 use Rattle.sc_actor.specs.Definitions.{mails, numbered, acted, input_of, value, IsStep, IsOpen, IsLoose}
 use Rattle.sc_actor.proofs.Lemmas.{lawful-induction, value-snoc, mails-snoc}
-use Rattle.sc_node_table.specs.Definitions.{ReplicaState, replica_of, born_node, born_replica, born_replicas, first_ballot, slots_ahead}
-use Rattle.sc_words.proofs.PaxosProofs.Lemmas.{Each-among, Each-append, Each-from, at_least_itself}
+use Rattle.sc_node_table.specs.NodeDefinitions.{ReplicaState, replica_of, born_node, born_replica, born_replicas, first_ballot, slots_ahead}
+use Rattle.sc_words.proofs.PaxosProofs.PaxosLemmas.{Each-among, Each-append, Each-from, at_least_itself}
 use Rattle.sc_scenario.specs.declared.scenario.scenarios.Scenario.{Scenario}
 use Rattle.sc_scenario.specs.scenario.Definitions.{IsBounded}
-use Rattle.sc_meaning.specs.sound.Definitions.{Lawful, Player, as_nodes, births, player_table, schedule, system_of}
-use Rattle.sc_live_orderly.specs.Definitions.{is_told}
+use Rattle.sc_meaning.specs.sound.SoundDefinitions.{Lawful, Player, as_nodes, births, player_table, schedule, system_of}
+use Rattle.sc_live_orderly.specs.OrderlyDefinitions.{is_told}
 use Rattle.sc_paxos_law.proofs.Lemmas.{place_among}
 use Rattle.sc_live_healed.proofs.SeatBirths.{seat_born}
 use Rattle.sc_live_healed.proofs.FixedWalks.{IsMember}
 use Rattle.sc_live_healed.proofs.FixedNodes.{AreFresh, MayTake, IsOne, steps_fixed}
 use Rattle.sc_live_healed.proofs.FixedBirths.{groups_fresh}
 use Rattle.sc_live_healed.proofs.FixedClients.{client_fixed}
-use Rattle.sc_live_healed.specs.Definitions.{IsFixedMail, IsFixedNode, IsFixedClient}
+use Rattle.sc_live_healed.specs.HealedDefinitions.{IsFixedMail, IsFixedNode, IsFixedClient}
 
 -- the rows of a journal
 abbrev pub Rows : Type 0

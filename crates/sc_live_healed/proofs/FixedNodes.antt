@@ -3,15 +3,15 @@ use Rattle.std.proofs.Common.{◌≡◌, ℕ, Bool, true, false, List, [], ◌�
 use Rattle.std.proofs.lemmas.Bool.{cond_both, cond-true, cond-false, cases_Bool}
 use Rattle.sc_base.specs.Definitions.{Among, Each, Drawer, same_draw, is_member, least_of}
 use Rattle.sc_base.proofs.Lemmas.{draw_is}
-use Rattle.sc_words.proofs.PaxosProofs.Lemmas.{Each-among, Each-append, Each-weaker, find_found}
+use Rattle.sc_words.proofs.PaxosProofs.PaxosLemmas.{Each-among, Each-append, Each-weaker, find_found}
 use Rattle.sc_node_table.specs.Values.{Draw, Base, Core, Input, Got, OrderLine, Mail, MailBody, Request, Answer, Prepare, Promise, Accept, Accepted, Nack, Learn, Ask, Install, TxPrepare, TxVote, TxOutcome, TxElsewhere, TxWatch, TxWatched, Told}
 use Rattle.sc_actor.specs.declared.rows.Input.TheVariants.{Tick, Go, Told as ToldInput}
-use Rattle.sc_node_table.specs.Definitions.{NodeState, ReplicaState, Place, Executed, name_of, replica_of, with_replica, with_children, taken_by, routed, on_mail, on_tick, is_node, may_come, group_of_mail, mailed, ticked, tick_row, names_after_tick, node_table}
-use Rattle.sc_law_walks.proofs.Lemmas.{either_way}
+use Rattle.sc_node_table.specs.NodeDefinitions.{NodeState, ReplicaState, Place, Executed, name_of, replica_of, with_replica, with_children, taken_by, routed, on_mail, on_tick, is_node, may_come, group_of_mail, mailed, ticked, tick_row, names_after_tick, node_table}
+use Rattle.sc_law_walks.proofs.WalkLemmas.{either_way}
 use Rattle.sc_law_refusal.proofs.RefusalProofs.Joining.{tick_behind}
 use Rattle.sc_live_healed.proofs.FixedWalks.{IsFixedPlace, IsFresh, IsSaid, IsMember}
 use Rattle.sc_live_healed.proofs.FixedPlaces.{mailed_fixed, ticked_fixed}
-use Rattle.sc_live_healed.specs.Definitions.{IsFixedReplica, KeepsBallots, IsFixedBody, IsFixedMail, IsFixedNode}
+use Rattle.sc_live_healed.specs.HealedDefinitions.{IsFixedReplica, KeepsBallots, IsFixedBody, IsFixedMail, IsFixedNode}
 
 -- The groups of a scenario at their birth: each is free and not gone, its first leader and its least node are members, no two have the same name, and each is followed by one of them.
 pub record AreFresh (bases : List Base) : Type 0 where

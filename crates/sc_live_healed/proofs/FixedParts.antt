@@ -6,21 +6,21 @@ use Rattle.std.specs.Option.{option_map}
 use Rattle.std.proofs.lemmas.Bool.{cond_both}
 use Rattle.sc_base.specs.Definitions.{Each, is_member, same_ballot, is_majority, most_nodes}
 use Rattle.sc_base.specs.declared.ops.Noted.{Noted}
-use Rattle.sc_words.specs.ideal.Definitions.{key_of, holds_key}
-use Rattle.sc_words.proofs.PaxosProofs.Lemmas.{Each-append, Each-among, Each-passes, Each-weaker, choice_among}
+use Rattle.sc_words.specs.ideal.IdealDefinitions.{key_of, holds_key}
+use Rattle.sc_words.proofs.PaxosProofs.PaxosLemmas.{Each-append, Each-among, Each-passes, Each-weaker, choice_among}
 use Rattle.sc_node_table.specs.Values.{Ballot, Op, Command, Noop, Call, Base, Core, Route, Lock, Free, Coordinating, Promised, Watching, AnswerBody, Effect, Counted, Chosen, NotYet, Flight, Report}
 use Rattle.sc_words.specs.declared.paxos.answers.Must.TheVariants.{Value}
 use Rattle.sc_mail.specs.declared.bodies.AnswerBody.TheVariants as Says
 use Rattle.sc_words.specs.declared.commands.effects.Effect.TheVariants as Was
 use Rattle.sc_words.specs.declared.paxos.answers.Learnt.{Learnt}
-use Rattle.sc_group_table.specs.machine.Definitions.{applied, called, served, served_by_note, done, Group}
-use Rattle.sc_words.specs.paxos.Definitions.{LeaderState, flight_at, counted, vote_at, voters_after, kept_voters, must, must_without, names_above, choice, entry_at, next_of, LogState}
-use Rattle.sc_node_table.specs.Definitions.{answer_of, admits_requests, turned_down, refused_at, request_refusal, request_before, without_request, is_request_of, at_slot, with_entry, ReplicaState, slots_ahead, open_nodes, is_in_some, nodes_to, numbers_from, refused_by}
-use Rattle.sc_law_entries.specs.names.Definitions.{Opt}
+use Rattle.sc_group_table.specs.machine.MachineDefinitions.{applied, called, served, served_by_note, done, Group}
+use Rattle.sc_words.specs.paxos.PaxosDefinitions.{LeaderState, flight_at, counted, vote_at, voters_after, kept_voters, must, must_without, names_above, choice, entry_at, next_of, LogState}
+use Rattle.sc_node_table.specs.NodeDefinitions.{answer_of, admits_requests, turned_down, refused_at, request_refusal, request_before, without_request, is_request_of, at_slot, with_entry, ReplicaState, slots_ahead, open_nodes, is_in_some, nodes_to, numbers_from, refused_by}
+use Rattle.sc_law_entries.specs.names.NameDefinitions.{Opt}
 use Rattle.sc_law_entries.proofs.NamesProofs.EachFound.{opt_get, opt_find, opt_slot, flight_without, voters_with}
-use Rattle.sc_law_walks.proofs.Lemmas.{either_way, called_core}
+use Rattle.sc_law_walks.proofs.WalkLemmas.{either_way, called_core}
 use Rattle.sc_live_healed.proofs.FixedWalks.{IsFresh, IsMember}
-use Rattle.sc_live_healed.specs.Definitions.{IsFixedRequest, IsFixedCommand, IsFixedAnswer}
+use Rattle.sc_live_healed.specs.HealedDefinitions.{IsFixedRequest, IsFixedCommand, IsFixedAnswer}
 
 -- what is there is as each is
 pub opt_some : {X : Type 0} (P : X → Type 0) (o : Option X) (x : X) → o ≡ Some x → Opt P o → P x

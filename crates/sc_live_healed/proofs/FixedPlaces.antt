@@ -2,18 +2,18 @@
 use Rattle.std.proofs.Common.{◌≡◌, ℕ, ◌-◌, nat_le, true, false, true≢false, List, [], ◌∷◌, ◌++◌, Some, refl, sym, ◌∙◌, ap, subst, inl, inr}
 use Rattle.std.proofs.lemmas.Bool.{cond_both}
 use Rattle.sc_base.specs.Definitions.{Each, Drawer, is_member}
-use Rattle.sc_words.proofs.PaxosProofs.Lemmas.{Each-append, Each-filter}
+use Rattle.sc_words.proofs.PaxosProofs.PaxosLemmas.{Each-append, Each-filter}
 use Rattle.sc_node_table.specs.Values.{Ballot, Command, Noop, Call, Base, Mail, MailBody, Promise, Accept, Accepted, Nack, Learn, Ask, Install, Report}
-use Rattle.sc_group_table.specs.machine.Definitions.{base_of}
-use Rattle.sc_words.specs.paxos.Definitions.{IsAtLeast, below, reports_from, after_promise, after_accept, counted}
-use Rattle.sc_node_table.specs.Definitions.{stopped, sent, with_slot, without_request, hinted, name_of, next, ReplicaState, Place, mailed, tick_row}
+use Rattle.sc_group_table.specs.machine.MachineDefinitions.{base_of}
+use Rattle.sc_words.specs.paxos.PaxosDefinitions.{IsAtLeast, below, reports_from, after_promise, after_accept, counted}
+use Rattle.sc_node_table.specs.NodeDefinitions.{stopped, sent, with_slot, without_request, hinted, name_of, next, ReplicaState, Place, mailed, tick_row}
 use Rattle.sc_law_entries.proofs.NamesProofs.EachFound.{slot_with, report_with}
-use Rattle.sc_law_walks.specs.Definitions.{GoesOn}
+use Rattle.sc_law_walks.specs.WalkDefinitions.{GoesOn}
 use Rattle.sc_live_healed.proofs.FixedWalks.{FixedWalk, FixedTickParts, IsFixedPlace, IsMember, IsFresh}
 use Rattle.sc_live_healed.proofs.FixedTicks.{ticks}
 use Rattle.sc_live_healed.proofs.FixedRows.{takes_mail}
 use Rattle.sc_live_healed.proofs.FixedParts as parts
-use Rattle.sc_live_healed.specs.Definitions.{IsFixedRequest, IsFixedCommand, KeepsBallots, IsFixedBody}
+use Rattle.sc_live_healed.specs.HealedDefinitions.{IsFixedRequest, IsFixedCommand, KeepsBallots, IsFixedBody}
 use Rattle.sc_live_healed.proofs.FixedChanges as changes
 
 module _ (base : Base) (me : ℕ) (fresh : IsFresh base me) where

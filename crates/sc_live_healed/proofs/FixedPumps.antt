@@ -2,14 +2,14 @@
 use Rattle.std.proofs.Common.{◌≡◌, ℕ, Bool, true, List, [], ◌∷◌, ◌++◌, replicate, Option, Some, None, refl, sym, ◌∙◌, ap, subst, inl, inr}
 use Rattle.sc_base.specs.Definitions.{Each, is_member}
 use Rattle.std.proofs.lemmas.Bool.{cond_both, cond-true}
-use Rattle.sc_words.proofs.PaxosProofs.Lemmas.{Each-from}
-use Rattle.sc_node_table.specs.Definitions.{left_gone, left, is_among, looked_for, looked, executed_one, next_child, next_ready, ending, executed_ready, all_ready, executed, pumped, ReplicaState, Place, Executed, next, members, childless, slots_ahead}
+use Rattle.sc_words.proofs.PaxosProofs.PaxosLemmas.{Each-from}
+use Rattle.sc_node_table.specs.NodeDefinitions.{left_gone, left, is_among, looked_for, looked, executed_one, next_child, next_ready, ending, executed_ready, all_ready, executed, pumped, ReplicaState, Place, Executed, next, members, childless, slots_ahead}
 use Rattle.sc_node_table.specs.Values.{Command, Noop, Call, Base, Core, Route}
-use Rattle.sc_law_walks.proofs.Lemmas.{ready_so, TableOffers, pump_keeps, entered_place}
+use Rattle.sc_law_walks.proofs.WalkLemmas.{ready_so, TableOffers, pump_keeps, entered_place}
 use Rattle.sc_paxos_law.proofs.Lemmas.{among-member}
 use Rattle.sc_live_healed.proofs.FixedWalks.{FixedWalk, IsMember}
 use Rattle.sc_live_healed.proofs.FixedParts.{ready_fixed}
-use Rattle.sc_live_healed.specs.Definitions.{IsFixedCommand}
+use Rattle.sc_live_healed.specs.HealedDefinitions.{IsFixedCommand}
 
 -- a request or a Noop makes no child
 no_children : (base : Base) (command : Command) (r : ReplicaState) (rest : List Base) → IsFixedCommand base command → rest ≡ [] → next_child command r ++ rest ≡ []

@@ -6,15 +6,15 @@ use Rattle.sc_node_table.specs.Values.{Ballot, Draw, Op, Command, Call, Base, Co
 use Rattle.sc_mail.specs.declared.bodies.AnswerBody.TheVariants as Says
 use Rattle.sc_words.specs.declared.paxos.answers.PrepareAnswer.TheVariants as Prepared
 use Rattle.sc_words.specs.declared.paxos.answers.AcceptAnswer.TheVariants as Asked
-use Rattle.sc_words.specs.paxos.Definitions.{IsAtLeast, below, prepared, accepted as accepted_by, AcceptorState, reports_from, may_promise, may_accept, after_promise, after_accept, LeaderState, promise_counted, entry_at, counted}
-use Rattle.sc_node_table.specs.Definitions.{ended, stopped, saw, executed, has_room, jumped, install_to, sent, pumped, queued_number, without_request, ReplicaState, Place, Executed, childless, name_of, next, members, set_at, last_slot, forgotten, refused_at, queued, requested, request_row, learn_row, taught, most_taught, ask_row, looked_up, looked, took_over, install_row, mailed, at_slot, with_slot, promise_to, promised, prepare_row, accepted_to, took, accept_row, leads, promise_row, readied, vote_tallied, voted, accepted_row, nack_row}
+use Rattle.sc_words.specs.paxos.PaxosDefinitions.{IsAtLeast, below, prepared, accepted as accepted_by, AcceptorState, reports_from, may_promise, may_accept, after_promise, after_accept, LeaderState, promise_counted, entry_at, counted}
+use Rattle.sc_node_table.specs.NodeDefinitions.{ended, stopped, saw, executed, has_room, jumped, install_to, sent, pumped, queued_number, without_request, ReplicaState, Place, Executed, childless, name_of, next, members, set_at, last_slot, forgotten, refused_at, queued, requested, request_row, learn_row, taught, most_taught, ask_row, looked_up, looked, took_over, install_row, mailed, at_slot, with_slot, promise_to, promised, prepare_row, accepted_to, took, accept_row, leads, promise_row, readied, vote_tallied, voted, accepted_row, nack_row}
 use Rattle.sc_law_walks.proofs.Places.{asked_place}
-use Rattle.sc_law_walks.proofs.Lemmas.{either_way, seen_top, put_there, leads_on, ended_off, ended_next}
-use Rattle.sc_law_walks.specs.Definitions.{GoesOn}
+use Rattle.sc_law_walks.proofs.WalkLemmas.{either_way, seen_top, put_there, leads_on, ended_off, ended_next}
+use Rattle.sc_law_walks.specs.WalkDefinitions.{GoesOn}
 use Rattle.sc_live_healed.proofs.FixedWalks.{FixedWalk, IsMember}
 use Rattle.sc_live_healed.proofs.FixedParts.{counted_fixed}
 use Rattle.sc_live_healed.proofs.FixedPumps.{pumps, execution}
-use Rattle.sc_live_healed.specs.Definitions.{IsFixedCommand}
+use Rattle.sc_live_healed.specs.HealedDefinitions.{IsFixedCommand}
 
 -- a ballot that is seen stops nobody any more
 pub seen_on : (ballot : Ballot) (place : Place) → GoesOn ballot (saw ballot place).0

@@ -3,12 +3,12 @@ use Rattle.std.proofs.Common.{◌≡◌, ℕ, ◌+◌, ◌-◌, ◌^◌, ◌||�
 use Rattle.std.specs.Prelude.{is_some}
 use Rattle.std.proofs.lemmas.Bool.{cond_both, and_parts}
 use Rattle.sc_base.specs.Definitions.{Each, Drawer, is_member}
-use Rattle.sc_words.proofs.PaxosProofs.Lemmas.{Each-filter}
+use Rattle.sc_words.proofs.PaxosProofs.PaxosLemmas.{Each-filter}
 use Rattle.sc_node_table.specs.Values.{Command, Base, Core, Lock, Free, Coordinating, Promised, Watching, Mail, Accept, Learn}
-use Rattle.sc_group_table.specs.machine.Definitions.{Group}
-use Rattle.sc_words.specs.paxos.Definitions.{entry_at, has_counted}
-use Rattle.sc_node_table.specs.Definitions.{elected, sent_all, pumped, wishing, reminded, reminders, waited_in, ReplicaState, Place, name_of, next, members, settled, is_idle, may_offer, first_set, tick_row, asked_again, uncounted, last_entry_sent, flying}
-use Rattle.sc_law_walks.proofs.Lemmas.{either_way, elected_place}
+use Rattle.sc_group_table.specs.machine.MachineDefinitions.{Group}
+use Rattle.sc_words.specs.paxos.PaxosDefinitions.{entry_at, has_counted}
+use Rattle.sc_node_table.specs.NodeDefinitions.{elected, sent_all, pumped, wishing, reminded, reminders, waited_in, ReplicaState, Place, name_of, next, members, settled, is_idle, may_offer, first_set, tick_row, asked_again, uncounted, last_entry_sent, flying}
+use Rattle.sc_law_walks.proofs.WalkLemmas.{either_way, elected_place}
 use Rattle.sc_law_walks.proofs.Talks.{each_sent, each_other_sent}
 use Rattle.sc_live_healed.proofs.FixedWalks.{FixedWalk, FixedAskParts, FixedTickParts, IsMember}
 use Rattle.sc_live_healed.proofs.FixedPumps.{OfMembers, open_members, pumps, set_members}

@@ -3,19 +3,19 @@ use Rattle.std.proofs.Common.{◌≡◌, ℕ, zero, suc, ◌+◌, ◌*◌, ◌<�
 use Rattle.std.specs.Option.{option_map}
 use Rattle.std.proofs.lemmas.Bool.{cond_both, cond-true, eqb-true, eq-eqb, cases_lt}
 use Rattle.sc_base.specs.Definitions.{Among, Each, is_member}
-use Rattle.sc_words.proofs.PaxosProofs.Lemmas.{Each-among, Each-append, Each-weaker, find_found}
+use Rattle.sc_words.proofs.PaxosProofs.PaxosLemmas.{Each-among, Each-append, Each-weaker, find_found}
 use Rattle.sc_node_table.specs.Values.{Ballot, Draw, Seat, Row, Event, Deliver, Drop, Again, Crash, Input, Got, Base, Core, OrderLine, Mail, MailBody, Prepare, Accept, Node, Client}
 use Rattle.sc_actor.specs.declared.rows.Event.TheVariants.{Tick as TickEvent, Go as GoEvent, Told as ToldEvent}
 use Rattle.sc_actor.specs.declared.rows.Input.TheVariants.{Tick, Go, Told as ToldInput}
 use Rattle.sc_actor.specs.Definitions.{mails, acted, input_of, value, IsStep}
 use Rattle.sc_actor.proofs.Lemmas.{lawful-induction, lawful-prefix, value-snoc, mails-snoc, find-who}
-use Rattle.sc_node_table.specs.Definitions.{NodeState, ReplicaState, name_of, group_of_mail, mailed, ticked, born_replica, born_replicas, slots_ahead}
+use Rattle.sc_node_table.specs.NodeDefinitions.{NodeState, ReplicaState, name_of, group_of_mail, mailed, ticked, born_replica, born_replicas, slots_ahead}
 use Rattle.sc_scenario.specs.declared.scenario.drafts.GroupLine.{GroupLine}
 use Rattle.sc_scenario.specs.declared.scenario.scenarios.Scenario.{Scenario}
 use Rattle.sc_scenario.specs.scenario.Definitions.{IsBounded, base_at, bases_up_to}
-use Rattle.sc_meaning.specs.sound.Definitions.{Lawful, Player, as_nodes, births, player_table, schedule, system_of}
-use Rattle.sc_live_orderly.specs.Definitions.{is_told}
-use Rattle.sc_law_groups.proofs.WholeProofs.Lemmas.{group_place}
+use Rattle.sc_meaning.specs.sound.SoundDefinitions.{Lawful, Player, as_nodes, births, player_table, schedule, system_of}
+use Rattle.sc_live_orderly.specs.OrderlyDefinitions.{is_told}
+use Rattle.sc_law_groups.proofs.WholeProofs.WholeLemmas.{group_place}
 use Rattle.sc_live_healed.proofs.SeatBirths.{seat_born}
 use Rattle.sc_live_healed.proofs.FixedNodes.{AreFresh, MayTake}
 use Rattle.sc_live_healed.proofs.FixedBirths.{groups_fresh}
@@ -26,7 +26,7 @@ use Rattle.sc_live_healed.proofs.FixedGroupMail.{mail_taken}
 use Rattle.sc_live_healed.proofs.NodeTicks.{NoneNamed, OneNamed, put_one, tick_one}
 use Rattle.sc_live_healed.proofs.ActorRows.{View, HasOne, Rises, PlayerRow, player_rows}
 use Rattle.sc_live_healed.proofs.DeliveredViews.{view, seat_view}
-use Rattle.sc_live_healed.specs.Definitions.{IsFixedBody, IsFixedMail}
+use Rattle.sc_live_healed.specs.HealedDefinitions.{IsFixedBody, IsFixedMail}
 
 -- ---- one group of a name
 

@@ -7,21 +7,21 @@ use Rattle.sc_base.specs.Definitions.{Each, Drawer, same_draw, is_member}
 use Rattle.sc_node_table.specs.Values.{Draw, Seat, Row, Event, Deliver, Drop, Again, Crash, Input, Got, Base, OrderLine, Mail, MailBody, Request, Op, Node, Client}
 use Rattle.sc_actor.specs.declared.rows.Event.TheVariants.{Tick as TickEvent, Go as GoEvent, Told as ToldEvent}
 use Rattle.sc_actor.specs.declared.rows.Input.TheVariants.{Tick, Go, Told as ToldInput}
-use Rattle.sc_words.proofs.PaxosProofs.Lemmas.{Each-among, Each-append, Each-weaker, find_found}
-use Rattle.sc_node_table.specs.Definitions.{NodeState, ReplicaState, Place, name_of, with_replica, mailed, ticked, tick_row, names_after_tick, node_table, slots_ahead}
-use Rattle.sc_law_walks.proofs.Lemmas.{either_way}
+use Rattle.sc_words.proofs.PaxosProofs.PaxosLemmas.{Each-among, Each-append, Each-weaker, find_found}
+use Rattle.sc_node_table.specs.NodeDefinitions.{NodeState, ReplicaState, Place, name_of, with_replica, mailed, ticked, tick_row, names_after_tick, node_table, slots_ahead}
+use Rattle.sc_law_walks.proofs.WalkLemmas.{either_way}
 use Rattle.sc_actor.specs.Definitions.{mails, numbered, acted, input_of, value, IsStep}
 use Rattle.sc_actor.proofs.Lemmas.{lawful-induction, value-snoc, mails-snoc}
 use Rattle.sc_client_table.proofs.TableProofs.TurnLemmas.{each_request}
-use Rattle.sc_node_table.specs.Definitions.{born_replica, born_replicas}
+use Rattle.sc_node_table.specs.NodeDefinitions.{born_replica, born_replicas}
 use Rattle.sc_paxos_law.proofs.Lemmas.{place_among}
 use Rattle.sc_scenario.specs.declared.scenario.scenarios.Scenario.{Scenario}
 use Rattle.sc_scenario.specs.scenario.Definitions.{IsBounded}
-use Rattle.sc_meaning.specs.sound.Definitions.{Lawful, Player, as_nodes, player_table, schedule, system_of}
-use Rattle.sc_live_orderly.specs.Definitions.{is_told}
+use Rattle.sc_meaning.specs.sound.SoundDefinitions.{Lawful, Player, as_nodes, player_table, schedule, system_of}
+use Rattle.sc_live_orderly.specs.OrderlyDefinitions.{is_told}
 use Rattle.sc_live_healed.proofs.SeatBirths.{seat_born}
 use Rattle.sc_live_healed.proofs.FixedJournals.{Rows, IsFixedPlayer, IsOf, IsFixedJournal, Brings, fresh, given, first_fixed, brings, next_fixed, AreWithoutOrders, untold_parts}
-use Rattle.sc_live_healed.specs.Definitions.{IsFixedBody, IsFixedMail, IsFixedNode}
+use Rattle.sc_live_healed.specs.HealedDefinitions.{IsFixedBody, IsFixedMail, IsFixedNode}
 use Rattle.sc_live_healed.proofs.FixedNodes.{AreFresh, MayTake, One, into, one_ticks}
 use Rattle.sc_live_healed.proofs.FixedGroupMail.{TakesMail, PassesMail, mail_taken}
 use Rattle.sc_live_healed.proofs.FixedWalks.{IsFresh, IsFixedPlace}

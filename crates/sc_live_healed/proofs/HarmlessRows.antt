@@ -5,7 +5,7 @@ use Rattle.std.specs.List.{flat_map}
 use Rattle.std.proofs.lemmas.Bool.{cond_both}
 use Rattle.sc_base.specs.Definitions.{Each}
 use Rattle.sc_base.proofs.Lemmas.{and_then-some, map-some}
-use Rattle.sc_words.proofs.PaxosProofs.Lemmas.{Each-append}
+use Rattle.sc_words.proofs.PaxosProofs.PaxosLemmas.{Each-append}
 use Rattle.sc_actor.specs.declared.rows.Row.{Row}
 use Rattle.sc_actor.specs.declared.rows.Event.{Event}
 use Rattle.sc_actor.specs.declared.rows.Event.TheVariants.{Deliver, Tick, Go, Told, Crash, Drop, Again}
@@ -13,7 +13,7 @@ use Rattle.sc_actor.specs.declared.schedules.Line.{Line}
 use Rattle.sc_actor.specs.declared.schedules.Line.TheVariants.{Go as GoLine, Deliver as DeliverLine, Drop as DropLine, Again as AgainLine, Tick as TickLine, Crash as CrashLine, Told as ToldLine, Settle, Free, Storm}
 use Rattle.sc_actor.specs.Definitions.{mails, numbered, may_get, numbers_of, row_of, network, has_crashed, System, acts, waiting, kth, has_started, Task, Once, Settles, Frees, Storms, WalkPlace, Allows, MayAdd, IsLawful, onward, is_over, after_row, place_after, rest_of_all, tasks_of, delivery, repeat_of, picked, storm_row, storm_steps}
 use Rattle.sc_actor.proofs.Lemmas.{lawful-last, unless-some, find-who}
-use Rattle.sc_live_orderly.proofs.Lemmas.{by_rows}
+use Rattle.sc_live_orderly.proofs.OrderlyLemmas.{by_rows}
 use Rattle.sc_live_orderly.proofs.QuietLineEnds.{acts-event}
 
 -- an event of crashes and orders alone that does an actor harm

@@ -4,18 +4,18 @@ use Rattle.std.specs.List.{flat_map}
 use Rattle.std.proofs.lemmas.Bool.{cond_both, cond-true}
 use Rattle.sc_base.specs.Definitions.{Among, Each, same_draw}
 use Rattle.sc_base.proofs.Lemmas.{draw_is, same_name}
-use Rattle.sc_words.proofs.PaxosProofs.Lemmas.{Each-among, Each-from}
+use Rattle.sc_words.proofs.PaxosProofs.PaxosLemmas.{Each-among, Each-from}
 use Rattle.sc_node_table.specs.Values.{Draw, Seat, Base, OrderLine, Mail, Node}
 use Rattle.sc_actor.specs.declared.schedules.Line.{Line}
 use Rattle.sc_actor.specs.declared.schedules.Line.TheVariants.{Settle as SettleLine}
 use Rattle.sc_actor.specs.Definitions.{value, is_quiet, may_get, numbers_of, unsettled, System, IsLawful, IsWhole}
 use Rattle.sc_actor.proofs.Lemmas.{lawful-prefix}
-use Rattle.sc_node_table.specs.Definitions.{NodeState, ReplicaState, name_of, replica_of, is_node, last_slot}
+use Rattle.sc_node_table.specs.NodeDefinitions.{NodeState, ReplicaState, name_of, replica_of, is_node, last_slot}
 use Rattle.sc_scenario.specs.declared.scenario.scenarios.Scenario.{Scenario}
 use Rattle.sc_scenario.specs.scenario.Definitions.{IsValid, IsBounded}
 use Rattle.sc_scenario.proofs.ScenarioProofs.Lemmas.{valid_scenarios_are_bounded}
-use Rattle.sc_meaning.specs.sound.Definitions.{Lawful, Player, as_nodes, births, line_of, player_table, schedule, system_of, Whole}
-use Rattle.sc_live_orderly.specs.Definitions.{Ticks, Turn, turn_lines, HasTurns}
+use Rattle.sc_meaning.specs.sound.SoundDefinitions.{Lawful, Player, as_nodes, births, line_of, player_table, schedule, system_of, Whole}
+use Rattle.sc_live_orderly.specs.OrderlyDefinitions.{Ticks, Turn, turn_lines, HasTurns}
 use Rattle.sc_live_orderly.proofs.TakenTurns.{turns_taken}
 use Rattle.sc_live_healed.proofs.FixedNodes.{AreFresh, IsOne, name_one}
 use Rattle.sc_live_healed.proofs.FixedBirths.{groups_fresh}
@@ -34,7 +34,7 @@ use Rattle.sc_live_healed.proofs.SettledTurns.{HasTicked, turns_settle}
 use Rattle.sc_live_healed.proofs.ShorterSchedules.{WholePrefix, whole_prefix}
 use Rattle.sc_live_healed.proofs.RowsWithoutOrders.{rows_untold}
 use Rattle.sc_live_healed.proofs.VotesOfTurns.{IsTicked}
-use Rattle.sc_live_healed.specs.Definitions.{lives, HasLivingMajorities, NodeTurn, ClientTurn, client_lines, IsHealed, IsIdle, IsSettledOrStopped, IsIdleLeader, IsIdleStore, IsAtEnd, StaysIdle}
+use Rattle.sc_live_healed.specs.HealedDefinitions.{lives, HasLivingMajorities, NodeTurn, ClientTurn, client_lines, IsHealed, IsIdle, IsSettledOrStopped, IsIdleLeader, IsIdleStore, IsAtEnd, StaysIdle}
 
 -- one of some that are named once is found by its name
 found_once : (name : Draw) (replicas : List ReplicaState) (r : ReplicaState) → OneNamed name_of name replicas → Among r replicas → name_of r ≡ name → replica_of name replicas ≡ Some r

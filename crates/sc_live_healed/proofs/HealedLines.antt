@@ -3,17 +3,17 @@ use Rattle.std.proofs.Common.{◌≡◌, ℕ, ◌||◌, not, Bool, true, false, 
 use Rattle.std.specs.List.{flat_map, list_any}
 use Rattle.std.proofs.lemmas.Bool.{and_parts}
 use Rattle.sc_base.specs.Definitions.{Each, client_actor}
-use Rattle.sc_words.proofs.PaxosProofs.Lemmas.{Each-append}
+use Rattle.sc_words.proofs.PaxosProofs.PaxosLemmas.{Each-append}
 use Rattle.sc_node_table.specs.Values.{OrderLine}
 use Rattle.sc_actor.specs.declared.schedules.Line.TheVariants.{Settle as SettleLine}
 use Rattle.sc_scenario.specs.declared.scenario.scenarios.Scenario.{Scenario}
 use Rattle.sc_scenario.specs.declared.scenario.scenarios.SchedLine.{SchedLine}
 use Rattle.sc_scenario.specs.declared.scenario.scenarios.SchedLine.TheVariants.{Go, Deliver, Drop, Again, Tick, Crash, Told, Settle, Free, Storm}
-use Rattle.sc_meaning.specs.sound.Definitions.{line_of, schedule}
-use Rattle.sc_live_orderly.specs.Definitions.{Kick, Ticks, Starts, Turn, kick_line, turn_lines}
+use Rattle.sc_meaning.specs.sound.SoundDefinitions.{line_of, schedule}
+use Rattle.sc_live_orderly.specs.OrderlyDefinitions.{Kick, Ticks, Starts, Turn, kick_line, turn_lines}
 use Rattle.sc_live_orderly.proofs.PassedTasks.{flat_append}
 use Rattle.sc_live_healed.proofs.RowsWithoutOrders.{IsWithoutOrders, Spares}
-use Rattle.sc_live_healed.specs.Definitions.{crashes, is_order, lives, NodeTurn, ClientTurn, node_lines, client_line, client_lines, IsHealed}
+use Rattle.sc_live_healed.specs.HealedDefinitions.{crashes, is_order, lives, NodeTurn, ClientTurn, node_lines, client_line, client_lines, IsHealed}
 
 -- the turn of a node, and of a client
 abbrev pub node_turn : NodeTurn → Turn

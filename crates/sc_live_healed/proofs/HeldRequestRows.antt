@@ -3,16 +3,16 @@ use Rattle.std.proofs.Common.{◌≡◌, ℕ, ◌+◌, ◌<◌, ◌≤◌, Bool,
 use Rattle.std.proofs.lemmas.Bool.{cond_both, leb-false}
 use Rattle.sc_base.specs.Definitions.{Among, Each, client_actor}
 use Rattle.sc_node_table.specs.Values.{Ballot, Draw, Base, Core, Op, Reply, Command, Noop, Call, AnswerBody, Value, Mail, MailBody, Request, Answer, Accept, Learn, Flight}
-use Rattle.sc_group_table.specs.machine.Definitions.{Group, applied}
-use Rattle.sc_words.specs.paxos.Definitions.{LeaderState, with_flight_at, without_flight, promise_counted, counted, below, with_voters, after_promise, after_accept}
-use Rattle.sc_node_table.specs.Definitions.{ReplicaState, Place, next, jumped, with_slot, without_request, taken_at, sent, sent_all, ended, at_slot, without_slot, stopped, offered, entered, answer_of, answered_or_put_back, put_back, landed, hinted, forgotten, request_before, queued_number, slots_ahead}
+use Rattle.sc_group_table.specs.machine.MachineDefinitions.{Group, applied}
+use Rattle.sc_words.specs.paxos.PaxosDefinitions.{LeaderState, with_flight_at, without_flight, promise_counted, counted, below, with_voters, after_promise, after_accept}
+use Rattle.sc_node_table.specs.NodeDefinitions.{ReplicaState, Place, next, jumped, with_slot, without_request, taken_at, sent, sent_all, ended, at_slot, without_slot, stopped, offered, entered, answer_of, answered_or_put_back, put_back, landed, hinted, forgotten, request_before, queued_number, slots_ahead}
 use Rattle.sc_law_walks.proofs.Queues.{turned_sets}
-use Rattle.sc_law_walks.proofs.Lemmas.{back_any, entered_me, entered_group, entered_next, cleared, entered_place, promise_flights}
-use Rattle.sc_words.proofs.PaxosProofs.Lemmas.{Each-among}
+use Rattle.sc_law_walks.proofs.WalkLemmas.{back_any, entered_me, entered_group, entered_next, cleared, entered_place, promise_flights}
+use Rattle.sc_words.proofs.PaxosProofs.PaxosLemmas.{Each-among}
 use Rattle.sc_live_plain.proofs.PlainRowsProofs.SlotCounts.{at_found, entries_at}
 use Rattle.sc_live_plain.proofs.LeadersProofs.LeadingReplicas.{flights_at}
 use Rattle.sc_live_plain.proofs.PlainRowsProofs.RepeatedMail.{mail_of, among_push, last_among, all_kept, others_kept}
-use Rattle.sc_live_healed.specs.Definitions.{IsFixedCommand, IsFixedRequest}
+use Rattle.sc_live_healed.specs.HealedDefinitions.{IsFixedCommand, IsFixedRequest}
 use Rattle.sc_live_healed.proofs.FixedWalks.{FixedWalk}
 use Rattle.sc_live_healed.proofs.FixedParts.{ready_fixed, never_turned, applied_core}
 use Rattle.sc_live_healed.proofs.EnteredPlaces.{learnt_is, counted_is, learning}

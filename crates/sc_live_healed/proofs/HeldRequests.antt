@@ -4,12 +4,12 @@ use Rattle.std.specs.Option.{option_map}
 use Rattle.std.proofs.lemmas.Bool.{cond_both, both_ways}
 use Rattle.sc_base.specs.Definitions.{Among, Each}
 use Rattle.sc_node_table.specs.Values.{Draw, Base, Command, AnswerBody, Value, NotLeader, NotMine, Gone, Stale, Mail, MailBody, Accept, Flight}
-use Rattle.sc_words.specs.paxos.Definitions.{LeaderState, without_flight, flight_at}
-use Rattle.sc_words.proofs.PaxosProofs.Lemmas.{Each-among, find_found}
-use Rattle.sc_node_table.specs.Definitions.{ReplicaState, Place, next, at_slot, without_slot, flying, sent, stopped, offered, entered, forgotten, put_back, slot_lost, landed, same_command, ended, under_way, answered_all, dismissed_all}
+use Rattle.sc_words.specs.paxos.PaxosDefinitions.{LeaderState, without_flight, flight_at}
+use Rattle.sc_words.proofs.PaxosProofs.PaxosLemmas.{Each-among, find_found}
+use Rattle.sc_node_table.specs.NodeDefinitions.{ReplicaState, Place, next, at_slot, without_slot, flying, sent, stopped, offered, entered, forgotten, put_back, slot_lost, landed, same_command, ended, under_way, answered_all, dismissed_all}
 use Rattle.sc_node_table.proofs.Lemmas.{decides_commands}
 use Rattle.sc_law_walks.proofs.Talks.{all_answered, all_dismissed}
-use Rattle.sc_law_walks.proofs.Lemmas.{grows, either_way, back_any, entered_next, cleared}
+use Rattle.sc_law_walks.proofs.WalkLemmas.{grows, either_way, back_any, entered_next, cleared}
 use Rattle.sc_live_plain.proofs.PlainRowsProofs.SlotCounts.{at_only, at_found, at_nothing, entries_at}
 use Rattle.sc_live_plain.proofs.LeadersProofs.LeadingReplicas.{flights_at}
 use Rattle.sc_live_plain.proofs.PlainRowsProofs.RepeatedMail.{mail_of, among_push, all_kept}

@@ -5,14 +5,14 @@ use Rattle.sc_base.proofs.Lemmas.{draw_is}
 use Rattle.sc_node_table.specs.Values.{Seat, Base, Mail, Node}
 use Rattle.sc_actor.specs.Definitions.{value, is_quiet, may_get, numbers_of}
 use Rattle.sc_actor.proofs.Lemmas.{lawful-prefix}
-use Rattle.sc_node_table.specs.Definitions.{NodeState, ReplicaState, name_of, replica_of, is_node, settled, last_slot}
-use Rattle.sc_words.proofs.PaxosProofs.Lemmas.{Each-among, find_found}
+use Rattle.sc_node_table.specs.NodeDefinitions.{NodeState, ReplicaState, name_of, replica_of, is_node, settled, last_slot}
+use Rattle.sc_words.proofs.PaxosProofs.PaxosLemmas.{Each-among, find_found}
 use Rattle.sc_scenario.specs.declared.scenario.scenarios.Scenario.{Scenario}
 use Rattle.sc_scenario.specs.scenario.Definitions.{IsBounded}
-use Rattle.sc_meaning.specs.sound.Definitions.{Player, Lawful, as_nodes, player_table, schedule, system_of}
-use Rattle.sc_live_orderly.specs.Definitions.{Turn, HasTurns}
+use Rattle.sc_meaning.specs.sound.SoundDefinitions.{Player, Lawful, as_nodes, player_table, schedule, system_of}
+use Rattle.sc_live_orderly.specs.OrderlyDefinitions.{Turn, HasTurns}
 use Rattle.sc_live_orderly.proofs.PendingMail.{none_pending}
-use Rattle.sc_live_healed.specs.Definitions.{IsFixedReplica, VotesAreUnderWay, LivingMajority, IsIdle, IsSettledOrStopped}
+use Rattle.sc_live_healed.specs.HealedDefinitions.{IsFixedReplica, VotesAreUnderWay, LivingMajority, IsIdle, IsSettledOrStopped}
 use Rattle.sc_live_healed.proofs.FixedNodes.{IsOne, name_one}
 use Rattle.sc_live_healed.proofs.FixedJournals.{Rows, IsOf, fresh, AreWithoutOrders, untold_prefix}
 use Rattle.sc_live_healed.proofs.LivingActors.{seats_stay_nodes, turns_kind, turns_get}

@@ -3,12 +3,12 @@ use Rattle.std.proofs.Common.{◌≡◌, ℕ, ◌+◌, ◌<◌, ◌≤◌, eqb, 
 use Rattle.std.proofs.lemmas.Bool.{cases_lt, eq-eqb}
 use Rattle.sc_base.specs.Definitions.{Among, Each, is_member}
 use Rattle.sc_paxos_law.proofs.Lemmas.{among-member}
-use Rattle.sc_words.proofs.PaxosProofs.Lemmas.{Each-among}
+use Rattle.sc_words.proofs.PaxosProofs.PaxosLemmas.{Each-among}
 use Rattle.sc_node_table.specs.Values.{Ballot, Base, Command, Flight, Report}
-use Rattle.sc_words.specs.paxos.Definitions.{kept_voters}
-use Rattle.sc_node_table.specs.Definitions.{NodeState, ReplicaState, replica_of, next, settled, last_slot}
-use Rattle.sc_live_plain.proofs.Lemmas.{count-cons, entries_at, flights_at, in_range, range_yes, one_yes, one_if}
-use Rattle.sc_live_healed.specs.Definitions.{IsFixedReplica, IsUndecided, TakesSlots, HasVoted, IsAnswered, Accepts, Refuses, Installs, IsVoteUnderWay, Counted, Asked, Answered, VotesAreUnderWay, LivingMajority, IsIdle}
+use Rattle.sc_words.specs.paxos.PaxosDefinitions.{kept_voters}
+use Rattle.sc_node_table.specs.NodeDefinitions.{NodeState, ReplicaState, replica_of, next, settled, last_slot}
+use Rattle.sc_live_plain.proofs.PlainLemmas.{count-cons, entries_at, flights_at, in_range, range_yes, one_yes, one_if}
+use Rattle.sc_live_healed.specs.HealedDefinitions.{IsFixedReplica, IsUndecided, TakesSlots, HasVoted, IsAnswered, Accepts, Refuses, Installs, IsVoteUnderWay, Counted, Asked, Answered, VotesAreUnderWay, LivingMajority, IsIdle}
 use Rattle.sc_live_healed.proofs.ExecutedSlots.{range_none}
 use Rattle.sc_live_healed.proofs.LivingMajorities.{living_decide}
 

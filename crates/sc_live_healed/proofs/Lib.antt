@@ -23,7 +23,7 @@ pub mod VotesUnderWay
 pub mod VotesBesides
 pub mod LivingMajorities
 pub mod IdleReplicas
-pub mod Lemmas
+pub mod HealedLemmas
 pub mod FixedBirths
 pub mod FixedClients
 pub mod SeatBirths

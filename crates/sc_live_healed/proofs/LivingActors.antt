@@ -10,13 +10,13 @@ use Rattle.sc_node_table.specs.Values.{Seat, Row, Event, OrderLine, Base, Mail, 
 use Rattle.sc_actor.specs.declared.rows.Event.TheVariants.{Tick as TickEvent, Go as GoEvent}
 use Rattle.sc_actor.specs.Definitions.{acted, input_of, replay, value, may_get, has_crashed, has_started, is_crash, numbers_of, acts, row_of, line_row, System}
 use Rattle.sc_actor.proofs.Lemmas.{find-who}
-use Rattle.sc_words.proofs.PaxosProofs.Lemmas.{Each-among, Each-append, Each-from_All, find_found}
-use Rattle.sc_node_table.specs.Definitions.{NodeState, is_node, numbers_from}
+use Rattle.sc_words.proofs.PaxosProofs.PaxosLemmas.{Each-among, Each-append, Each-from_All, find_found}
+use Rattle.sc_node_table.specs.NodeDefinitions.{NodeState, is_node, numbers_from}
 use Rattle.sc_scenario.specs.declared.scenario.scenarios.Scenario.{Scenario}
 use Rattle.sc_scenario.specs.declared.scenario.scenarios.Asks.{Asks as Requests}
 use Rattle.sc_scenario.specs.scenario.Definitions.{IsBounded, IsBoundedClient}
-use Rattle.sc_meaning.specs.sound.Definitions.{Player, as_nodes, births, client_seat, client_seats, node_seat, player_table, route_of}
-use Rattle.sc_live_orderly.specs.Definitions.{Kick, Ticks, Starts, Turn, kick_line, AreDelivered, HasTurns}
+use Rattle.sc_meaning.specs.sound.SoundDefinitions.{Player, as_nodes, births, client_seat, client_seats, node_seat, player_table, route_of}
+use Rattle.sc_live_orderly.specs.OrderlyDefinitions.{Kick, Ticks, Starts, Turn, kick_line, AreDelivered, HasTurns}
 use Rattle.sc_live_orderly.specs.Turns.{as_list}
 use Rattle.sc_live_orderly.proofs.PendingMail.{takes_lowest}
 use Rattle.sc_live_healed.proofs.FixedJournals.{Rows, IsOf}

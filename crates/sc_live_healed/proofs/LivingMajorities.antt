@@ -3,7 +3,7 @@ use Rattle.std.proofs.Common.{◌≡◌, ℕ, ◌*◌, Bool, true, List, length,
 use Rattle.std.proofs.lemmas.Bool.{lt-ltb}
 use Rattle.sc_base.specs.Definitions.{Among, votes_of, is_majority, is_member}
 use Rattle.sc_paxos_law.proofs.Leading.{counts_within}
-use Rattle.sc_live_healed.specs.Definitions.{LivingMajority}
+use Rattle.sc_live_healed.specs.HealedDefinitions.{LivingMajority}
 
 -- all members that are alive are a majority
 pub living_decide : (lives : ℕ → Bool) (members nodes : List ℕ) → LivingMajority lives members → ((member : ℕ) → Among member members → lives member ≡ true → is_member nodes member ≡ true) → is_majority members nodes ≡ true

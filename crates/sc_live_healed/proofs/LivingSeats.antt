@@ -3,24 +3,24 @@ use Rattle.std.proofs.Common.{◌≡◌, ℕ, ◌*◌, ◌≤◌, ◌&&◌, not,
 use Rattle.std.specs.List.{list_any}
 use Rattle.std.proofs.lemmas.Bool.{cond_both, and_parts, eqb-true, leb-true, le-leb, cases_Bool, ltb-true}
 use Rattle.sc_base.specs.Definitions.{Among, is_majority, is_member, votes_of, most_nodes}
-use Rattle.sc_words.proofs.PaxosProofs.Lemmas.{Each-among}
+use Rattle.sc_words.proofs.PaxosProofs.PaxosLemmas.{Each-among}
 use Rattle.sc_base.proofs.Lemmas.{and_both}
-use Rattle.sc_law_groups.proofs.GroupProofs.Lemmas.{among_numbers}
+use Rattle.sc_law_groups.proofs.GroupProofs.GroupLemmas.{among_numbers}
 use Rattle.sc_paxos_law.proofs.Lemmas.{Among-either, from_map}
 use Rattle.sc_node_table.specs.Values.{Seat, Row, Base, OrderLine, Mail, Node, Client}
 use Rattle.sc_actor.specs.Definitions.{acted, input_of, replay, value, may_get, has_crashed, numbers_of}
-use Rattle.sc_node_table.specs.Definitions.{NodeState, is_node, numbers_from}
+use Rattle.sc_node_table.specs.NodeDefinitions.{NodeState, is_node, numbers_from}
 use Rattle.sc_scenario.specs.declared.scenario.scenarios.Scenario.{Scenario}
 use Rattle.sc_scenario.specs.declared.scenario.scenarios.Asks.{Asks as Requests}
 use Rattle.sc_scenario.specs.scenario.Definitions.{IsBounded}
-use Rattle.sc_meaning.specs.sound.Definitions.{Lawful, Player, as_nodes, births, client_seat, client_seats, node_seat, player_table, route_of, schedule, system_of}
-use Rattle.sc_live_orderly.proofs.Lemmas.{is_born-from}
+use Rattle.sc_meaning.specs.sound.SoundDefinitions.{Lawful, Player, as_nodes, births, client_seat, client_seats, node_seat, player_table, route_of, schedule, system_of}
+use Rattle.sc_live_orderly.proofs.OrderlyLemmas.{is_born-from}
 use Rattle.sc_paxos_law.proofs.Leading.{counts_within}
 use Rattle.sc_live_plain.proofs.PlainRowsProofs.NodeSeats.{seat_in}
 use Rattle.sc_live_healed.proofs.FixedJournals.{Rows, IsOf}
 use Rattle.sc_live_healed.proofs.HealedLines.{living_spared}
 use Rattle.sc_live_healed.proofs.RowsWithoutOrders.{rows_spare}
-use Rattle.sc_live_healed.specs.Definitions.{lives, HasLivingMajorities, LivingMajority}
+use Rattle.sc_live_healed.specs.HealedDefinitions.{lives, HasLivingMajorities, LivingMajority}
 
 -- ---- clients stay clients
 

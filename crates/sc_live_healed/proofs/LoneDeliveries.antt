@@ -7,19 +7,19 @@ use Rattle.sc_base.specs.Definitions.{Among, Each}
 use Rattle.sc_node_table.specs.Values.{Seat, Row, Event, Deliver, Input, Got, Base, OrderLine, Mail}
 use Rattle.sc_actor.specs.Definitions.{mails, acted, input_of, value, may_get, has_crashed, is_crash, numbers_of, copies, System}
 use Rattle.sc_actor.proofs.Lemmas.{value-snoc}
-use Rattle.sc_node_table.specs.Definitions.{numbers_from}
-use Rattle.sc_words.proofs.PaxosProofs.Lemmas.{Each-among, Each-append, Each-filter, Each-from_All, Among-filter, find_found}
+use Rattle.sc_node_table.specs.NodeDefinitions.{numbers_from}
+use Rattle.sc_words.proofs.PaxosProofs.PaxosLemmas.{Each-among, Each-append, Each-filter, Each-from_All, Among-filter, find_found}
 use Rattle.sc_paxos_law.proofs.Lemmas.{Among-left, Among-right, member-among}
 use Rattle.sc_scenario.specs.declared.scenario.scenarios.Scenario.{Scenario}
 use Rattle.sc_scenario.specs.scenario.Definitions.{IsBounded, IsUpTo}
-use Rattle.sc_meaning.specs.sound.Definitions.{Player, as_nodes, births, client_seats, node_seat, player_table, system_of}
-use Rattle.sc_live_orderly.specs.Definitions.{pending_mail, mail_with, TakesLowest}
-use Rattle.sc_live_plain.proofs.Lemmas.{some_is}
+use Rattle.sc_meaning.specs.sound.SoundDefinitions.{Player, as_nodes, births, client_seats, node_seat, player_table, system_of}
+use Rattle.sc_live_orderly.specs.OrderlyDefinitions.{pending_mail, mail_with, TakesLowest}
+use Rattle.sc_live_plain.proofs.PlainLemmas.{some_is}
 use Rattle.sc_live_plain.proofs.PlainProofs.PlainSteps.{to_numbers}
 use Rattle.sc_live_healed.proofs.FixedWalks.{IsMember}
 use Rattle.sc_live_healed.proofs.FixedJournals.{Rows, IsOf}
 use Rattle.sc_live_orderly.proofs.PendingMail.{crashed_same as one_crashed}
-use Rattle.sc_law_groups.proofs.WholeProofs.Lemmas.{group_place}
+use Rattle.sc_law_groups.proofs.WholeProofs.WholeLemmas.{group_place}
 
 -- ---- mail with copies
 

@@ -3,14 +3,14 @@ use Rattle.std.proofs.Common.{◌≡◌, ℕ, ◌+◌, ◌≤◌, ◌<◌, ◌&&
 use Rattle.std.proofs.lemmas.Bool.{cond_both, leb-true, ltb-true, and_parts, eq-eqb, and_from}
 use Rattle.sc_base.specs.Definitions.{Among}
 use Rattle.sc_node_table.specs.Values.{Draw, Op, Reply, Route, Command, Call, Base, Core, AnswerBody, Value, NotLeader, NotMine, Gone, Stale, Mail, MailBody, Request, Learn}
-use Rattle.sc_words.specs.ideal.Definitions.{holds_key, key_of}
-use Rattle.sc_words.proofs.PaxosProofs.Lemmas.{Each-among}
-use Rattle.sc_node_table.specs.Definitions.{ReplicaState, Place, next, name_of, at_slot, mailed, admits_requests, request_refusal, refused_at, requested, queued, request_row, queued_number, without_request, pumped, answer_to}
-use Rattle.sc_live_plain.specs.Definitions.{takers}
+use Rattle.sc_words.specs.ideal.IdealDefinitions.{holds_key, key_of}
+use Rattle.sc_words.proofs.PaxosProofs.PaxosLemmas.{Each-among}
+use Rattle.sc_node_table.specs.NodeDefinitions.{ReplicaState, Place, next, name_of, at_slot, mailed, admits_requests, request_refusal, refused_at, requested, queued, request_row, queued_number, without_request, pumped, answer_to}
+use Rattle.sc_live_plain.specs.PlainDefinitions.{takers}
 use Rattle.sc_live_plain.proofs.LeadersProofs.LeadingReplicas.{in_range}
 use Rattle.sc_live_plain.proofs.PlainRowsProofs.SlotCounts.{at_none, one_if, one_if_most}
 use Rattle.sc_live_plain.proofs.PlainRowsProofs.RepeatedMail.{last_among}
-use Rattle.sc_live_healed.specs.Definitions.{IsFixedReplica, IsFixedBody, TakesSlots}
+use Rattle.sc_live_healed.specs.HealedDefinitions.{IsFixedReplica, IsFixedBody, TakesSlots}
 use Rattle.sc_live_healed.proofs.FixedWalks.{FixedWalk, IsFresh, IsFixedPlace}
 use Rattle.sc_live_healed.proofs.FixedParts.{request_taken}
 use Rattle.sc_live_healed.proofs.FixedPumps.{pumps}

@@ -3,13 +3,13 @@ use Rattle.std.proofs.Common.{◌≡◌, ℕ, Bool, true, false, true≢false, c
 use Rattle.std.proofs.lemmas.Bool.{cond_both, cond-false, cases_Bool}
 use Rattle.sc_base.specs.Definitions.{Among, Each, same_draw}
 use Rattle.sc_base.proofs.Lemmas.{draw_is, same_name}
-use Rattle.sc_words.proofs.PaxosProofs.Lemmas.{Each-among, find_found}
+use Rattle.sc_words.proofs.PaxosProofs.PaxosLemmas.{Each-among, find_found}
 use Rattle.sc_node_table.specs.Values.{Draw, Op, Base, Core, Command, AnswerBody, Got, Mail, MailBody, Request}
-use Rattle.sc_node_table.specs.Definitions.{NodeState, ReplicaState, Place, name_of, replica_of, with_replica, mailed, node_table, may_come, group_of_mail}
-use Rattle.sc_law_walks.proofs.Lemmas.{either_way}
-use Rattle.sc_meaning.proofs.EntriesProofs.Lemmas.{other_name}
-use Rattle.sc_live_steps.proofs.CalmStepsProofs.Lemmas.{put_found}
-use Rattle.sc_live_healed.specs.Definitions.{IsFixedMail, IsFixedNode, IsFixedReplica, TakesSlots, AllTakeSlots}
+use Rattle.sc_node_table.specs.NodeDefinitions.{NodeState, ReplicaState, Place, name_of, replica_of, with_replica, mailed, node_table, may_come, group_of_mail}
+use Rattle.sc_law_walks.proofs.WalkLemmas.{either_way}
+use Rattle.sc_meaning.proofs.EntriesProofs.EntryLemmas.{other_name}
+use Rattle.sc_live_steps.proofs.CalmStepsProofs.CalmStepLemmas.{put_found}
+use Rattle.sc_live_healed.specs.HealedDefinitions.{IsFixedMail, IsFixedNode, IsFixedReplica, TakesSlots, AllTakeSlots}
 use Rattle.sc_live_healed.proofs.FixedNodes.{AreFresh}
 use Rattle.sc_live_healed.proofs.FixedGroupMail.{TakesMail, PassesMail, mail_taken}
 use Rattle.sc_live_healed.proofs.TakenRequests.{IsHeld, reply_mail}

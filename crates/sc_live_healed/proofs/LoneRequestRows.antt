@@ -5,19 +5,19 @@ use Rattle.std.specs.FinMap.{get}
 use Rattle.std.proofs.lemmas.Bool.{cond_both, ltb-false, eqb-false, eq-eqb, and_from}
 use Rattle.sc_base.specs.Definitions.{Each, client_actor}
 use Rattle.sc_node_table.specs.Values.{Ballot, Draw, Noted, Op, Reply, Command, Call, Base, Lock, Free, Coordinating, Promised, Watching, Route, Effect, AnswerBody, Value, Mail, MailBody, Answer, Accepted, Nack, Learn, Ask, Install, Chosen, Flight, Report}
-use Rattle.sc_words.specs.ideal.Definitions.{holds_key, key_of, reply_of}
+use Rattle.sc_words.specs.ideal.IdealDefinitions.{holds_key, key_of, reply_of}
 use Rattle.sc_words.specs.declared.commands.effects.Effect.TheVariants as Was
-use Rattle.sc_words.proofs.PaxosProofs.Lemmas.{Each-append, Each-among, Each-weaker, find_found}
-use Rattle.sc_words.specs.paxos.Definitions.{LogState, entry_at, counted, below, with_voters, without_flight_at, after_accept}
-use Rattle.sc_group_table.specs.machine.Definitions.{Group, base_of, done, served_by_note, served, called, applied}
-use Rattle.sc_node_table.specs.Definitions.{ReplicaState, Place, next, name_of, flying, sent, stopped, entered, forgotten, floor_of, with_entry, jumped, hinted, at_slot, with_slot, put_back, without_request, answer_of, answered_or_put_back, answered}
-use Rattle.sc_law_entries.specs.names.Definitions.{Opt}
+use Rattle.sc_words.proofs.PaxosProofs.PaxosLemmas.{Each-append, Each-among, Each-weaker, find_found}
+use Rattle.sc_words.specs.paxos.PaxosDefinitions.{LogState, entry_at, counted, below, with_voters, without_flight_at, after_accept}
+use Rattle.sc_group_table.specs.machine.MachineDefinitions.{Group, base_of, done, served_by_note, served, called, applied}
+use Rattle.sc_node_table.specs.NodeDefinitions.{ReplicaState, Place, next, name_of, flying, sent, stopped, entered, forgotten, floor_of, with_entry, jumped, hinted, at_slot, with_slot, put_back, without_request, answer_of, answered_or_put_back, answered}
+use Rattle.sc_law_entries.specs.names.NameDefinitions.{Opt}
 use Rattle.sc_law_entries.proofs.NamesProofs.EachFound.{Each-drop, opt_get, opt_slot, slot_with, slot_without, flight_without, voters_with}
 use Rattle.sc_law_refusal.proofs.HeldCommands as held
 use Rattle.sc_law_walks.proofs.Places.{cleared}
-use Rattle.sc_law_walks.proofs.Lemmas.{either_way, back_any, entered_group, entered_running, TableEntry, entry_holds, entered_place, entered_next, entry_is}
+use Rattle.sc_law_walks.proofs.WalkLemmas.{either_way, back_any, entered_group, entered_running, TableEntry, entry_holds, entered_place, entered_next, entry_is}
 use Rattle.sc_live_plain.proofs.PlainRowsProofs.RepeatedMail.{mail_of, among_push, last_among, others_kept}
-use Rattle.sc_live_healed.specs.Definitions.{IsFixedCommand}
+use Rattle.sc_live_healed.specs.HealedDefinitions.{IsFixedCommand}
 use Rattle.sc_live_healed.proofs.FixedWalks.{FixedWalk}
 use Rattle.sc_live_healed.proofs.FixedEntries.{unreported, unspoken, none_joined}
 use Rattle.sc_live_healed.proofs.FixedParts.{opt_some, ready_fixed, applied_core}

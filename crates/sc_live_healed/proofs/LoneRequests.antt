@@ -5,10 +5,10 @@ use Rattle.std.proofs.lemmas.Bool.{cond_both, ltb-true}
 use Rattle.sc_base.specs.Definitions.{Among, Each, client_actor}
 use Rattle.sc_node_table.specs.Values.{Draw, Reply, Command, Call, AnswerBody, Value, NotLeader, Mail, MailBody, Request, Answer, Prepare, Promise, Accept, Learn, Ask, Flight, Report}
 use Rattle.sc_words.specs.declared.paxos.answers.Must.TheVariants.{Value as MustBe, Gap, Free as Open}
-use Rattle.sc_words.proofs.PaxosProofs.Lemmas.{Each-append, Each-among, choice_among}
-use Rattle.sc_words.specs.paxos.Definitions.{LeaderState, LogState, must, must_without, with_flight_at, choice, names_above, chosen_value}
-use Rattle.sc_node_table.specs.Definitions.{ReplicaState, Place, next, name_of, flying, at_slot, sent, sent_all, stopped, ended, offered, answered, taken_at, taken_from, listed, open_slots, under_way, answered_all, dismissed, dismissed_all, put_back}
-use Rattle.sc_law_entries.specs.names.Definitions.{Opt}
+use Rattle.sc_words.proofs.PaxosProofs.PaxosLemmas.{Each-append, Each-among, choice_among}
+use Rattle.sc_words.specs.paxos.PaxosDefinitions.{LeaderState, LogState, must, must_without, with_flight_at, choice, names_above, chosen_value}
+use Rattle.sc_node_table.specs.NodeDefinitions.{ReplicaState, Place, next, name_of, flying, at_slot, sent, sent_all, stopped, ended, offered, answered, taken_at, taken_from, listed, open_slots, under_way, answered_all, dismissed, dismissed_all, put_back}
+use Rattle.sc_law_entries.specs.names.NameDefinitions.{Opt}
 use Rattle.sc_law_entries.proofs.NamesProofs.EachFound.{opt_either, opt_slot}
 use Rattle.sc_law_refusal.proofs.HeldCommands as held
 use Rattle.sc_law_walks.proofs.Talks.{all_sent}

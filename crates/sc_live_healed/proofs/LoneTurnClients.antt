@@ -5,16 +5,16 @@ use Rattle.sc_base.specs.Definitions.{Among, Each, client_actor}
 use Rattle.sc_node_table.specs.Values.{Seat, Row, Draw, Op, Command, Call, Reply, AnswerBody, Value, OrderLine, Got, Mail, MailBody, Request, Answer, Learn, Ask, Node, Client}
 use Rattle.sc_actor.specs.Definitions.{mails, value, has_crashed}
 use Rattle.sc_actor.proofs.Lemmas.{mails-snoc}
-use Rattle.sc_node_table.specs.Definitions.{NodeState, ReplicaState, is_node}
-use Rattle.sc_words.proofs.PaxosProofs.Lemmas.{Each-among, Each-weaker}
+use Rattle.sc_node_table.specs.NodeDefinitions.{NodeState, ReplicaState, is_node}
+use Rattle.sc_words.proofs.PaxosProofs.PaxosLemmas.{Each-among, Each-weaker}
 use Rattle.sc_paxos_law.proofs.Lemmas.{Among-right}
-use Rattle.sc_client_table.specs.table.Definitions.{Client as ClientState, ClientStep, got, answer_taken, waits_for, request_of}
+use Rattle.sc_client_table.specs.table.TableDefinitions.{Client as ClientState, ClientStep, got, answer_taken, waits_for, request_of}
 use Rattle.sc_scenario.specs.declared.scenario.scenarios.Scenario.{Scenario}
 use Rattle.sc_scenario.specs.scenario.Definitions.{IsBounded}
-use Rattle.sc_meaning.specs.sound.Definitions.{Player, player_table}
-use Rattle.sc_live_orderly.specs.Definitions.{TakesLowest}
-use Rattle.sc_live_plain.proofs.Lemmas.{some_is}
-use Rattle.sc_live_healed.specs.Definitions.{IsFixedMail, IsFixedBody, IsAskingOn}
+use Rattle.sc_meaning.specs.sound.SoundDefinitions.{Player, player_table}
+use Rattle.sc_live_orderly.specs.OrderlyDefinitions.{TakesLowest}
+use Rattle.sc_live_plain.proofs.PlainLemmas.{some_is}
+use Rattle.sc_live_healed.specs.HealedDefinitions.{IsFixedMail, IsFixedBody, IsAskingOn}
 use Rattle.sc_live_healed.proofs.FixedJournals.{Rows, IsOf, IsFixedJournal, fresh, given}
 use Rattle.sc_live_healed.proofs.LivingActors.{seats_stay_nodes}
 use Rattle.sc_live_healed.proofs.FewJournals.{IsFewJournal, PlayerFew}

@@ -6,14 +6,14 @@ use Rattle.sc_base.specs.Definitions.{client_actor}
 use Rattle.sc_node_table.specs.Values.{Seat, Row, OrderLine, Got, Mail, Node, Client}
 use Rattle.sc_actor.specs.Definitions.{value}
 use Rattle.sc_actor.proofs.Lemmas.{lawful-prefix}
-use Rattle.sc_client_table.specs.table.Definitions.{Client as ClientState}
+use Rattle.sc_client_table.specs.table.TableDefinitions.{Client as ClientState}
 use Rattle.sc_scenario.specs.declared.scenario.scenarios.Scenario.{Scenario}
 use Rattle.sc_scenario.specs.scenario.Definitions.{IsBounded}
-use Rattle.sc_meaning.specs.sound.Definitions.{Player, Lawful, as_nodes, player_table, schedule, system_of, issues}
-use Rattle.sc_live_orderly.specs.Definitions.{TakesLowest, AreDelivered}
+use Rattle.sc_meaning.specs.sound.SoundDefinitions.{Player, Lawful, as_nodes, player_table, schedule, system_of, issues}
+use Rattle.sc_live_orderly.specs.OrderlyDefinitions.{TakesLowest, AreDelivered}
 use Rattle.sc_live_orderly.proofs.PendingMail.{takes_lowest}
-use Rattle.sc_live_plain.specs.Definitions.{waiting_ones}
-use Rattle.sc_live_healed.specs.Definitions.{IsAskingOn}
+use Rattle.sc_live_plain.specs.PlainDefinitions.{waiting_ones}
+use Rattle.sc_live_healed.specs.HealedDefinitions.{IsAskingOn}
 use Rattle.sc_live_healed.proofs.FixedJournals.{Rows, IsOf, IsFixedJournal, AreWithoutOrders, untold_prefix}
 use Rattle.sc_live_healed.proofs.TakenJournals.{IsTakenJournal, journal_taken}
 use Rattle.sc_live_healed.proofs.FewJournals.{IsFewJournal, HasSentFew, journal_few}

@@ -7,19 +7,19 @@ use Rattle.sc_actor.specs.declared.rows.Event.TheVariants.{Tick as TickEvent, Go
 use Rattle.sc_actor.specs.declared.rows.Input.TheVariants.{Tick, Go}
 use Rattle.sc_actor.specs.Definitions.{mails, acted, input_of, value, may_get, numbers_of, has_started, has_crashed, is_crash, is_quiet, copies, counts_at, row_of}
 use Rattle.sc_actor.proofs.Lemmas.{value-snoc, mails-snoc}
-use Rattle.sc_node_table.specs.Definitions.{NodeState, ReplicaState}
-use Rattle.sc_words.proofs.PaxosProofs.Lemmas.{Each-among, Each-weaker, Each-filter, Among-filter}
+use Rattle.sc_node_table.specs.NodeDefinitions.{NodeState, ReplicaState}
+use Rattle.sc_words.proofs.PaxosProofs.PaxosLemmas.{Each-among, Each-weaker, Each-filter, Among-filter}
 use Rattle.sc_paxos_law.proofs.Lemmas.{Among-right}
-use Rattle.sc_client_table.specs.table.Definitions.{Client as ClientState, ClientStep, table, request_of}
+use Rattle.sc_client_table.specs.table.TableDefinitions.{Client as ClientState, ClientStep, table, request_of}
 use Rattle.sc_scenario.specs.declared.scenario.scenarios.Scenario.{Scenario}
 use Rattle.sc_scenario.specs.scenario.Definitions.{IsBounded}
-use Rattle.sc_meaning.specs.sound.Definitions.{Player, as_nodes, births, player_table}
-use Rattle.sc_live_orderly.specs.Definitions.{mail_with}
+use Rattle.sc_meaning.specs.sound.SoundDefinitions.{Player, as_nodes, births, player_table}
+use Rattle.sc_live_orderly.specs.OrderlyDefinitions.{mail_with}
 use Rattle.sc_live_orderly.proofs.PendingMail.{crashed_same, gets_same, mail_with-agree, none_pending}
 use Rattle.sc_live_orderly.proofs.RemainingMail.{after-row}
-use Rattle.sc_live_plain.specs.Definitions.{IsResting}
-use Rattle.sc_live_plain.proofs.Lemmas.{some_is}
-use Rattle.sc_live_healed.specs.Definitions.{IsFixedMail, IsIdle}
+use Rattle.sc_live_plain.specs.PlainDefinitions.{IsResting}
+use Rattle.sc_live_plain.proofs.PlainLemmas.{some_is}
+use Rattle.sc_live_healed.specs.HealedDefinitions.{IsFixedMail, IsIdle}
 use Rattle.sc_live_healed.proofs.FixedJournals.{Rows, IsOf, IsFixedJournal}
 use Rattle.sc_live_healed.proofs.AskingJournals.{IsAskingAt}
 use Rattle.sc_live_healed.proofs.AskingClients.{Asks}

@@ -4,15 +4,15 @@ use Rattle.std.proofs.lemmas.Bool.{cases_eq}
 use Rattle.sc_base.specs.Definitions.{Among, Each, client_actor}
 use Rattle.sc_node_table.specs.Values.{Seat, Row, Draw, Op, Base, Command, AnswerBody, OrderLine, Got, Mail, MailBody, Request, Answer, Node, Client}
 use Rattle.sc_actor.specs.Definitions.{mails, value, has_crashed}
-use Rattle.sc_node_table.specs.Definitions.{NodeState, ReplicaState, replica_of, node_table}
-use Rattle.sc_words.proofs.PaxosProofs.Lemmas.{find_found}
-use Rattle.sc_client_table.specs.table.Definitions.{Client as ClientState, request_of}
+use Rattle.sc_node_table.specs.NodeDefinitions.{NodeState, ReplicaState, replica_of, node_table}
+use Rattle.sc_words.proofs.PaxosProofs.PaxosLemmas.{find_found}
+use Rattle.sc_client_table.specs.table.TableDefinitions.{Client as ClientState, request_of}
 use Rattle.sc_scenario.specs.declared.scenario.scenarios.Scenario.{Scenario}
 use Rattle.sc_scenario.specs.scenario.Definitions.{IsBounded}
-use Rattle.sc_meaning.specs.sound.Definitions.{Player, as_nodes, births, player_table}
-use Rattle.sc_live_orderly.specs.Definitions.{TakesLowest}
-use Rattle.sc_live_plain.specs.Definitions.{IsResting}
-use Rattle.sc_live_healed.specs.Definitions.{IsFixedMail, IsFixedBody, IsAskingOn}
+use Rattle.sc_meaning.specs.sound.SoundDefinitions.{Player, as_nodes, births, player_table}
+use Rattle.sc_live_orderly.specs.OrderlyDefinitions.{TakesLowest}
+use Rattle.sc_live_plain.specs.PlainDefinitions.{IsResting}
+use Rattle.sc_live_healed.specs.HealedDefinitions.{IsFixedMail, IsFixedBody, IsAskingOn}
 use Rattle.sc_live_healed.proofs.FixedNodes.{AreFresh}
 use Rattle.sc_live_healed.proofs.FixedJournals.{Rows, IsFixedPlayer, IsOf, fresh, given}
 use Rattle.sc_live_healed.proofs.TakenJournals.{PlayerTakes, IsTakenJournal}

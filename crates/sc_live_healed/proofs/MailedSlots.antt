@@ -3,9 +3,9 @@ use Rattle.std.proofs.Common.{◌≡◌, ℕ, ◌+◌, ◌<◌, ◌==◌, true, 
 use Rattle.std.proofs.lemmas.Bool.{cases_Bool, and_parts}
 use Rattle.sc_base.specs.Definitions.{Among, Each, is_member, IsRoster}
 use Rattle.sc_node_table.specs.Values.{Base, Command, Free, Flight, Report, MailBody, Request, Answer, Prepare, Promise, Accept, Accepted, Nack, Learn, Ask, Install}
-use Rattle.sc_node_table.specs.Definitions.{ReplicaState, Place, next, settled, may_offer, first_set, slots_ahead, born_replica, mailed}
-use Rattle.sc_live_plain.specs.Definitions.{AreTaken, takers}
-use Rattle.sc_live_healed.specs.Definitions.{IsFixedReplica, IsFixedBody, IsFollower, KeepsBallots, IsUndecided, TakesSlots, Counts, IsCarried}
+use Rattle.sc_node_table.specs.NodeDefinitions.{ReplicaState, Place, next, settled, may_offer, first_set, slots_ahead, born_replica, mailed}
+use Rattle.sc_live_plain.specs.PlainDefinitions.{AreTaken, takers}
+use Rattle.sc_live_healed.specs.HealedDefinitions.{IsFixedReplica, IsFixedBody, IsFollower, KeepsBallots, IsUndecided, TakesSlots, Counts, IsCarried}
 use Rattle.sc_live_healed.proofs.ExecutedSlots.{range_none}
 use Rattle.sc_live_healed.proofs.ReadySlots.{HasServed, served_takes}
 use Rattle.sc_live_healed.proofs.ServedRows.{requests, prepares, promises_count, accepts, nacks, learns, asks, installs, unchanged}

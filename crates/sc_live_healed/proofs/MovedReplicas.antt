@@ -1,14 +1,14 @@
 -- What a row that is no tick changes of a replica of a group that is not reshaped: its greatest ballot rises, what it asks is within it, it promises nothing but what the mail brings, it begins to lead no ballot, and it loses no promise of its own ballot.
 use Rattle.std.proofs.Common.{◌≡◌, ℕ, ◌+◌, ◌-◌, ◌<◌, ◌≤◌, ◌&&◌, not, Bool, true, false, true≢false, List, [], ◌∷◌, ◌++◌, Option, Some, None, ◌⊎◌, inl, inr, refl, sym, ◌∙◌, ap, subst, arith}
 use Rattle.sc_base.specs.Definitions.{Each, Drawer, same_ballot, is_majority, is_member, client_actor}
-use Rattle.sc_words.proofs.PaxosProofs.Lemmas.{Each-append, Each-weaker}
+use Rattle.sc_words.proofs.PaxosProofs.PaxosLemmas.{Each-append, Each-weaker}
 use Rattle.sc_paxos_law.proofs.Lemmas.{Among-left, among-member, member-among}
 use Rattle.sc_node_table.specs.Values.{Ballot, Command, Noop, Base, Counted, Mail, MailBody, Answer, Prepare, Promise, Accept, Accepted, Nack, Learn, Ask, Install, Flight, TxPrepare, TxVote, TxOutcome, TxElsewhere, TxWatch, TxWatched, Told, Report}
-use Rattle.sc_group_table.specs.machine.Definitions.{base_of}
-use Rattle.sc_words.specs.paxos.Definitions.{AcceptorState, LeaderState, below, after_promise, after_accept, reports_from, kept_voters, voters_after, promise_counted, counted, vote_at, flight_at}
-use Rattle.sc_node_table.specs.Definitions.{ended, entered, forgotten, jumped, offered, answered_all, sent, under_way, mailed, pumped, tick_row, open_nodes, ReplicaState, Place, name_of, next}
+use Rattle.sc_group_table.specs.machine.MachineDefinitions.{base_of}
+use Rattle.sc_words.specs.paxos.PaxosDefinitions.{AcceptorState, LeaderState, below, after_promise, after_accept, reports_from, kept_voters, voters_after, promise_counted, counted, vote_at, flight_at}
+use Rattle.sc_node_table.specs.NodeDefinitions.{ended, entered, forgotten, jumped, offered, answered_all, sent, under_way, mailed, pumped, tick_row, open_nodes, ReplicaState, Place, name_of, next}
 use Rattle.sc_law_walks.proofs.Talks.{all_sent, all_answered, all_dismissed, one_answered}
-use Rattle.sc_law_walks.proofs.Lemmas.{either_way, below_round, at_least_round, Talk, counted_ballot, promise_ballot, floor_under}
+use Rattle.sc_law_walks.proofs.WalkLemmas.{either_way, below_round, at_least_round, Talk, counted_ballot, promise_ballot, floor_under}
 use Rattle.sc_live_healed.proofs.FixedWalks.{IsFresh, IsFixedPlace, FixedWalk}
 use Rattle.sc_live_healed.proofs.UnqueuedEntries.{Unqueued, KeptEntry, hints, overtakes, entry_keeps}
 use Rattle.sc_live_healed.proofs.FixedParts.{ready_fixed}
@@ -16,7 +16,7 @@ use Rattle.sc_live_healed.proofs.FixedPumps.{pumps, pumps_next}
 use Rattle.sc_live_healed.proofs.FixedRows.{takes_mail}
 use Rattle.sc_live_healed.proofs.FixedTicks.{ticks}
 use Rattle.sc_live_healed.proofs.FixedBesides.{FixedFacts, FixedStates, FixedTickStates, both_walk, both_ticks}
-use Rattle.sc_live_healed.specs.Definitions.{IsFixedBody}
+use Rattle.sc_live_healed.specs.HealedDefinitions.{IsFixedBody}
 
 -- a mail that asks for a promise or a vote does so in a round that is not above this one
 abbrev pub AsksWithin : ℕ → MailBody → Type 0

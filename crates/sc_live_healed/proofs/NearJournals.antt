@@ -1,11 +1,11 @@
 -- In each lawful journal without orders and policy no slot is above four times the number of rows.
 use Rattle.std.proofs.Common.{◌≡◌, ℕ, ◌+◌, ◌*◌, ◌≤◌, ◌<◌, false, [], length, arith}
-use Rattle.sc_words.proofs.PaxosProofs.Lemmas.{Each-weaker}
+use Rattle.sc_words.proofs.PaxosProofs.PaxosLemmas.{Each-weaker}
 use Rattle.sc_node_table.specs.Values.{MailBody, Accept, Accepted, Learn, Install, Flight, Command}
-use Rattle.sc_node_table.specs.Definitions.{ReplicaState, Place, mailed, tick_row, slots_ahead}
+use Rattle.sc_node_table.specs.NodeDefinitions.{ReplicaState, Place, mailed, tick_row, slots_ahead}
 use Rattle.sc_scenario.specs.declared.scenario.scenarios.Scenario.{Scenario}
 use Rattle.sc_scenario.specs.scenario.Definitions.{IsBounded}
-use Rattle.sc_meaning.specs.sound.Definitions.{Lawful, Player, as_nodes}
+use Rattle.sc_meaning.specs.sound.SoundDefinitions.{Lawful, Player, as_nodes}
 use Rattle.sc_live_healed.proofs.FixedJournals.{Rows, AreWithoutOrders}
 use Rattle.sc_live_healed.proofs.NearSlots.{NamesNear, BringsNear, StaysNear, mailed_near, ticked_near}
 use Rattle.sc_live_healed.proofs.GrowingJournals.{Growth, PlayerGrown, IsGrownJournal, journal_grown}

@@ -1,13 +1,13 @@
 -- No round that a replica of a group that is not reshaped has seen or names in a row is above those of the mail that it takes, but for its election at a tick, which is in the next round.
 use Rattle.std.proofs.Common.{◌≡◌, ℕ, ◌+◌, ◌-◌, ◌≤◌, false, true, List, [], ◌∷◌, Some, arith}
 use Rattle.sc_base.specs.Definitions.{Each, Drawer, client_actor}
-use Rattle.sc_words.proofs.PaxosProofs.Lemmas.{Each-append, Each-weaker}
+use Rattle.sc_words.proofs.PaxosProofs.PaxosLemmas.{Each-append, Each-weaker}
 use Rattle.sc_node_table.specs.Values.{Command, Noop, Base, Mail, MailBody, Answer, Prepare, Promise, Accept, Accepted, Nack, Learn, Ask, Install, TxPrepare, TxVote, TxOutcome, TxElsewhere, TxWatch, TxWatched, Told}
-use Rattle.sc_group_table.specs.machine.Definitions.{base_of}
-use Rattle.sc_words.specs.paxos.Definitions.{reports_from, after_promise, after_accept}
-use Rattle.sc_node_table.specs.Definitions.{ended, entered, forgotten, jumped, offered, answered_all, sent, under_way, mailed, tick_row, open_nodes, ReplicaState, Place, name_of, next}
+use Rattle.sc_group_table.specs.machine.MachineDefinitions.{base_of}
+use Rattle.sc_words.specs.paxos.PaxosDefinitions.{reports_from, after_promise, after_accept}
+use Rattle.sc_node_table.specs.NodeDefinitions.{ended, entered, forgotten, jumped, offered, answered_all, sent, under_way, mailed, tick_row, open_nodes, ReplicaState, Place, name_of, next}
 use Rattle.sc_law_walks.proofs.Talks.{all_sent, all_answered, all_dismissed, one_answered}
-use Rattle.sc_law_walks.proofs.Lemmas.{Talk, at_least_round, elected_place}
+use Rattle.sc_law_walks.proofs.WalkLemmas.{Talk, at_least_round, elected_place}
 use Rattle.sc_live_healed.proofs.FixedWalks.{IsFresh, IsFixedPlace, FixedWalk, FixedAskParts}
 use Rattle.sc_live_healed.proofs.UnqueuedEntries.{Unqueued, KeptEntry, hints, overtakes, entry_keeps}
 use Rattle.sc_live_healed.proofs.FixedParts.{ready_fixed}
@@ -16,7 +16,7 @@ use Rattle.sc_live_healed.proofs.FixedRows.{takes_mail}
 use Rattle.sc_live_healed.proofs.FixedTicks.{ticks_once}
 use Rattle.sc_live_healed.proofs.FixedBesides.{FixedFacts, FixedStates, both_walk}
 use Rattle.sc_live_healed.proofs.GrowingJournals.{Growth}
-use Rattle.sc_live_healed.specs.Definitions.{IsFixedBody}
+use Rattle.sc_live_healed.specs.HealedDefinitions.{IsFixedBody}
 
 -- a mail names no ballot of a round above this one
 abbrev pub NamesRound : ℕ → MailBody → Type 0

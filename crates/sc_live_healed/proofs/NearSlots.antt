@@ -3,14 +3,14 @@ use Rattle.std.specs.Option.{option_map}
 use Rattle.std.proofs.Common.{◌≡◌, ℕ, ◌+◌, ◌-◌, ◌<◌, ◌≤◌, ◌&&◌, not, eqb, Bool, true, false, List, [], ◌∷◌, length, Option, Some, None, refl, ap, arith}
 use Rattle.std.proofs.lemmas.Bool.{eqb-true}
 use Rattle.sc_base.specs.Definitions.{Each, Drawer, same_ballot, is_majority, is_member, client_actor}
-use Rattle.sc_words.proofs.PaxosProofs.Lemmas.{Each-append, Each-among, Each-push, find_found}
+use Rattle.sc_words.proofs.PaxosProofs.PaxosLemmas.{Each-append, Each-among, Each-push, find_found}
 use Rattle.sc_node_table.specs.Values.{Ballot, Command, Noop, Base, Counted, Mail, MailBody, Answer, Prepare, Promise, Accept, Accepted, Nack, Learn, Ask, Install, Flight, TxPrepare, TxVote, TxOutcome, TxElsewhere, TxWatch, TxWatched, Told}
-use Rattle.sc_group_table.specs.machine.Definitions.{base_of}
-use Rattle.sc_words.specs.paxos.Definitions.{LeaderState, LogState, installed, after_promise, after_accept, reports_from, kept_voters, voters_after, counted, vote_at, flight_at, without_flight}
-use Rattle.sc_node_table.specs.Definitions.{ended, entered, forgotten, floor_of, jumped, offered, answered_all, sent, under_way, mailed, tick_row, open_nodes, without_slot, ReplicaState, Place, name_of, next, slots_ahead}
+use Rattle.sc_group_table.specs.machine.MachineDefinitions.{base_of}
+use Rattle.sc_words.specs.paxos.PaxosDefinitions.{LeaderState, LogState, installed, after_promise, after_accept, reports_from, kept_voters, voters_after, counted, vote_at, flight_at, without_flight}
+use Rattle.sc_node_table.specs.NodeDefinitions.{ended, entered, forgotten, floor_of, jumped, offered, answered_all, sent, under_way, mailed, tick_row, open_nodes, without_slot, ReplicaState, Place, name_of, next, slots_ahead}
 use Rattle.sc_law_walks.proofs.Talks.{all_sent, all_answered, all_dismissed, one_answered}
-use Rattle.sc_law_walks.proofs.Lemmas.{either_way, Talk, floor_under, entry_low, cut_next}
-use Rattle.sc_live_plain.proofs.Lemmas.{at_found, out_each, with_each}
+use Rattle.sc_law_walks.proofs.WalkLemmas.{either_way, Talk, floor_under, entry_low, cut_next}
+use Rattle.sc_live_plain.proofs.PlainLemmas.{at_found, out_each, with_each}
 use Rattle.sc_live_plain.proofs.LeadersProofs.Flights.{voted_each}
 use Rattle.sc_live_healed.proofs.FixedWalks.{IsFresh, IsFixedPlace}
 use Rattle.sc_live_healed.proofs.UnqueuedEntries.{Unqueued, KeptEntry, hints, overtakes, entry_keeps}
@@ -18,7 +18,7 @@ use Rattle.sc_live_healed.proofs.FixedParts.{ready_fixed}
 use Rattle.sc_live_healed.proofs.FixedRows.{takes_mail}
 use Rattle.sc_live_healed.proofs.FixedTicks.{ticks}
 use Rattle.sc_live_healed.proofs.FixedBesides.{FixedFacts, FixedStates, FixedTickStates, both_walk, both_ticks}
-use Rattle.sc_live_healed.specs.Definitions.{IsFixedBody}
+use Rattle.sc_live_healed.specs.HealedDefinitions.{IsFixedBody}
 
 -- a mail names no slot from this one on that was learnt, and none that is not open then
 abbrev pub NamesNear : ℕ → MailBody → Type 0

@@ -1,17 +1,17 @@
 -- A node's replicas take their slots as they should after each of its steps, where its groups are not reshaped.
 use Rattle.std.proofs.Common.{◌≡◌, ℕ, ◌-◌, ◌^◌, Bool, true, false, List, [], ◌∷◌, ◌++◌, Some, ◌⊎◌, inl, inr, sym, ◌∙◌, ap, subst}
 use Rattle.sc_base.specs.Definitions.{Among, Each, Drawer, same_draw, is_member, IsRoster}
-use Rattle.sc_words.proofs.PaxosProofs.Lemmas.{Each-among, Each-weaker, find_found}
+use Rattle.sc_words.proofs.PaxosProofs.PaxosLemmas.{Each-among, Each-weaker, find_found}
 use Rattle.sc_node_table.specs.Values.{Draw, Base, Core, Input, Got, OrderLine, Mail}
 use Rattle.sc_actor.specs.declared.rows.Input.TheVariants.{Tick, Go, Told as ToldInput}
-use Rattle.sc_node_table.specs.Definitions.{NodeState, ReplicaState, Place, name_of, replica_of, with_replica, ticked, on_tick, tick_row, names_after_tick, mailed, node_table}
-use Rattle.sc_law_walks.proofs.Lemmas.{either_way}
+use Rattle.sc_node_table.specs.NodeDefinitions.{NodeState, ReplicaState, Place, name_of, replica_of, with_replica, ticked, on_tick, tick_row, names_after_tick, mailed, node_table}
+use Rattle.sc_law_walks.proofs.WalkLemmas.{either_way}
 use Rattle.sc_live_healed.proofs.FixedNodes.{AreFresh, MayTake, One, one_ticks}
 use Rattle.sc_live_healed.proofs.FixedGroupMail.{TakesMail, PassesMail, mail_taken}
 use Rattle.sc_live_healed.proofs.ServingReplicas.{Grows, IsAsked, asked_still}
 use Rattle.sc_live_healed.proofs.MailedSlots.{mailed_takes}
 use Rattle.sc_live_healed.proofs.TickedSlots.{AskAll, tick_takes}
-use Rattle.sc_live_healed.specs.Definitions.{IsFixedReplica, IsFixedBody, IsFixedNode, TakesSlots, AllTakeSlots}
+use Rattle.sc_live_healed.specs.HealedDefinitions.{IsFixedReplica, IsFixedBody, IsFixedNode, TakesSlots, AllTakeSlots}
 
 -- Of these groups, the members are one to nine nodes.
 abbrev pub AreRosters : List Base → Type 0

@@ -3,13 +3,13 @@ use Rattle.std.proofs.Common.{◌≡◌, false, true, List, [], ◌∷◌, ◌++
 use Rattle.std.proofs.lemmas.Bool.{cond_both, cond-true, cond-false, cases_Bool}
 use Rattle.sc_base.specs.Definitions.{Among, Each, Drawer, same_draw}
 use Rattle.sc_base.proofs.Lemmas.{draw_is, same_name}
-use Rattle.sc_words.proofs.PaxosProofs.Lemmas.{Each-append, Each-weaker}
+use Rattle.sc_words.proofs.PaxosProofs.PaxosLemmas.{Each-append, Each-weaker}
 use Rattle.sc_node_table.specs.Values.{Draw, Base, Core, Mail}
-use Rattle.sc_node_table.specs.Definitions.{NodeState, ReplicaState, Place, name_of, replica_of, with_replica, group_of_mail, ticked, tick_row, names_after_tick}
+use Rattle.sc_node_table.specs.NodeDefinitions.{NodeState, ReplicaState, Place, name_of, replica_of, with_replica, group_of_mail, ticked, tick_row, names_after_tick}
 use Rattle.sc_live_healed.proofs.FixedWalks.{IsSaid}
 use Rattle.sc_live_healed.proofs.FixedNodes.{AreFresh, IsOne, name_one, one_ticks}
 use Rattle.sc_live_healed.proofs.NodeViews.{said_of}
-use Rattle.sc_live_healed.specs.Definitions.{IsFixedNode}
+use Rattle.sc_live_healed.specs.HealedDefinitions.{IsFixedNode}
 
 -- ---- one of a name
 

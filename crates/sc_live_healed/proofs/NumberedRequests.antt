@@ -6,18 +6,18 @@ use Rattle.std.specs.FinMap.{get, get-insert}
 use Rattle.std.proofs.lemmas.Bool.{cond_both, eqb-true}
 use Rattle.sc_base.specs.Definitions.{Each, client_actor}
 use Rattle.sc_node_table.specs.Values.{Ballot, Noted, Op, Command, Noop, Call, Base, Lock, Free, Coordinating, Promised, Watching, Route, Effect, AnswerBody, NotLeader, Mail, MailBody, Request, Answer, Promise, Accept, Accepted, Learn, Install, Flight, Report}
-use Rattle.sc_words.specs.ideal.Definitions.{holds_key, key_of, reply_of}
-use Rattle.sc_words.proofs.PaxosProofs.Lemmas.{Each-append, Each-filter}
-use Rattle.sc_group_table.specs.machine.Definitions.{Group, group_of, base_of, done, served_by_note, served, called, applied}
-use Rattle.sc_words.specs.paxos.Definitions.{LeaderState, LogState, AcceptorState, entry_at, promise_counted, counted, reports_from, after_promise, after_accept, below, with_flight_at}
-use Rattle.sc_node_table.specs.Definitions.{ReplicaState, Place, next, name_of, flying, sent, sent_all, stopped, ended, offered, answered, entered, forgotten, floor_of, jumped, hinted, put_back, without_request, with_slot, at_slot, under_way, with_entry}
-use Rattle.sc_law_entries.specs.names.Definitions.{Opt}
+use Rattle.sc_words.specs.ideal.IdealDefinitions.{holds_key, key_of, reply_of}
+use Rattle.sc_words.proofs.PaxosProofs.PaxosLemmas.{Each-append, Each-filter}
+use Rattle.sc_group_table.specs.machine.MachineDefinitions.{Group, group_of, base_of, done, served_by_note, served, called, applied}
+use Rattle.sc_words.specs.paxos.PaxosDefinitions.{LeaderState, LogState, AcceptorState, entry_at, promise_counted, counted, reports_from, after_promise, after_accept, below, with_flight_at}
+use Rattle.sc_node_table.specs.NodeDefinitions.{ReplicaState, Place, next, name_of, flying, sent, sent_all, stopped, ended, offered, answered, entered, forgotten, floor_of, jumped, hinted, put_back, without_request, with_slot, at_slot, under_way, with_entry}
+use Rattle.sc_law_entries.specs.names.NameDefinitions.{Opt}
 use Rattle.sc_law_entries.proofs.NamesProofs.EachFound.{Each-drop, opt_get, opt_slot, slot_with, slot_without, flight_without, report_with}
 use Rattle.sc_group_table.proofs.MachineProofs.Parts.{group_again}
 use Rattle.sc_law_refusal.proofs.HeldCommands as held
 use Rattle.sc_law_walks.proofs.Talks.{all_sent, one_answered, all_answered, all_dismissed}
-use Rattle.sc_law_walks.proofs.Lemmas.{Talk, either_way, back_any, entered_group, TableEntry, entry_holds, entered_place, entry_is}
-use Rattle.sc_live_healed.specs.Definitions.{IsFixedCommand}
+use Rattle.sc_law_walks.proofs.WalkLemmas.{Talk, either_way, back_any, entered_group, TableEntry, entry_holds, entered_place, entry_is}
+use Rattle.sc_live_healed.specs.HealedDefinitions.{IsFixedCommand}
 use Rattle.sc_live_healed.proofs.FixedEntries.{unreported, unspoken, none_joined}
 use Rattle.sc_live_healed.proofs.FixedParts.{opt_some, ready_fixed, applied_core}
 use Rattle.sc_live_healed.proofs.FixedBesides.{FixedFacts, FixedStates}

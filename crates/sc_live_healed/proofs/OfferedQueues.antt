@@ -6,14 +6,14 @@ use Rattle.std.proofs.lemmas.Bool.{cond_both, cases_lt, ltb-false, and_parts, an
 use Rattle.sc_base.specs.Definitions.{Among, Each}
 use Rattle.sc_node_table.specs.Values.{Ballot, Op, Base, Command, Noop, Call, Core, Free, Mail, Accept, Must, Gap, Flight, Report}
 use Rattle.sc_words.specs.declared.paxos.answers.Must.TheVariants.{Value, Free as Open}
-use Rattle.sc_words.specs.ideal.Definitions.{key_of, holds_key}
-use Rattle.sc_words.specs.paxos.Definitions.{must, must_without, choice, names_above}
-use Rattle.sc_words.proofs.PaxosProofs.Lemmas.{Each-push, Each-weaker, Each-among, Each-from, choice_among, choice_best}
-use Rattle.sc_node_table.specs.Definitions.{sent_all, next_queued, from_backlog, found_by, found_for, offered, pumped_from, pumped, ReplicaState, Place, name_of, next, first_set, settled, may_offer, taken_at, is_idle, last_slot, slots_ahead}
-use Rattle.sc_live_plain.proofs.Lemmas.{requests_only, offer_taken, takes, takes_not, all_kept, all_reached, call_found, none_found, by_found, by_nothing, mail_of, in_range, range_yes, range_behind, one_yes, one_no}
+use Rattle.sc_words.specs.ideal.IdealDefinitions.{key_of, holds_key}
+use Rattle.sc_words.specs.paxos.PaxosDefinitions.{must, must_without, choice, names_above}
+use Rattle.sc_words.proofs.PaxosProofs.PaxosLemmas.{Each-push, Each-weaker, Each-among, Each-from, choice_among, choice_best}
+use Rattle.sc_node_table.specs.NodeDefinitions.{sent_all, next_queued, from_backlog, found_by, found_for, offered, pumped_from, pumped, ReplicaState, Place, name_of, next, first_set, settled, may_offer, taken_at, is_idle, last_slot, slots_ahead}
+use Rattle.sc_live_plain.proofs.PlainLemmas.{requests_only, offer_taken, takes, takes_not, all_kept, all_reached, call_found, none_found, by_found, by_nothing, mail_of, in_range, range_yes, range_behind, one_yes, one_no}
 use Rattle.sc_live_steps.proofs.FollowingProofs.LeastMembers.{none_decided}
 use Rattle.sc_law_groups.proofs.GroupProofs.Offering.{must_value}
-use Rattle.sc_live_healed.specs.Definitions.{IsFixedCommand, IsFixedRequest, IsUndecided, HasOfferedAll}
+use Rattle.sc_live_healed.specs.HealedDefinitions.{IsFixedCommand, IsFixedRequest, IsUndecided, HasOfferedAll}
 use Rattle.sc_live_healed.proofs.ServingReplicas.{IsServing, IsUnderWay, IsAsked, grown, fixed_acts}
 
 -- ---- what a leader must propose

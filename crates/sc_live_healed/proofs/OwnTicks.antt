@@ -3,17 +3,17 @@ use Rattle.std.proofs.Common.{◌≡◌, ℕ, eqb, Bool, true, false, List, [], 
 use Rattle.std.proofs.lemmas.Bool.{cond-true, eq-eqb}
 use Rattle.sc_base.specs.Definitions.{Among, Each, Drawer, same_draw}
 use Rattle.sc_base.proofs.Lemmas.{draw_is}
-use Rattle.sc_words.proofs.PaxosProofs.Lemmas.{Each-among, find_found}
+use Rattle.sc_words.proofs.PaxosProofs.PaxosLemmas.{Each-among, find_found}
 use Rattle.sc_node_table.specs.Values.{Seat, Row, Base, OrderLine, Mail, Node}
 use Rattle.sc_actor.specs.declared.rows.Event.TheVariants.{Tick as TickEvent}
 use Rattle.sc_actor.specs.declared.rows.Input.TheVariants.{Tick}
 use Rattle.sc_actor.specs.Definitions.{mails, copies, acted, value, may_get, numbers_of, row_of, is_quiet, System}
 use Rattle.sc_actor.proofs.Lemmas.{value-snoc}
-use Rattle.sc_node_table.specs.Definitions.{NodeState, ReplicaState, name_of, replica_of, group_of_mail, ticked, tick_row, on_tick, is_node}
+use Rattle.sc_node_table.specs.NodeDefinitions.{NodeState, ReplicaState, name_of, replica_of, group_of_mail, ticked, tick_row, on_tick, is_node}
 use Rattle.sc_scenario.specs.declared.scenario.scenarios.Scenario.{Scenario}
 use Rattle.sc_scenario.specs.scenario.Definitions.{IsBounded}
-use Rattle.sc_meaning.specs.sound.Definitions.{Player, as_nodes, player_table, system_of}
-use Rattle.sc_live_orderly.specs.Definitions.{pending_mail}
+use Rattle.sc_meaning.specs.sound.SoundDefinitions.{Player, as_nodes, player_table, system_of}
+use Rattle.sc_live_orderly.specs.OrderlyDefinitions.{pending_mail}
 use Rattle.sc_live_orderly.proofs.PendingMail.{gets_same, mail_with-agree, none_pending}
 use Rattle.sc_live_orderly.proofs.RemainingMail.{after-row}
 use Rattle.sc_live_healed.proofs.FixedWalks.{IsFixedPlace, IsMember}

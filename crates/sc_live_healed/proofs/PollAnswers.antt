@@ -3,20 +3,20 @@ use Rattle.std.proofs.Common.{◌≡◌, ℕ, ◌-◌, ◌*◌, ◌<◌, ◌≤�
 use Rattle.std.proofs.lemmas.Bool.{cond_both, cond-true, leb-true, ltb-true, lt-ltb, eq-eqb}
 use Rattle.sc_base.specs.Definitions.{Among, same_ballot, is_member, is_majority, votes_of}
 use Rattle.sc_base.proofs.Lemmas.{ballot_itself}
-use Rattle.sc_words.proofs.PaxosProofs.Lemmas.{same_from_at_least, cases_below}
+use Rattle.sc_words.proofs.PaxosProofs.PaxosLemmas.{same_from_at_least, cases_below}
 use Rattle.sc_paxos_law.proofs.Lemmas.{Among-right, among-member}
 use Rattle.sc_paxos_law.proofs.Among.{count_by-le}
 use Rattle.sc_node_table.specs.Values.{Ballot, Draw, Command, Base, Core, Mail, MailBody, Promise, Nack, Ask, Install, PrepareAnswer, Report}
-use Rattle.sc_group_table.specs.machine.Definitions.{base_of}
+use Rattle.sc_group_table.specs.machine.MachineDefinitions.{base_of}
 use Rattle.sc_words.specs.declared.paxos.answers.PrepareAnswer.TheVariants as Prepared
-use Rattle.sc_words.specs.paxos.Definitions.{AcceptorState, LeaderState, below, may_promise, prepared, after_promise, reports_from, promise_counted}
-use Rattle.sc_node_table.specs.Definitions.{ended, stopped, saw, install_to, install_row, took_over, looked_up, looked, jumped, forgotten, sent, promise_to, promised, prepare_row, promise_row, nack_row, pumped, leads, mailed, settled, first_set, last_slot, members, name_of, next, ReplicaState, Place}
-use Rattle.sc_law_walks.proofs.Lemmas.{either_way}
+use Rattle.sc_words.specs.paxos.PaxosDefinitions.{AcceptorState, LeaderState, below, may_promise, prepared, after_promise, reports_from, promise_counted}
+use Rattle.sc_node_table.specs.NodeDefinitions.{ended, stopped, saw, install_to, install_row, took_over, looked_up, looked, jumped, forgotten, sent, promise_to, promised, prepare_row, promise_row, nack_row, pumped, leads, mailed, settled, first_set, last_slot, members, name_of, next, ReplicaState, Place}
+use Rattle.sc_law_walks.proofs.WalkLemmas.{either_way}
 use Rattle.sc_base.proofs.AscendingLemmas.{and_both}
 use Rattle.sc_live_healed.proofs.FixedWalks.{IsFresh, IsFixedPlace}
 use Rattle.sc_live_healed.proofs.FixedChanges.{polls}
 use Rattle.sc_live_healed.proofs.MovedReplicas.{HasMoved, mailed_moves, pumped_moves}
-use Rattle.sc_live_healed.specs.Definitions.{IsFixedBody, IsFixedReplica, KeepsBallots, IsSettledOrStopped, AnswersPoll}
+use Rattle.sc_live_healed.specs.HealedDefinitions.{IsFixedBody, IsFixedReplica, KeepsBallots, IsSettledOrStopped, AnswersPoll}
 
 -- ---- what is seen
 

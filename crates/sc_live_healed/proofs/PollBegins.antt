@@ -3,12 +3,12 @@ use Rattle.std.proofs.Common.{◌≡◌, ℕ, ◌+◌, ◌-◌, ◌^◌, ◌||�
 use Rattle.std.specs.Prelude.{is_some}
 use Rattle.std.proofs.lemmas.Bool.{cond-true, cond-false, and_parts, leb-true, or_left}
 use Rattle.sc_base.specs.Definitions.{Among, Drawer, is_member, most_nodes}
-use Rattle.sc_words.proofs.PaxosProofs.Lemmas.{Among-filter}
+use Rattle.sc_words.proofs.PaxosProofs.PaxosLemmas.{Among-filter}
 use Rattle.sc_paxos_law.proofs.Lemmas.{Among-left, Among-right}
 use Rattle.sc_node_table.specs.Values.{Ballot, Base, Core, Mail, MailBody, Prepare}
-use Rattle.sc_node_table.specs.Definitions.{elected, sent, sent_all, open_nodes, nodes_to, numbers_from, is_in_some, is_node, settled, members, name_of, next, slots_ahead, tick_row, ReplicaState}
-use Rattle.sc_law_walks.proofs.Lemmas.{elected_place}
-use Rattle.sc_live_plain.proofs.Lemmas.{to_numbers}
+use Rattle.sc_node_table.specs.NodeDefinitions.{elected, sent, sent_all, open_nodes, nodes_to, numbers_from, is_in_some, is_node, settled, members, name_of, next, slots_ahead, tick_row, ReplicaState}
+use Rattle.sc_law_walks.proofs.WalkLemmas.{elected_place}
+use Rattle.sc_live_plain.proofs.PlainLemmas.{to_numbers}
 use Rattle.sc_live_healed.proofs.FixedWalks.{IsFresh, IsMember, IsFixedPlace}
 
 -- the ballot with which a replica is elected next

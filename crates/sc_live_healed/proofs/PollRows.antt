@@ -2,21 +2,21 @@
 use Rattle.std.proofs.Common.{◌≡◌, ℕ, ◌-◌, ◌<◌, ◌&&◌, ◌||◌, not, nat_le, nat_lt, eqb, true, true≢false, cond, List, [], ◌∷◌, ◌++◌, length, Option, Some, None, ◌⊎◌, inl, inr, refl, sym, ◌∙◌}
 use Rattle.std.proofs.lemmas.Bool.{cond_both}
 use Rattle.sc_base.specs.Definitions.{Each, client_actor, is_member}
-use Rattle.sc_words.proofs.PaxosProofs.Lemmas.{Each-append}
+use Rattle.sc_words.proofs.PaxosProofs.PaxosLemmas.{Each-append}
 use Rattle.sc_node_table.specs.Values.{Ballot, Draw, Op, Command, Call, Base, AnswerBody, OrderResult, Mail, MailBody, Request, Answer, Promise, Nack, Ask, Install, Told, PrepareAnswer, Report}
-use Rattle.sc_group_table.specs.machine.Definitions.{base_of}
+use Rattle.sc_group_table.specs.machine.MachineDefinitions.{base_of}
 use Rattle.sc_words.specs.declared.paxos.answers.PrepareAnswer.TheVariants as Prepared
 use Rattle.sc_mail.specs.declared.bodies.AnswerBody.TheVariants as Says
-use Rattle.sc_words.specs.paxos.Definitions.{AcceptorState, below, may_promise, prepared, after_promise, reports_from, promise_counted}
-use Rattle.sc_node_table.specs.Definitions.{ended, stopped, saw, install_to, install_row, took_over, sent, promise_to, promised, prepare_row, promise_row, nack_row, pumped, leads, hinted, last_slot, name_of, next, under_way, answered, answered_all, dismissed, dismissed_all, order_reported, result_sent, group_of_mail, queued, requested, request_row, refused_at, queued_number, without_request, ReplicaState, Place}
-use Rattle.sc_group_table.specs.policy.Definitions.{is_reported}
-use Rattle.sc_law_walks.proofs.Lemmas.{either_way}
+use Rattle.sc_words.specs.paxos.PaxosDefinitions.{AcceptorState, below, may_promise, prepared, after_promise, reports_from, promise_counted}
+use Rattle.sc_node_table.specs.NodeDefinitions.{ended, stopped, saw, install_to, install_row, took_over, sent, promise_to, promised, prepare_row, promise_row, nack_row, pumped, leads, hinted, last_slot, name_of, next, under_way, answered, answered_all, dismissed, dismissed_all, order_reported, result_sent, group_of_mail, queued, requested, request_row, refused_at, queued_number, without_request, ReplicaState, Place}
+use Rattle.sc_group_table.specs.policy.PolicyDefinitions.{is_reported}
+use Rattle.sc_law_walks.proofs.WalkLemmas.{either_way}
 use Rattle.sc_live_healed.proofs.FixedWalks.{IsFresh, IsFixedPlace}
 use Rattle.sc_live_healed.proofs.FixedChanges.{polls, with_backlog}
 use Rattle.sc_live_healed.proofs.FixedParts.{request_taken, without_requests}
 use Rattle.sc_live_healed.proofs.MovedReplicas.{pumped_moves}
 use Rattle.sc_live_healed.proofs.PollAnswers.{seen_keeps, over_stops}
-use Rattle.sc_live_healed.specs.Definitions.{IsFixedBody, IsFixedRequest, IsAnswerKind}
+use Rattle.sc_live_healed.specs.HealedDefinitions.{IsFixedBody, IsFixedRequest, IsAnswerKind}
 
 -- ---- what is said
 

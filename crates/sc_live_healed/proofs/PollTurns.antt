@@ -2,16 +2,16 @@
 use Rattle.std.proofs.Common.{◌≡◌, ℕ, ◌<◌, ◌≤◌, eqb, Bool, true, true≢false, List, [], ◌∷◌, ◌++◌, filter, Option, Some, ◌⊎◌, inl, inr, refl, sym, ◌∙◌, ap, subst, ◌*◌, length, count_by, arith}
 use Rattle.std.proofs.lemmas.Bool.{cases_Bool, lt-ltb, eqb-true, eq-eqb}
 use Rattle.sc_base.specs.Definitions.{Among, Each, is_member, votes_of}
-use Rattle.sc_words.proofs.PaxosProofs.Lemmas.{Each-among, Each-append, Each-filter, Each-weaker, Among-filter}
+use Rattle.sc_words.proofs.PaxosProofs.PaxosLemmas.{Each-among, Each-append, Each-filter, Each-weaker, Among-filter}
 use Rattle.sc_paxos_law.proofs.Lemmas.{Among-left, Among-right, among-member}
 use Rattle.sc_node_table.specs.Values.{Ballot, Draw, Base, Core, Mail, MailBody, Prepare, Promise, Nack, Install, Request}
-use Rattle.sc_node_table.specs.Definitions.{group_of_mail, last_slot, mailed, prepare_row, next, ReplicaState, Place}
+use Rattle.sc_node_table.specs.NodeDefinitions.{group_of_mail, last_slot, mailed, prepare_row, next, ReplicaState, Place}
 use Rattle.sc_paxos_law.proofs.Leading.{counts_within}
 use Rattle.sc_live_healed.proofs.FixedWalks.{IsFresh, IsMember, IsSaid, IsFixedPlace}
 use Rattle.sc_live_healed.proofs.MovedReplicas.{HasMoved, mailed_moves}
 use Rattle.sc_live_healed.proofs.PollAnswers.{Answered, polls_are_answered, answers_count, majorities_settle}
 use Rattle.sc_live_healed.proofs.PollRows.{IsAnswerMail, asked_says, asked_next, refused_next, state_next, promised_next, requested_next}
-use Rattle.sc_live_healed.specs.Definitions.{IsFixedBody, IsSettledOrStopped, AnswersPoll, IsAnswerKind}
+use Rattle.sc_live_healed.specs.HealedDefinitions.{IsFixedBody, IsSettledOrStopped, AnswersPoll, IsAnswerKind}
 
 -- the replicas of one group, by node
 abbrev pub Replicas : Type 0

@@ -2,15 +2,15 @@
 use Rattle.std.proofs.Common.{◌≡◌, ℕ, zero, suc, ◌*◌, ◌<◌, ◌≤◌, eqb, Bool, true, cond, List, [], ◌∷◌, ◌++◌, count_by, length, filter, find, Option, Some, None, ◌⊎◌, inl, inr, refl, sym, ◌∙◌, ap, subst, append_assoc, append-nil}
 use Rattle.sc_base.specs.Definitions.{Among, Each, same_draw}
 use Rattle.sc_base.proofs.Lemmas.{draw_is}
-use Rattle.sc_words.proofs.PaxosProofs.Lemmas.{Each-among, find_found}
+use Rattle.sc_words.proofs.PaxosProofs.PaxosLemmas.{Each-among, find_found}
 use Rattle.sc_paxos_law.proofs.Lemmas.{place_among}
 use Rattle.sc_node_table.specs.Values.{Ballot, Draw, Seat, Row, Event, Deliver, Base, OrderLine, Mail, MailBody, Install, Node, Client}
 use Rattle.sc_actor.specs.Definitions.{mails, numbered, numbers_of, is_crash, lowest, value}
 use Rattle.sc_actor.proofs.Lemmas.{find-who}
-use Rattle.sc_node_table.specs.Definitions.{ReplicaState, Place, name_of, last_slot, mailed, next}
+use Rattle.sc_node_table.specs.NodeDefinitions.{ReplicaState, Place, name_of, last_slot, mailed, next}
 use Rattle.sc_scenario.specs.declared.scenario.scenarios.Scenario.{Scenario}
 use Rattle.sc_scenario.specs.scenario.Definitions.{IsBounded}
-use Rattle.sc_meaning.specs.sound.Definitions.{Player, as_nodes, births, player_table}
+use Rattle.sc_meaning.specs.sound.SoundDefinitions.{Player, as_nodes, births, player_table}
 use Rattle.sc_live_orderly.specs.Turns.{pending_mail, AreDelivered, TakesLowest}
 use Rattle.sc_live_orderly.proofs.PendingMail.{gets_same, takes_lowest, none_pending}
 use Rattle.sc_live_healed.proofs.FixedWalks.{IsMember, IsFixedPlace}
@@ -20,7 +20,7 @@ use Rattle.sc_live_healed.proofs.FixedJournals.{Rows, IsFixedPlayer, IsFixedJour
 use Rattle.sc_live_healed.proofs.PollAnswers.{mail_keeps_settled}
 use Rattle.sc_live_healed.proofs.PollTurns.{Replicas, IsTaken, IsDelivered, FirstRound, SecondRound, is_or_not, one_replica, floored_after, moves, first_step, second_begins, second_step, polls_end_settled}
 use Rattle.sc_live_healed.proofs.DeliveredViews.{s, view, seat_view, player_view, alive, delivered_view}
-use Rattle.sc_live_healed.specs.Definitions.{IsSettledOrStopped}
+use Rattle.sc_live_healed.specs.HealedDefinitions.{IsSettledOrStopped}
 
 -- a state that is sent is not beyond the last slot
 abbrev pub FitsSlots : MailBody → Type 0

@@ -4,10 +4,10 @@ use Rattle.std.proofs.lemmas.Bool.{cond-true, cases_lt, lt-ltb, and_from}
 use Rattle.std.proofs.lemmas.List.Sums.{count_by-le-length}
 use Rattle.sc_base.specs.Definitions.{is_member}
 use Rattle.sc_node_table.specs.Values.{Ballot, Base, Command, Free, Mail, Flight}
-use Rattle.sc_words.proofs.PaxosProofs.Lemmas.{Each-among, Each-weaker}
-use Rattle.sc_node_table.specs.Definitions.{executed_one, next_child, has_room, next_ready, ending, executed_ready, all_ready, executed, pumped, ReplicaState, Place, Executed, childless, next, settled, at_slot, without_slot, last_slot, slots_ahead}
-use Rattle.sc_live_plain.proofs.Lemmas.{entries_at, at_nothing, out_length, at_found, in_range, range_behind, one_no}
-use Rattle.sc_live_healed.specs.Definitions.{IsFixedCommand, IsUndecided, HasOfferedAll, TakesSlots}
+use Rattle.sc_words.proofs.PaxosProofs.PaxosLemmas.{Each-among, Each-weaker}
+use Rattle.sc_node_table.specs.NodeDefinitions.{executed_one, next_child, has_room, next_ready, ending, executed_ready, all_ready, executed, pumped, ReplicaState, Place, Executed, childless, next, settled, at_slot, without_slot, last_slot, slots_ahead}
+use Rattle.sc_live_plain.proofs.PlainLemmas.{entries_at, at_nothing, out_length, at_found, in_range, range_behind, one_no}
+use Rattle.sc_live_healed.specs.HealedDefinitions.{IsFixedCommand, IsUndecided, HasOfferedAll, TakesSlots}
 use Rattle.sc_live_healed.proofs.ServingReplicas.{IsServing, IsUnderWay}
 use Rattle.sc_live_healed.proofs.OfferedQueues.{pumped_serves}
 use Rattle.sc_live_healed.proofs.ExecutedSlots.{one_entered}

@@ -6,7 +6,7 @@ use Rattle.sc_actor.specs.declared.rows.Row.{Row}
 use Rattle.sc_actor.specs.declared.schedules.Line.{Line}
 use Rattle.sc_actor.specs.declared.schedules.Line.TheVariants.{Go, Deliver, Drop, Again, Tick, Crash, Told, Settle, Free, Storm}
 use Rattle.sc_actor.specs.Definitions.{System, IsLawful, is_crash, has_crashed}
-use Rattle.sc_live_orderly.specs.Definitions.{is_told, gives_order}
+use Rattle.sc_live_orderly.specs.OrderlyDefinitions.{is_told, gives_order}
 use Rattle.sc_live_healed.proofs.HarmlessRows.{Harm, IsHarmless, rows_harmless}
 
 -- a line gives no order

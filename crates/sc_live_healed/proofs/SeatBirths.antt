@@ -1,12 +1,12 @@
 -- What holds of each node's seat at its birth, and of each client's, holds of each seat of a scenario.
 use Rattle.std.proofs.Common.{◌≡◌, ℕ, List, [], ◌∷◌, map, find, eqb, Some, inl, refl}
 use Rattle.sc_base.specs.Definitions.{Among, Each}
-use Rattle.sc_words.proofs.PaxosProofs.Lemmas.{Each-append, Each-among, find_found}
+use Rattle.sc_words.proofs.PaxosProofs.PaxosLemmas.{Each-append, Each-among, find_found}
 use Rattle.sc_node_table.specs.Values.{Base, Seat}
-use Rattle.sc_node_table.specs.Definitions.{numbers_from}
+use Rattle.sc_node_table.specs.NodeDefinitions.{numbers_from}
 use Rattle.sc_scenario.specs.declared.scenario.scenarios.Asks.{Asks as Requests}
 use Rattle.sc_scenario.specs.declared.scenario.scenarios.Scenario.{Scenario}
-use Rattle.sc_meaning.specs.sound.Definitions.{Player, as_nodes, births, client_seat, client_seats, node_seat, route_of}
+use Rattle.sc_meaning.specs.sound.SoundDefinitions.{Player, as_nodes, births, client_seat, client_seats, node_seat, route_of}
 
 module _ (P : Seat Player → Type 0) (scenario : Scenario) (node : (n : ℕ) → P (node_seat as_nodes scenario.groups scenario.policy n)) (client : (base : Base) → Among base scenario.groups → (requests : Requests) → P (client_seat (route_of base) requests)) where
   nodes_born : (numbers : List ℕ) → Each P (map (node_seat as_nodes scenario.groups scenario.policy) numbers)

@@ -3,15 +3,15 @@ use Rattle.std.proofs.Common.{◌≡◌, ℕ, ◌&&◌, ◌||◌, not, nat_le, n
 use Rattle.std.proofs.lemmas.Bool.{cond_both, cond-true, and_parts, and_from}
 use Rattle.sc_base.specs.Definitions.{Among, Each, is_member, is_majority, same_ballot}
 use Rattle.sc_node_table.specs.Values.{Ballot, Op, Base, Command, Call, Core, Free, Route, AnswerBody, Mail, Flight, Report, PrepareAnswer, AcceptAnswer}
-use Rattle.sc_words.specs.ideal.Definitions.{key_of, holds_key}
+use Rattle.sc_words.specs.ideal.IdealDefinitions.{key_of, holds_key}
 use Rattle.sc_words.specs.declared.paxos.answers.PrepareAnswer.TheVariants as Prepared
 use Rattle.sc_words.specs.declared.paxos.answers.AcceptAnswer.TheVariants as Asked
 use Rattle.sc_mail.specs.declared.bodies.AnswerBody.TheVariants as Says
-use Rattle.sc_words.specs.paxos.Definitions.{below, prepared, accepted as accepted_by, AcceptorState, LeaderState, reports_from, after_promise, after_accept, may_promise, may_accept, promise_counted, entry_at}
-use Rattle.sc_words.proofs.PaxosProofs.Lemmas.{Each-among, Each-from, Each-append, Each-push}
-use Rattle.sc_node_table.specs.Definitions.{stopped, ended, saw, looked, executed, jumped, install_to, pumped, queued_number, without_request, ReplicaState, Place, Executed, childless, next, settled, may_offer, first_set, last_slot, forgotten, refused_at, request_refusal, admits_requests, queued, requested, request_row, learn_row, ask_answered, ask_row, looked_up, took_over, install_row, hinted, promise_to, promised, prepare_row, accepted_to, took, accept_row, leads, promise_row, nack_row}
-use Rattle.sc_law_walks.proofs.Lemmas.{either_way}
-use Rattle.sc_live_healed.specs.Definitions.{IsFixedCommand, IsFixedRequest, IsFixedReplica, IsFixedBase, KeepsBallots, IsUndecided, TakesSlots}
+use Rattle.sc_words.specs.paxos.PaxosDefinitions.{below, prepared, accepted as accepted_by, AcceptorState, LeaderState, reports_from, after_promise, after_accept, may_promise, may_accept, promise_counted, entry_at}
+use Rattle.sc_words.proofs.PaxosProofs.PaxosLemmas.{Each-among, Each-from, Each-append, Each-push}
+use Rattle.sc_node_table.specs.NodeDefinitions.{stopped, ended, saw, looked, executed, jumped, install_to, pumped, queued_number, without_request, ReplicaState, Place, Executed, childless, next, settled, may_offer, first_set, last_slot, forgotten, refused_at, request_refusal, admits_requests, queued, requested, request_row, learn_row, ask_answered, ask_row, looked_up, took_over, install_row, hinted, promise_to, promised, prepare_row, accepted_to, took, accept_row, leads, promise_row, nack_row}
+use Rattle.sc_law_walks.proofs.WalkLemmas.{either_way}
+use Rattle.sc_live_healed.specs.HealedDefinitions.{IsFixedCommand, IsFixedRequest, IsFixedReplica, IsFixedBase, KeepsBallots, IsUndecided, TakesSlots}
 use Rattle.sc_live_healed.proofs.ServingReplicas.{IsServing, IsUnderWay}
 use Rattle.sc_live_healed.proofs.OfferedQueues.{requeued}
 use Rattle.sc_live_healed.proofs.ExecutedSlots.{without_fixed}

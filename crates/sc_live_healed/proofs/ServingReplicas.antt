@@ -2,11 +2,11 @@
 use Rattle.std.proofs.Common.{◌≡◌, ℕ, ◌+◌, ◌≤◌, true, false, List, [], replicate, ◌⊎◌, inl, inr, refl, ap}
 use Rattle.sc_base.specs.Definitions.{Among, Each}
 use Rattle.sc_node_table.specs.Values.{Ballot, Base, Command, Noop, Call, Mail, Accept, Flight, Report}
-use Rattle.sc_words.proofs.PaxosProofs.Lemmas.{Each-weaker}
-use Rattle.sc_node_table.specs.Definitions.{is_act, ReplicaState, Place, next, slots_ahead, last_slot}
-use Rattle.sc_live_plain.specs.Definitions.{AreTaken}
-use Rattle.sc_live_plain.proofs.Lemmas.{mail_of}
-use Rattle.sc_live_healed.specs.Definitions.{IsFixedCommand, IsFixedRequest, IsUndecided, HasVoted}
+use Rattle.sc_words.proofs.PaxosProofs.PaxosLemmas.{Each-weaker}
+use Rattle.sc_node_table.specs.NodeDefinitions.{is_act, ReplicaState, Place, next, slots_ahead, last_slot}
+use Rattle.sc_live_plain.specs.PlainDefinitions.{AreTaken}
+use Rattle.sc_live_plain.proofs.PlainLemmas.{mail_of}
+use Rattle.sc_live_healed.specs.HealedDefinitions.{IsFixedCommand, IsFixedRequest, IsUndecided, HasVoted}
 
 -- what stands in one list of mails stands in the other
 abbrev pub Grows : List Mail → List Mail → Type 0

@@ -4,10 +4,10 @@ use Rattle.std.specs.Prelude.{is_some}
 use Rattle.std.proofs.lemmas.Bool.{cond_both}
 use Rattle.sc_base.specs.Definitions.{Drawer, is_member}
 use Rattle.sc_node_table.specs.Values.{Free, Mail}
-use Rattle.sc_words.specs.paxos.Definitions.{entry_at}
-use Rattle.sc_node_table.specs.Definitions.{elected, pumped, pumped_from, wishing, reminded, ReplicaState, Place, next, members, settled, is_idle, last_slot, tick_row, asked_again, last_entry_sent}
+use Rattle.sc_words.specs.paxos.PaxosDefinitions.{entry_at}
+use Rattle.sc_node_table.specs.NodeDefinitions.{elected, pumped, pumped_from, wishing, reminded, ReplicaState, Place, next, members, settled, is_idle, last_slot, tick_row, asked_again, last_entry_sent}
 use Rattle.sc_node_table.proofs.Frames.{pumped_from-settled}
-use Rattle.sc_law_walks.proofs.Lemmas.{either_way}
+use Rattle.sc_law_walks.proofs.WalkLemmas.{either_way}
 use Rattle.sc_live_healed.proofs.FixedTicks.{tick_alone}
 
 -- the pump leaves who is settled so

@@ -4,20 +4,20 @@ use Rattle.std.specs.Option.{option_map}
 use Rattle.std.specs.List.{list_any}
 use Rattle.std.proofs.lemmas.Bool.{cond_both, cond-false, cases_Bool, eqb-true, eq-eqb, and_parts}
 use Rattle.sc_base.specs.Definitions.{Among, Each}
-use Rattle.sc_words.proofs.PaxosProofs.Lemmas.{Each-among, Each-append, Each-filter, Each-weaker, find_found, Among-filter}
+use Rattle.sc_words.proofs.PaxosProofs.PaxosLemmas.{Each-among, Each-append, Each-filter, Each-weaker, find_found, Among-filter}
 use Rattle.sc_paxos_law.proofs.Lemmas.{Among-left, Among-right}
 use Rattle.sc_node_table.specs.Values.{Ballot, Draw, Seat, Row, Event, Base, Core, OrderLine, Mail, MailBody, Prepare, Install, Node, Client}
 use Rattle.sc_actor.specs.declared.rows.Event.TheVariants.{Tick as TickEvent, Go as GoEvent}
 use Rattle.sc_actor.specs.declared.rows.Input.TheVariants.{Go}
 use Rattle.sc_actor.specs.Definitions.{mails, acts, acted, input_of, value, has_crashed, has_started, numbers_of, row_of, is_quiet, line_row, place_after, System}
 use Rattle.sc_actor.proofs.Lemmas.{lawful-prefix, lawful-last, MayAdd-step, value-snoc}
-use Rattle.sc_node_table.specs.Definitions.{ReplicaState, Place, name_of, group_of_mail, tick_row, is_node, last_slot, next, settled, open_nodes}
+use Rattle.sc_node_table.specs.NodeDefinitions.{ReplicaState, Place, name_of, group_of_mail, tick_row, is_node, last_slot, next, settled, open_nodes}
 use Rattle.sc_law_walks.proofs.Talks.{all_sent}
-use Rattle.sc_law_walks.proofs.Lemmas.{elected_place}
+use Rattle.sc_law_walks.proofs.WalkLemmas.{elected_place}
 use Rattle.sc_scenario.specs.declared.scenario.scenarios.Scenario.{Scenario}
 use Rattle.sc_scenario.specs.scenario.Definitions.{IsBounded}
-use Rattle.sc_meaning.specs.sound.Definitions.{Lawful, Player, as_nodes, player_table, schedule, system_of}
-use Rattle.sc_live_orderly.specs.Definitions.{Kick, Ticks, Starts, Turn, kick_line, pending_mail, AreDelivered, IsTurn, HasTurns}
+use Rattle.sc_meaning.specs.sound.SoundDefinitions.{Lawful, Player, as_nodes, player_table, schedule, system_of}
+use Rattle.sc_live_orderly.specs.OrderlyDefinitions.{Kick, Ticks, Starts, Turn, kick_line, pending_mail, AreDelivered, IsTurn, HasTurns}
 use Rattle.sc_live_orderly.specs.Turns.{as_list}
 use Rattle.sc_paxos_law.proofs.Leading.{counts_within}
 use Rattle.sc_live_healed.proofs.FixedWalks.{IsFresh, IsMember}
@@ -36,7 +36,7 @@ use Rattle.sc_live_healed.proofs.PollBegins.{next_ballot, elected_at_tick, membe
 use Rattle.sc_live_healed.proofs.PollTurns.{FirstRound, first_begins}
 use Rattle.sc_live_healed.proofs.PollsEnd.{FitsSlots, Progress, polls_end}
 use Rattle.sc_live_healed.proofs.SettledTicks.{tick_keeps_settled}
-use Rattle.sc_live_healed.specs.Definitions.{LivingMajority, IsSettledOrStopped}
+use Rattle.sc_live_healed.specs.HealedDefinitions.{LivingMajority, IsSettledOrStopped}
 
 -- mail that is near a slot fits
 fits_near : (bound : ℕ) (body : MailBody) → bound ≤ last_slot → NamesNear bound body → FitsSlots body

@@ -4,10 +4,10 @@ use Rattle.std.specs.Option.{option_map}
 use Rattle.std.proofs.lemmas.Bool.{cond_both, cond-true, cond-false, and_parts}
 use Rattle.sc_base.specs.Definitions.{is_member, same_ballot}
 use Rattle.sc_node_table.specs.Values.{Ballot, Op, Base, Command, Core, Free, Route, AnswerBody, Mail, Flight, Report}
-use Rattle.sc_words.specs.paxos.Definitions.{flight_at, promise_counted, entry_at}
-use Rattle.sc_node_table.specs.Definitions.{slot_lost, landed, left_gone, left, is_among, looked_for, looked, executed_one, all_ready, executed, install_to, entered, pumped, ReplicaState, Place, Executed, childless, next, members, forgotten, set_at, flying, last_slot, refused_at, requested, request_row, learn_row, ask_answered, ask_row, took_over, install_row, promised, prepare_row, took, accept_row, leads, promise_row, voted, accepted_row, nack_row}
-use Rattle.sc_law_walks.proofs.Lemmas.{either_way, cleared, idle_ready, idle_pump, taken_runs}
-use Rattle.sc_live_healed.specs.Definitions.{IsFixedCommand, IsFixedReplica, IsFixedBase, IsFollower}
+use Rattle.sc_words.specs.paxos.PaxosDefinitions.{flight_at, promise_counted, entry_at}
+use Rattle.sc_node_table.specs.NodeDefinitions.{slot_lost, landed, left_gone, left, is_among, looked_for, looked, executed_one, all_ready, executed, install_to, entered, pumped, ReplicaState, Place, Executed, childless, next, members, forgotten, set_at, flying, last_slot, refused_at, requested, request_row, learn_row, ask_answered, ask_row, took_over, install_row, promised, prepare_row, took, accept_row, leads, promise_row, voted, accepted_row, nack_row}
+use Rattle.sc_law_walks.proofs.WalkLemmas.{either_way, cleared, idle_ready, idle_pump, taken_runs}
+use Rattle.sc_live_healed.specs.HealedDefinitions.{IsFixedCommand, IsFixedReplica, IsFixedBase, IsFollower}
 use Rattle.sc_live_healed.proofs.ExecutedSlots.{core_after, entry_says}
 use Rattle.sc_live_healed.proofs.ServedRows.{seen_by, promised_runs, took_runs, took_over_off}
 

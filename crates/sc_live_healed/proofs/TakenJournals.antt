@@ -8,18 +8,18 @@ use Rattle.sc_actor.specs.declared.rows.Event.TheVariants.{Tick as TickEvent, Go
 use Rattle.sc_actor.specs.declared.rows.Input.TheVariants.{Tick, Go}
 use Rattle.sc_actor.specs.Definitions.{mails, acted, input_of, value, IsStep}
 use Rattle.sc_actor.proofs.Lemmas.{lawful-induction, value-snoc}
-use Rattle.sc_node_table.specs.Definitions.{ReplicaState, born_replica, born_replicas, slots_ahead}
+use Rattle.sc_node_table.specs.NodeDefinitions.{ReplicaState, born_replica, born_replicas, slots_ahead}
 use Rattle.sc_scenario.specs.declared.scenario.scenarios.Scenario.{Scenario}
 use Rattle.sc_scenario.specs.scenario.Definitions.{IsBounded}
-use Rattle.sc_meaning.specs.sound.Definitions.{Lawful, Player, as_nodes, player_table, schedule, system_of}
-use Rattle.sc_live_orderly.specs.Definitions.{is_told}
-use Rattle.sc_law_groups.proofs.WholeProofs.Lemmas.{group_place}
+use Rattle.sc_meaning.specs.sound.SoundDefinitions.{Lawful, Player, as_nodes, player_table, schedule, system_of}
+use Rattle.sc_live_orderly.specs.OrderlyDefinitions.{is_told}
+use Rattle.sc_law_groups.proofs.WholeProofs.WholeLemmas.{group_place}
 use Rattle.sc_live_healed.proofs.SeatBirths.{seat_born}
 use Rattle.sc_live_healed.proofs.FixedNodes.{AreFresh}
 use Rattle.sc_live_healed.proofs.FixedJournals.{Rows, IsFixedPlayer, IsOf, IsFixedJournal, Brings, fresh, given, first_fixed, brings, next_fixed, AreWithoutOrders, untold_parts}
 use Rattle.sc_live_healed.proofs.NodeSlots.{AreRosters, steps_take}
 use Rattle.sc_live_healed.proofs.MailedSlots.{born_takes}
-use Rattle.sc_live_healed.specs.Definitions.{IsFixedReplica, IsFixedMail, TakesSlots, AllTakeSlots}
+use Rattle.sc_live_healed.specs.HealedDefinitions.{IsFixedReplica, IsFixedMail, TakesSlots, AllTakeSlots}
 
 -- the groups of a bounded scenario have one to nine members
 pub groups_rosters : (scenario : Scenario) → IsBounded scenario → AreRosters scenario.groups

@@ -4,16 +4,16 @@ use Rattle.std.specs.Option.{option_map}
 use Rattle.std.proofs.lemmas.Bool.{cond_both, cond-true, cond-false, ltb-true, ltb-false, eqb-true, eq-eqb, and_parts, and_from}
 use Rattle.sc_base.specs.Definitions.{Among, Each, client_actor}
 use Rattle.sc_node_table.specs.Values.{Draw, Op, Command, Noop, Call, Join, Leave, Split, Begin, Prepared, RecordVote, GiveUp, Finish, Watched, RecordWatch, AnswerBody, Mail, Answer, Flight}
-use Rattle.sc_words.specs.paxos.Definitions.{flight_at}
-use Rattle.sc_words.proofs.PaxosProofs.Lemmas.{Each-among}
-use Rattle.sc_node_table.specs.Definitions.{ReplicaState, next, taken_at, taken_from, open_slots, under_way, at_slot, either, listed, answered, answered_all, dismissed, dismissed_all, queued_number, without_request, is_request_of, put_back, request_before}
-use Rattle.sc_law_walks.proofs.Lemmas.{grows}
+use Rattle.sc_words.specs.paxos.PaxosDefinitions.{flight_at}
+use Rattle.sc_words.proofs.PaxosProofs.PaxosLemmas.{Each-among}
+use Rattle.sc_node_table.specs.NodeDefinitions.{ReplicaState, next, taken_at, taken_from, open_slots, under_way, at_slot, either, listed, answered, answered_all, dismissed, dismissed_all, queued_number, without_request, is_request_of, put_back, request_before}
+use Rattle.sc_law_walks.proofs.WalkLemmas.{grows}
 use Rattle.sc_law_walks.proofs.Talks.{all_answered, all_dismissed}
-use Rattle.sc_live_plain.specs.Definitions.{takers}
+use Rattle.sc_live_plain.specs.PlainDefinitions.{takers}
 use Rattle.sc_live_plain.proofs.PlainRowsProofs.SlotCounts.{count-cons, one_yes, one_no, entries_at, find_none}
 use Rattle.sc_live_plain.proofs.LeadersProofs.LeadingReplicas.{flights_at}
 use Rattle.sc_live_plain.proofs.PlainRowsProofs.RepeatedMail.{mail_of, among_push, last_among}
-use Rattle.sc_live_plain.proofs.Lemmas.{to_numbers}
+use Rattle.sc_live_plain.proofs.PlainLemmas.{to_numbers}
 
 -- ---- whose request a command is
 

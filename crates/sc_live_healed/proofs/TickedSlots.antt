@@ -5,14 +5,14 @@ use Rattle.std.specs.Option.{option_map}
 use Rattle.std.proofs.lemmas.Bool.{cond_both, cond-false, cases_lt, cases_eq, cases_Bool, and_parts, and_right, eqb-true, both_ways}
 use Rattle.sc_base.specs.Definitions.{Among, Each, Drawer, is_member, is_majority}
 use Rattle.sc_node_table.specs.Values.{Base, Command, Core, Lock, Free, Route, Mail, Accept, Flight}
-use Rattle.sc_words.specs.paxos.Definitions.{below, flight_at, has_counted, entry_at, new_leader}
+use Rattle.sc_words.specs.paxos.PaxosDefinitions.{below, flight_at, has_counted, entry_at, new_leader}
 use Rattle.sc_words.specs.paxos.Votes.{voters_at}
-use Rattle.sc_words.proofs.PaxosProofs.Lemmas.{Each-among, Each-from, Each-weaker, Among-filter}
-use Rattle.sc_node_table.specs.Definitions.{elected, sent_all, wishing, pumped, waited_in, reminders, reminded, ReplicaState, Place, name_of, next, members, settled, may_offer, first_set, flying, taken_at, listed, taken_from, under_way, is_idle, numbers_from, slots_ahead, asked_again, last_entry_sent, uncounted, tick_row}
-use Rattle.sc_live_plain.proofs.Lemmas.{find_some, one_if_most, flights_at, range_before, takes, all_kept, all_reached, only_flight, mail_of, in_range, range_behind, one_no}
+use Rattle.sc_words.proofs.PaxosProofs.PaxosLemmas.{Each-among, Each-from, Each-weaker, Among-filter}
+use Rattle.sc_node_table.specs.NodeDefinitions.{elected, sent_all, wishing, pumped, waited_in, reminders, reminded, ReplicaState, Place, name_of, next, members, settled, may_offer, first_set, flying, taken_at, listed, taken_from, under_way, is_idle, numbers_from, slots_ahead, asked_again, last_entry_sent, uncounted, tick_row}
+use Rattle.sc_live_plain.proofs.PlainLemmas.{find_some, one_if_most, flights_at, range_before, takes, all_kept, all_reached, only_flight, mail_of, in_range, range_behind, one_no}
 use Rattle.sc_live_steps.proofs.FollowingProofs.LeastMembers.{none_decided}
-use Rattle.sc_live_plain.proofs.Lemmas.{flight_stands}
-use Rattle.sc_live_healed.specs.Definitions.{IsFixedCommand, IsFixedReplica, IsUndecided, TakesSlots}
+use Rattle.sc_live_plain.proofs.PlainLemmas.{flight_stands}
+use Rattle.sc_live_healed.specs.HealedDefinitions.{IsFixedCommand, IsFixedReplica, IsUndecided, TakesSlots}
 use Rattle.sc_live_healed.proofs.ServingReplicas.{Grows, IsAsked, IsUnderWay}
 use Rattle.sc_live_healed.proofs.ReadySlots.{HasServed, served_takes, pump_serves}
 use Rattle.sc_live_healed.proofs.MailedSlots.{empty_takes}

@@ -2,14 +2,14 @@
 use Rattle.std.proofs.Common.{◌≡◌, ℕ, ◌+◌, Bool, true, cond, List, Some, Option, ◌∙◌, ap}
 use Rattle.std.proofs.lemmas.Bool.{cond_both}
 use Rattle.sc_node_table.specs.Values.{Ballot, Command, Base, AnswerBody, Mail, Learn}
-use Rattle.sc_group_table.specs.machine.Definitions.{Group}
-use Rattle.sc_words.specs.paxos.Definitions.{below}
-use Rattle.sc_node_table.specs.Definitions.{ended, stopped, entered, put_back, answer_to, sent, hinted, ReplicaState, Place, name_of, next}
+use Rattle.sc_group_table.specs.machine.MachineDefinitions.{Group}
+use Rattle.sc_words.specs.paxos.PaxosDefinitions.{below}
+use Rattle.sc_node_table.specs.NodeDefinitions.{ended, stopped, entered, put_back, answer_to, sent, hinted, ReplicaState, Place, name_of, next}
 use Rattle.sc_law_walks.proofs.Places.{cleared}
-use Rattle.sc_law_walks.proofs.Lemmas.{either_way, back_any, entered_group, entered_next, entered_place, TableEntry, entry_holds}
+use Rattle.sc_law_walks.proofs.WalkLemmas.{either_way, back_any, entered_group, entered_next, entered_place, TableEntry, entry_holds}
 use Rattle.sc_live_healed.proofs.FixedEntries.{unreported, unspoken, none_joined}
 use Rattle.sc_live_healed.proofs.FixedParts.{applied_core}
-use Rattle.sc_live_healed.specs.Definitions.{IsFixedCommand}
+use Rattle.sc_live_healed.specs.HealedDefinitions.{IsFixedCommand}
 
 -- E reads neither queues nor hint, and is kept where the replica stops.
 pub record Unqueued (E : Place → Type 0) : Type 0 where

@@ -5,12 +5,12 @@ use Rattle.std.proofs.lemmas.Bool.{cond_both, cond-true, cond-false, cases_lt, c
 use Rattle.sc_base.specs.Definitions.{Among, Each, same_ballot, is_majority, is_member, IsRoster}
 use Rattle.sc_base.proofs.Lemmas.{ballot_itself}
 use Rattle.sc_node_table.specs.Values.{Ballot, Draw, Base, Command, Free, Mail, Accepted, Flight, Counted, Chosen, NotYet}
-use Rattle.sc_words.specs.paxos.Definitions.{LeaderState, flight_at, without_flight, without_flight_at, kept_voters, voters_after, with_voters, vote_at}
-use Rattle.sc_words.proofs.PaxosProofs.Lemmas.{find_found, Each-among, Each-from}
-use Rattle.sc_node_table.specs.Definitions.{has_room, executed, ReplicaState, Place, Executed, childless, next, set_at, last_slot, with_slot, slots_ahead, leads, readied, vote_tallied, voted, accepted_row}
-use Rattle.sc_live_plain.specs.Definitions.{takers}
-use Rattle.sc_live_plain.proofs.Lemmas.{count-cons, find_some, entries_at, out_here, out_other, with_count, one_if_most, flights_at, range_before, voted_count, vote_kept, numbered_get, closed_set, flight_stands, in_range, range_behind, one_yes, one_no, with_each}
-use Rattle.sc_live_healed.specs.Definitions.{IsFixedCommand, IsFixedReplica, IsUndecided, TakesSlots, IsCarried}
+use Rattle.sc_words.specs.paxos.PaxosDefinitions.{LeaderState, flight_at, without_flight, without_flight_at, kept_voters, voters_after, with_voters, vote_at}
+use Rattle.sc_words.proofs.PaxosProofs.PaxosLemmas.{find_found, Each-among, Each-from}
+use Rattle.sc_node_table.specs.NodeDefinitions.{has_room, executed, ReplicaState, Place, Executed, childless, next, set_at, last_slot, with_slot, slots_ahead, leads, readied, vote_tallied, voted, accepted_row}
+use Rattle.sc_live_plain.specs.PlainDefinitions.{takers}
+use Rattle.sc_live_plain.proofs.PlainLemmas.{count-cons, find_some, entries_at, out_here, out_other, with_count, one_if_most, flights_at, range_before, voted_count, vote_kept, numbered_get, closed_set, flight_stands, in_range, range_behind, one_yes, one_no, with_each}
+use Rattle.sc_live_healed.specs.HealedDefinitions.{IsFixedCommand, IsFixedReplica, IsUndecided, TakesSlots, IsCarried}
 use Rattle.sc_live_healed.proofs.ServingReplicas.{IsServing, IsUnderWay}
 use Rattle.sc_live_healed.proofs.ReadySlots.{HasServed, executed_serves}
 

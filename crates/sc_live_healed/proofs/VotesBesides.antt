@@ -1,12 +1,12 @@
 -- The votes for what a node has in flight stay counted or under way while others take mail, and are so after its own tick.
 use Rattle.std.proofs.Common.{◌≡◌, ℕ, ◌-◌, ◌^◌, false, List, [], ◌∷◌, inl, inr, refl, sym, ◌∙◌, ap, subst}
 use Rattle.sc_base.specs.Definitions.{Among, Each, same_draw}
-use Rattle.sc_words.proofs.PaxosProofs.Lemmas.{Each-among, find_found}
+use Rattle.sc_words.proofs.PaxosProofs.PaxosLemmas.{Each-among, find_found}
 use Rattle.sc_node_table.specs.Values.{Ballot, Base, Command, Core, Mail, Accept, Flight}
-use Rattle.sc_node_table.specs.Definitions.{NodeState, ReplicaState, name_of, on_tick}
+use Rattle.sc_node_table.specs.NodeDefinitions.{NodeState, ReplicaState, name_of, on_tick}
 use Rattle.sc_paxos_law.proofs.Lemmas.{member-among}
 use Rattle.sc_base.proofs.Lemmas.{draw_is}
-use Rattle.sc_live_healed.specs.Definitions.{IsFixedReplica, IsFixedNode, AllTakeSlots, mail_between, IsAnswered, IsVoteUnderWay, Counted, Asked, Answered, VotesAreUnderWay}
+use Rattle.sc_live_healed.specs.HealedDefinitions.{IsFixedReplica, IsFixedNode, AllTakeSlots, mail_between, IsAnswered, IsVoteUnderWay, Counted, Asked, Answered, VotesAreUnderWay}
 use Rattle.sc_live_healed.proofs.FixedNodes.{AreFresh}
 use Rattle.sc_live_healed.proofs.NodeSlots.{AreRosters, Ticks, ticks_so}
 use Rattle.sc_live_healed.proofs.ServingReplicas.{Grows, IsAsked}

@@ -6,16 +6,16 @@ use Rattle.sc_base.specs.Definitions.{Among, Each}
 use Rattle.sc_node_table.specs.Values.{Ballot, Seat, Row, Event, Deliver, Got, Base, Command, OrderLine, Mail, Accept, Node}
 use Rattle.sc_actor.specs.Definitions.{mails, acted, input_of, value, may_get, numbers_of, System}
 use Rattle.sc_actor.proofs.Lemmas.{value-snoc}
-use Rattle.sc_node_table.specs.Definitions.{NodeState, ReplicaState, replica_of, is_node, node_table}
-use Rattle.sc_words.proofs.PaxosProofs.Lemmas.{find_found, Among-filter}
+use Rattle.sc_node_table.specs.NodeDefinitions.{NodeState, ReplicaState, replica_of, is_node, node_table}
+use Rattle.sc_words.proofs.PaxosProofs.PaxosLemmas.{find_found, Among-filter}
 use Rattle.sc_paxos_law.proofs.Lemmas.{Among-left, Among-right}
 use Rattle.sc_scenario.specs.declared.scenario.scenarios.Scenario.{Scenario}
 use Rattle.sc_scenario.specs.scenario.Definitions.{IsBounded}
-use Rattle.sc_meaning.specs.sound.Definitions.{Player, as_nodes, births, player_table, system_of}
-use Rattle.sc_live_orderly.specs.Definitions.{pending_mail, TakesLowest, AreDelivered}
+use Rattle.sc_meaning.specs.sound.SoundDefinitions.{Player, as_nodes, births, player_table, system_of}
+use Rattle.sc_live_orderly.specs.OrderlyDefinitions.{pending_mail, TakesLowest, AreDelivered}
 use Rattle.sc_live_orderly.proofs.PendingMail.{takes_lowest}
-use Rattle.sc_live_plain.proofs.Lemmas.{some_is}
-use Rattle.sc_live_healed.specs.Definitions.{IsFixedMail, AllTakeSlots, mail_between, IsAnswered, VotesAreUnderWay, IsInBounds}
+use Rattle.sc_live_plain.proofs.PlainLemmas.{some_is}
+use Rattle.sc_live_healed.specs.HealedDefinitions.{IsFixedMail, AllTakeSlots, mail_between, IsAnswered, VotesAreUnderWay, IsInBounds}
 use Rattle.sc_live_healed.proofs.FixedJournals.{Rows, IsFixedPlayer, IsOf, fresh, given}
 use Rattle.sc_live_healed.proofs.TakenJournals.{groups_rosters, PlayerTakes, IsTakenJournal}
 use Rattle.sc_live_healed.proofs.VotesUnderWay.{answered_still, accept_answered, votes_after_mail}

@@ -9,17 +9,17 @@ use Rattle.sc_actor.specs.declared.rows.Event.TheVariants.{Tick as TickEvent, Go
 use Rattle.sc_actor.specs.declared.rows.Input.TheVariants.{Tick, Go}
 use Rattle.sc_actor.specs.Definitions.{mails, copies, counts_at, acted, input_of, value, may_get, has_crashed, has_started, numbers_of, row_of, acts, is_quiet, line_row, System}
 use Rattle.sc_actor.proofs.Lemmas.{value-snoc}
-use Rattle.sc_node_table.specs.Definitions.{NodeState, is_node, on_tick}
-use Rattle.sc_words.proofs.PaxosProofs.Lemmas.{Among-filter}
+use Rattle.sc_node_table.specs.NodeDefinitions.{NodeState, is_node, on_tick}
+use Rattle.sc_words.proofs.PaxosProofs.PaxosLemmas.{Among-filter}
 use Rattle.sc_paxos_law.proofs.Lemmas.{Among-right}
 use Rattle.sc_scenario.specs.declared.scenario.scenarios.Scenario.{Scenario}
 use Rattle.sc_scenario.specs.scenario.Definitions.{IsBounded}
-use Rattle.sc_meaning.specs.sound.Definitions.{Player, player_table}
-use Rattle.sc_live_orderly.specs.Definitions.{Kick, Ticks, Starts, Turn, kick_line, mail_with, pending_mail, IsTurn, HasTurns}
+use Rattle.sc_meaning.specs.sound.SoundDefinitions.{Player, player_table}
+use Rattle.sc_live_orderly.specs.OrderlyDefinitions.{Kick, Ticks, Starts, Turn, kick_line, mail_with, pending_mail, IsTurn, HasTurns}
 use Rattle.sc_live_orderly.specs.Turns.{as_list}
 use Rattle.sc_live_orderly.proofs.PendingMail.{none_pending}
 use Rattle.sc_live_orderly.proofs.RemainingMail.{after-row}
-use Rattle.sc_live_healed.specs.Definitions.{VotesAreUnderWay}
+use Rattle.sc_live_healed.specs.HealedDefinitions.{VotesAreUnderWay}
 use Rattle.sc_live_healed.proofs.LivingActors.{acts_row}
 use Rattle.sc_live_healed.proofs.FixedJournals.{Rows, IsOf, fresh}
 use Rattle.sc_live_healed.proofs.TakenJournals.{groups_rosters}

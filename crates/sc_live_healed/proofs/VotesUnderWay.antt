@@ -3,13 +3,13 @@ use Rattle.std.proofs.Common.{◌≡◌, ℕ, ◌≤◌, ◌||◌, not, nat_lt, 
 use Rattle.std.proofs.lemmas.Bool.{cond-false, cases_Bool, eq-eqb, le-ltb, and_from, or_from}
 use Rattle.sc_base.specs.Definitions.{Among, same_draw, is_member}
 use Rattle.sc_base.proofs.Lemmas.{draw_is, same_name}
-use Rattle.sc_words.proofs.PaxosProofs.Lemmas.{Each-among}
+use Rattle.sc_words.proofs.PaxosProofs.PaxosLemmas.{Each-among}
 use Rattle.sc_node_table.specs.Values.{Ballot, Draw, Base, Command, Core, Got, Mail, MailBody, Accept, Accepted, Nack, Install, Flight}
-use Rattle.sc_words.specs.paxos.Definitions.{below}
-use Rattle.sc_node_table.specs.Definitions.{NodeState, ReplicaState, Place, name_of, replica_of, with_replica, is_node, may_come, group_of_mail, nack_row, took_over, install_row, mailed, accept_row, node_table, next, last_slot, slots_ahead}
+use Rattle.sc_words.specs.paxos.PaxosDefinitions.{below}
+use Rattle.sc_node_table.specs.NodeDefinitions.{NodeState, ReplicaState, Place, name_of, replica_of, with_replica, is_node, may_come, group_of_mail, nack_row, took_over, install_row, mailed, accept_row, node_table, next, last_slot, slots_ahead}
 use Rattle.sc_paxos_law.proofs.Lemmas.{member-among}
-use Rattle.sc_live_plain.proofs.Lemmas.{put_found, put_others, some_is}
-use Rattle.sc_live_healed.specs.Definitions.{IsFixedReplica, IsFixedBase, IsFixedBody, IsFixedMail, IsFixedNode, TakesSlots, AllTakeSlots, HasVoted, Counts, IsCarried, mail_between, IsAnswered, Accepts, Refuses, Installs, IsVoteUnderWay, Counted, Asked, Answered, VotesAreUnderWay, IsInBounds}
+use Rattle.sc_live_plain.proofs.PlainLemmas.{put_found, put_others, some_is}
+use Rattle.sc_live_healed.specs.HealedDefinitions.{IsFixedReplica, IsFixedBase, IsFixedBody, IsFixedMail, IsFixedNode, TakesSlots, AllTakeSlots, HasVoted, Counts, IsCarried, mail_between, IsAnswered, Accepts, Refuses, Installs, IsVoteUnderWay, Counted, Asked, Answered, VotesAreUnderWay, IsInBounds}
 use Rattle.sc_live_healed.proofs.FixedNodes.{AreFresh}
 use Rattle.sc_live_healed.proofs.FixedGroupMail.{TakesMail, PassesMail, mail_taken}
 use Rattle.sc_live_healed.proofs.NodeSlots.{AreRosters, found_takes}

@@ -1,9 +1,9 @@
 -- What holds of each client in any journal without orders: it waits for nothing, or for an answer to the request after those that are answered, and then it has asked a group that it knows.
 use Rattle.std.specs.Prelude.{◌≡◌, ℕ, ◌+◌, ◌-◌, ◌≤◌, Bool, true, length, Some, slice_get, is_some, ◌⊎◌}
 use Rattle.sc_node_table.specs.Values.{Draw, Op}
-use Rattle.sc_client_table.specs.lookup.Definitions.{way_to}
-use Rattle.sc_client_table.specs.table.Definitions.{Client as ClientState}
-use Rattle.sc_live_plain.specs.Definitions.{IsResting}
+use Rattle.sc_client_table.specs.lookup.LookupDefinitions.{way_to}
+use Rattle.sc_client_table.specs.table.TableDefinitions.{Client as ClientState}
+use Rattle.sc_live_plain.specs.PlainDefinitions.{IsResting}
 
 -- a client waits for an answer to the request after those that are answered, and has asked a group that it knows
 pub record IsAskingOn (client : ClientState) : Type 0 where

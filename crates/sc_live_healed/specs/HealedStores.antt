@@ -8,9 +8,9 @@ use Rattle.sc_scenario.specs.declared.scenario.scenarios.Asks.{Asks}
 use Rattle.sc_scenario.specs.declared.scenario.scenarios.Scenario.{Scenario}
 use Rattle.sc_scenario.specs.declared.scenario.scenarios.SchedLine.TheVariants.{Settle}
 use Rattle.sc_scenario.specs.scenario.Definitions.{IsValid}
-use Rattle.sc_node_table.specs.Definitions.{NodeState, ReplicaState, settled}
-use Rattle.sc_client_table.specs.table.Definitions.{Client as ClientState}
-use Rattle.sc_meaning.specs.sound.Definitions.{Player, player_table, births, as_nodes, route_of, kept_replies, Lawful, Whole, system_of, schedule}
+use Rattle.sc_node_table.specs.NodeDefinitions.{NodeState, ReplicaState, settled}
+use Rattle.sc_client_table.specs.table.TableDefinitions.{Client as ClientState}
+use Rattle.sc_meaning.specs.sound.SoundDefinitions.{Player, player_table, births, as_nodes, route_of, kept_replies, Lawful, Whole, system_of, schedule}
 use Rattle.sc_live_orderly.specs.Turns.{Ticks, Starts}
 use Rattle.sc_live_healed.specs.HealedSchedules.{IsHealed, HasLivingMajorities, ClientTurn, node_lines, client_lines, lives, crashes}
 

@@ -2,7 +2,7 @@
 use Rattle.std.specs.Prelude.{◌≡◌, ℕ, ◌*◌, ◌<◌, Bool, List, [], length, count_by}
 use Rattle.sc_base.specs.Definitions.{Each}
 use Rattle.sc_node_table.specs.Values.{Command, Report}
-use Rattle.sc_node_table.specs.Definitions.{ReplicaState, next}
+use Rattle.sc_node_table.specs.NodeDefinitions.{ReplicaState, next}
 
 -- more than half of these members are alive
 abbrev pub LivingMajority : (ℕ → Bool) → List ℕ → Type 0

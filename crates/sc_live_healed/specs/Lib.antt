@@ -6,4 +6,4 @@ pub mod Polls
 pub mod HealedSchedules
 pub mod HealedStores
 pub mod AskingClients
-pub mod Definitions
+pub mod HealedDefinitions

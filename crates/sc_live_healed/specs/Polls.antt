@@ -1,8 +1,8 @@
 -- Polls: a replica that is elected asks the members of its group to promise its ballot, and is settled once a majority has.
 use Rattle.std.specs.Prelude.{◌≡◌, ◌≤◌, ℕ, true}
 use Rattle.sc_node_table.specs.Values.{Ballot, MailBody, Request, Promise, Nack, Install}
-use Rattle.sc_words.specs.paxos.Definitions.{below}
-use Rattle.sc_node_table.specs.Definitions.{ReplicaState, settled}
+use Rattle.sc_words.specs.paxos.PaxosDefinitions.{below}
+use Rattle.sc_node_table.specs.NodeDefinitions.{ReplicaState, settled}
 
 -- a replica is settled where it runs
 abbrev pub IsSettledOrStopped : ReplicaState → Type 0

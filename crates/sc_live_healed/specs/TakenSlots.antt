@@ -2,9 +2,9 @@
 use Rattle.std.specs.Prelude.{◌≡◌, ℕ, ◌+◌, ◌<◌, ◌≤◌, ◌==◌, true, false, List, [], length, count_by, ◌⊎◌}
 use Rattle.sc_base.specs.Definitions.{Among, Each, votes_of, is_majority}
 use Rattle.sc_node_table.specs.Values.{Base, Command, Flight, Report}
-use Rattle.sc_words.specs.paxos.Definitions.{kept_voters}
-use Rattle.sc_node_table.specs.Definitions.{NodeState, ReplicaState, next, settled, slots_ahead, last_slot}
-use Rattle.sc_live_plain.specs.Definitions.{AreTaken}
+use Rattle.sc_words.specs.paxos.PaxosDefinitions.{kept_voters}
+use Rattle.sc_node_table.specs.NodeDefinitions.{NodeState, ReplicaState, next, settled, slots_ahead, last_slot}
+use Rattle.sc_live_plain.specs.PlainDefinitions.{AreTaken}
 use Rattle.sc_live_healed.specs.FixedMembers.{IsFixedReplica}
 
 -- a command in flight whose counted voters are members, each counted once, and are no majority

@@ -2,8 +2,8 @@
 use Rattle.std.specs.Prelude.{◌≡◌, ℕ, ◌≤◌, ◌<◌, true, List, Some}
 use Rattle.sc_base.specs.Definitions.{Among, is_member}
 use Rattle.sc_node_table.specs.Values.{Ballot, Base, Command, Flight, Mail, MailBody, Request, Answer, Prepare, Promise, Accept, Accepted, Nack, Learn, Ask, Install, TxPrepare, TxVote, TxOutcome, TxElsewhere, TxWatch, TxWatched, Told}
-use Rattle.sc_words.specs.paxos.Definitions.{kept_voters, below}
-use Rattle.sc_node_table.specs.Definitions.{NodeState, ReplicaState, replica_of, next, last_slot}
+use Rattle.sc_words.specs.paxos.PaxosDefinitions.{kept_voters, below}
+use Rattle.sc_node_table.specs.NodeDefinitions.{NodeState, ReplicaState, replica_of, next, last_slot}
 
 -- the node's vote for a command in flight is counted
 abbrev pub HasVoted : ℕ → Flight Command → Type 0

@@ -2,4 +2,4 @@ pub mod GoneDistances
 pub mod FollowingCharts
 pub mod LastQuietPrefixes
 pub mod LedNames
-pub mod Lemmas
+pub mod ChartLemmas

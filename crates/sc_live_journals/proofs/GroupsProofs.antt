@@ -19,4 +19,4 @@ pub mod SlotRows
 pub mod PrefixesInTime
 pub mod TaughtGroups
 pub mod OwnGreatestBallots
-pub mod Lemmas
+pub mod GroupLemmas

@@ -10,4 +10,4 @@ pub mod NamedNodes
 pub mod NodesInGroups
 pub mod Views
 pub mod CombinedLaws
-pub mod Lemmas
+pub mod GroupLogLemmas

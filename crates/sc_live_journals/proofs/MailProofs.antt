@@ -9,4 +9,4 @@ pub mod EndedGroups
 pub mod MailSenders
 pub mod Walks
 pub mod PartWalks
-pub mod Lemmas
+pub mod MailLemmas

@@ -19,4 +19,4 @@ pub mod ReplicaViews
 pub mod Players
 pub mod ReplicaInvariant
 pub mod OwnBallots
-pub mod Lemmas
+pub mod RowLemmas

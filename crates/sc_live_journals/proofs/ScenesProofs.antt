@@ -16,4 +16,4 @@ pub mod SceneReceivers
 pub mod SceneRows
 pub mod UntouchedBySteps
 pub mod SceneViews
-pub mod Lemmas
+pub mod SceneLemmas

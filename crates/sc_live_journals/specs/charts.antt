@@ -2,4 +2,4 @@ pub mod Charts
 pub mod GoneDistances
 pub mod ChartSequence
 pub mod LastQuietPrefixes
-pub mod Definitions
+pub mod ChartDefinitions

@@ -12,4 +12,4 @@ pub mod Slots
 pub mod TaughtGroups
 pub mod WellLedJournals
 pub mod GreatestBallots
-pub mod Definitions
+pub mod GroupDefinitions

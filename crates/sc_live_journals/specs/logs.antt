@@ -1,3 +1,3 @@
 pub mod GroupLogs
 pub mod Nodes
-pub mod Definitions
+pub mod LogDefinitions

@@ -3,4 +3,4 @@ pub mod WaitingCommands
 pub mod LastingReplicas
 pub mod EndedGroups
 pub mod MailSenders
-pub mod Definitions
+pub mod MailDefinitions

@@ -10,4 +10,4 @@ pub mod ReplicaSteps
 pub mod FollowedJournals
 pub mod PlayerRows
 pub mod ReplicaInvariant
-pub mod Definitions
+pub mod RowDefinitions

@@ -12,4 +12,4 @@ pub mod UnrelatedRows
 pub mod JournalScenes
 pub mod SceneReceivers
 pub mod SceneRows
-pub mod Definitions
+pub mod SceneDefinitions

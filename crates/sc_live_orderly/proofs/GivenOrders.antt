@@ -11,7 +11,7 @@ use Rattle.sc_actor.specs.declared.schedules.Line.{Line}
 use Rattle.sc_actor.specs.declared.schedules.Line.TheVariants.{Go as GoLine, Deliver as DeliverLine, Drop as DropLine, Again as AgainLine, Tick as TickLine, Crash as CrashLine, Told as ToldLine, Settle, Free, Storm}
 use Rattle.sc_actor.specs.Definitions.{has_crashed, is_delivery, System, acts, has_started, Task, Once, Settles, Frees, Storms, WalkPlace, MayAdd, IsLawful, onward, is_over, skips, cuts, after_row, place_after, rest_of_all, tasks_of}
 use Rattle.sc_actor.proofs.Lemmas.{lawful-last}
-use Rattle.sc_live_orderly.specs.Definitions.{IsCalmLine, is_told, orders, Said, Nothing, Goes, AnOrder, AreSpaced, gives_order, orders_given, GivesAllowedOrder, GiveAllowedOrders, LineGivesAllowedOrder, LinesGiveAllowedOrders}
+use Rattle.sc_live_orderly.specs.OrderlyDefinitions.{IsCalmLine, is_told, orders, Said, Nothing, Goes, AnOrder, AreSpaced, gives_order, orders_given, GivesAllowedOrder, GiveAllowedOrders, LineGivesAllowedOrder, LinesGiveAllowedOrders}
 use Rattle.sc_live_orderly.proofs.RowsOfSchedules.{Each-append, IsTaskOf, tasks_after, by_rows}
 use Rattle.sc_live_orderly.proofs.PotentialBounds.{count_push}
 use Rattle.sc_live_orderly.proofs.QuietLineEnds.{acts-event, acts-who, delivery-event, free-event, deliver-event}

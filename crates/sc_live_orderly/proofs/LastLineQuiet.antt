@@ -8,7 +8,7 @@ use Rattle.sc_actor.specs.declared.schedules.Line.{Line}
 use Rattle.sc_actor.specs.declared.schedules.Line.TheVariants.{Settle, Free}
 use Rattle.sc_actor.specs.Definitions.{mails, is_delivery, System, Task, Settles, Frees, Allows, IsLawful, IsWhole, is_over, is_quiet, cuts, skips, rest_of_task, tasks_of}
 use Rattle.sc_actor.proofs.Lemmas.{lawful-prefix, lawful-last, Stands, Stands-row, Stands-over, Stands-begin, Stands-ended}
-use Rattle.sc_live_orderly.specs.Definitions.{IsPlainLine, deliveries, Owing, owed, owed_at_birth, HasRoom}
+use Rattle.sc_live_orderly.specs.OrderlyDefinitions.{IsPlainLine, deliveries, Owing, owed, owed_at_birth, HasRoom}
 use Rattle.sc_live_orderly.proofs.PassedLines.{IsManyLine}
 use Rattle.sc_live_orderly.proofs.PassedTasks.{flat_append, more_rows, next_row, reach}
 use Rattle.sc_live_orderly.proofs.PotentialBounds.{count_push}

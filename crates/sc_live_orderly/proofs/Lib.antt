@@ -12,7 +12,7 @@ pub mod QuietLineEnds
 pub mod SpacedTasks
 pub mod SpacedLines
 pub mod UncutPrefixes
-pub mod Lemmas
+pub mod OrderlyLemmas
 pub mod PassedTasks
 pub mod LastLineQuiet
 pub mod StartedActors

@@ -13,7 +13,7 @@ use Rattle.sc_actor.specs.declared.rows.Event.TheVariants.{Deliver, Tick, Go, To
 use Rattle.sc_actor.specs.declared.schedules.Line.{Line}
 use Rattle.sc_actor.specs.Definitions.{mails, copies, counts_at, is_delivery, System, row_of, is_go, has_started, are_apart, IsLawful}
 use Rattle.sc_actor.proofs.Lemmas.{waiting_one, mails-snoc}
-use Rattle.sc_live_orderly.specs.Definitions.{IsPlainLine, IsInOrder, IsCalmEvent, IsCalmRow, mail_with, is_born, is_told, deliveries, goes, orders, AreInTime, Owing, SendsToActors, under_way, owed}
+use Rattle.sc_live_orderly.specs.OrderlyDefinitions.{IsPlainLine, IsInOrder, IsCalmEvent, IsCalmRow, mail_with, is_born, is_told, deliveries, goes, orders, AreInTime, Owing, SendsToActors, under_way, owed}
 use Rattle.sc_live_orderly.proofs.RowsOfSchedules.{orderly_is_calm, orderly, by_rows}
 use Rattle.sc_live_orderly.proofs.RowsInTime.{by_time, last_in_time}
 use Rattle.sc_live_orderly.proofs.MailCopies.{count_owes}

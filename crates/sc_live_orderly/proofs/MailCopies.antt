@@ -5,7 +5,7 @@ use Rattle.std.specs.List.{filter}
 use Rattle.std.proofs.lemmas.List.Sums.{sum_by-append, sum_by-cons}
 use Rattle.sc_base.specs.Definitions.{Each}
 use Rattle.sc_actor.specs.Definitions.{numbers}
-use Rattle.sc_live_orderly.specs.Definitions.{mail_with}
+use Rattle.sc_live_orderly.specs.OrderlyDefinitions.{mail_with}
 
 -- one copy less than there are at a place
 abbrev pub less_at : List ℕ → ℕ → List ℕ

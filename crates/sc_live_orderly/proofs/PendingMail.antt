@@ -8,7 +8,7 @@ use Rattle.sc_actor.specs.declared.rows.Row.{Row}
 use Rattle.sc_actor.specs.declared.rows.Event.{Event}
 use Rattle.sc_actor.specs.declared.rows.Event.TheVariants.{Deliver}
 use Rattle.sc_actor.specs.Definitions.{mails, copies, counts_at, numbered, may_get, has_crashed, is_crash, System, numbers_of, acts, row_of, waiting, kth, is_quiet, delivery, lowest}
-use Rattle.sc_live_orderly.specs.Definitions.{mail_with}
+use Rattle.sc_live_orderly.specs.OrderlyDefinitions.{mail_with}
 use Rattle.sc_live_orderly.proofs.RemainingMail.{after-row, empty_by}
 use Rattle.sc_live_orderly.proofs.MailCopies.{foremost, less_at}
 use Rattle.sc_live_orderly.specs.Turns.{pending_mail, TakesLowest}

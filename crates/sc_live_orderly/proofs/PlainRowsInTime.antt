@@ -6,7 +6,7 @@ use Rattle.sc_actor.specs.declared.rows.Event.{Event}
 use Rattle.sc_actor.specs.declared.rows.Event.TheVariants.{Deliver, Go}
 use Rattle.sc_actor.specs.declared.schedules.Line.{Line}
 use Rattle.sc_actor.specs.Definitions.{System, IsLawful}
-use Rattle.sc_live_orderly.specs.Definitions.{IsPlainLine, IsInOrder, is_told, IsClear, ComesInTime, AreInTime}
+use Rattle.sc_live_orderly.specs.OrderlyDefinitions.{IsPlainLine, IsInOrder, is_told, IsClear, ComesInTime, AreInTime}
 use Rattle.sc_live_orderly.proofs.RowsOfSchedules.{orderly, by_rows, orderly_is_calm}
 use Rattle.sc_live_orderly.proofs.RowsInTime.{in_time_row, none_in_time, clear_row, clear_quiet}
 

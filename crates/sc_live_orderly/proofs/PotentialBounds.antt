@@ -12,7 +12,7 @@ use Rattle.sc_actor.specs.declared.rows.Input.TheVariants.{Got, Go as GoInput}
 use Rattle.sc_actor.specs.declared.schedules.Line.{Line}
 use Rattle.sc_actor.specs.Definitions.{mails, copies, counts_at, numbered, is_delivery, value, acted, input_of, IsUnderWay, System, row_of, are_apart, IsLawful}
 use Rattle.sc_actor.proofs.Lemmas.{waiting_one, value-snoc}
-use Rattle.sc_live_orderly.specs.Definitions.{IsPlainLine, IsInOrder, mail_with, is_born, deliveries, Owing, Lowers, under_way, owed, owed_by, owed_at_birth}
+use Rattle.sc_live_orderly.specs.OrderlyDefinitions.{IsPlainLine, IsInOrder, mail_with, is_born, deliveries, Owing, Lowers, under_way, owed, owed_by, owed_at_birth}
 use Rattle.sc_live_orderly.proofs.RowsOfSchedules.{orderly, by_rows}
 use Rattle.sc_live_orderly.proofs.MailCopies.{taken_sum, filter_sum}
 use Rattle.sc_live_orderly.proofs.RemainingMail.{after-row, is_born-from}

@@ -13,7 +13,7 @@ use Rattle.sc_actor.specs.declared.schedules.Line.{Line}
 use Rattle.sc_actor.specs.declared.schedules.Line.TheVariants.{Go as GoLine, Deliver as DeliverLine, Settle, Free}
 use Rattle.sc_actor.specs.Definitions.{mails, numbered, is_delivery, System, acts, row_of, waiting, kth, are_apart, Task, Once, Settles, Frees, Storms, WalkPlace, Allows, MayAdd, IsLawful, onward, is_over, is_quiet, cuts, skips, after_row, place_after, rest_of_all, tasks_of, delivery, unsettled}
 use Rattle.sc_actor.proofs.Lemmas.{find-who, waiting_any, lawful-last, place_after-rows}
-use Rattle.sc_live_orderly.specs.Definitions.{IsPlainLine, is_born, deliveries, Owing, Lowers, HasRoom, owed, owed_at_birth}
+use Rattle.sc_live_orderly.specs.OrderlyDefinitions.{IsPlainLine, is_born, deliveries, Owing, Lowers, HasRoom, owed, owed_at_birth}
 use Rattle.sc_live_orderly.proofs.RowsOfSchedules.{Each-append, by_rows}
 use Rattle.sc_live_orderly.proofs.RemainingMail.{tidy, may-born}
 use Rattle.sc_live_orderly.proofs.PotentialBounds.{delivered, count_push, deliveries_are_owed}

@@ -12,7 +12,7 @@ use Rattle.sc_actor.specs.declared.rows.Event.TheVariants.{Deliver, Go, Told}
 use Rattle.sc_actor.specs.declared.schedules.Line.{Line}
 use Rattle.sc_actor.specs.Definitions.{mails, copies, counts_at, numbers, numbered, may_get, is_for, is_crash, is_delivery, System, numbers_of, row_of, waiting, kth, IsLawful, is_quiet}
 use Rattle.sc_actor.proofs.Lemmas.{counted, length-counts_at, first_is, wide_none, mails-snoc, copies-snoc, lawful-prefix}
-use Rattle.sc_live_orderly.specs.Definitions.{IsPlainLine, IsCalmLine, IsOrderly, IsCalmEvent, IsCalmRow, IsTidy, mail_with, rest, mail_for, is_born, taken}
+use Rattle.sc_live_orderly.specs.OrderlyDefinitions.{IsPlainLine, IsCalmLine, IsOrderly, IsCalmEvent, IsCalmRow, IsTidy, mail_with, rest, mail_for, is_born, taken}
 use Rattle.sc_live_orderly.proofs.RowsOfSchedules.{Each-append, plain_are_calm, orderly_is_calm, calm_row, by_rows}
 use Rattle.sc_live_orderly.proofs.MailCopies.{Foremost, less_at, foremost, mail_with-append, mail_with-ones, mail_with-other, numbers-agree}
 

@@ -7,7 +7,7 @@ use Rattle.sc_actor.specs.declared.schedules.Line.TheVariants.{Deliver as Delive
 use Rattle.sc_actor.specs.Definitions.{is_delivery, System, acts, waiting, kth, Once, Allows, is_quiet}
 use Rattle.sc_actor.proofs.Lemmas.{some_waits}
 use Rattle.sc_base.proofs.Lemmas.{and_then-some}
-use Rattle.sc_live_orderly.specs.Definitions.{IsCalmRow, IsTidy, is_told, IsClear, ComesInTime, AreInTime}
+use Rattle.sc_live_orderly.specs.OrderlyDefinitions.{IsCalmRow, IsTidy, is_told, IsClear, ComesInTime, AreInTime}
 use Rattle.sc_live_orderly.proofs.RowsOfSchedules.{Each-append}
 use Rattle.sc_live_orderly.proofs.RemainingMail.{tidy-row}
 

@@ -12,7 +12,7 @@ use Rattle.sc_actor.specs.declared.schedules.Line.{Line}
 use Rattle.sc_actor.specs.declared.schedules.Line.TheVariants.{Go as GoLine, Deliver as DeliverLine, Drop as DropLine, Again as AgainLine, Tick as TickLine, Crash as CrashLine, Told as ToldLine, Settle, Free, Storm}
 use Rattle.sc_actor.specs.Definitions.{mails, numbered, has_crashed, System, acts, row_of, waiting, kth, has_started, Task, Once, Settles, Frees, Storms, WalkPlace, Allows, MayAdd, IsLawful, onward, is_over, after_row, place_after, rest_of_all, tasks_of, delivery}
 use Rattle.sc_actor.proofs.Lemmas.{find-who, first_is, lawful-prefix, lawful-last, unless-some}
-use Rattle.sc_live_orderly.specs.Definitions.{IsPlainLine, IsCalmLine, IsInOrder, IsOrderly, IsCalmEvent, IsCalmRow}
+use Rattle.sc_live_orderly.specs.OrderlyDefinitions.{IsPlainLine, IsCalmLine, IsInOrder, IsOrderly, IsCalmEvent, IsCalmRow}
 
 pub Each-append : {X : Type 0} (P : X → Type 0) (xs ys : List X) → Each P xs → Each P ys → Each P (xs ++ ys)
 Each-append P [] ys e f = f

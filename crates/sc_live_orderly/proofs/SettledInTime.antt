@@ -11,7 +11,7 @@ use Rattle.sc_actor.specs.declared.schedules.Line.{Line}
 use Rattle.sc_actor.specs.declared.schedules.Line.TheVariants.{Go as GoLine, Deliver as DeliverLine, Drop as DropLine, Again as AgainLine, Tick as TickLine, Crash as CrashLine, Told as ToldLine, Settle, Free, Storm}
 use Rattle.sc_actor.specs.Definitions.{has_crashed, System, acts, has_started, Task, Once, Settles, Frees, Storms, WalkPlace, MayAdd, IsLawful, onward, is_over, is_quiet, after_row, place_after, rest_of_all, tasks_of, unsettled}
 use Rattle.sc_actor.proofs.Lemmas.{lawful-last, place_after-rows, unless-some}
-use Rattle.sc_live_orderly.specs.Definitions.{is_told, HasRoom, Said, Nothing, Goes, AnOrder, AreSpaced, AreInTime}
+use Rattle.sc_live_orderly.specs.OrderlyDefinitions.{is_told, HasRoom, Said, Nothing, Goes, AnOrder, AreSpaced, AreInTime}
 use Rattle.sc_live_orderly.proofs.RowsOfSchedules.{allows_calm, by_rows}
 use Rattle.sc_live_orderly.proofs.QuietLineEnds.{acts-event, delivery-event, free-event, deliver-event}
 use Rattle.sc_live_orderly.proofs.RowsInTime.{in_time_row, timely_by, clear_row, delivery_in_time, none_in_time}

@@ -12,7 +12,7 @@ use Rattle.sc_actor.specs.declared.schedules.Line.{Line}
 use Rattle.sc_actor.specs.declared.schedules.Line.TheVariants.{Go as GoLine, Deliver as DeliverLine, Drop as DropLine, Again as AgainLine, Tick as TickLine, Crash as CrashLine, Told as ToldLine, Settle, Free, Storm}
 use Rattle.sc_actor.specs.Definitions.{has_crashed, is_delivery, System, acts, has_started, Task, Once, Settles, Frees, Storms, WalkPlace, Allows, MayAdd, IsLawful, onward, is_over, is_quiet, after_row, place_after, rest_of_all, tasks_of, unsettled}
 use Rattle.sc_actor.proofs.Lemmas.{lawful-last, lawful-prefix, place_after-rows, unless-some}
-use Rattle.sc_live_orderly.specs.Definitions.{is_told, deliveries, orders, HasRoom, Said, Nothing, Goes, AnOrder, AreSpaced, IsClear, AreInTime, orders_given, IsMeasure}
+use Rattle.sc_live_orderly.specs.OrderlyDefinitions.{is_told, deliveries, orders, HasRoom, Said, Nothing, Goes, AnOrder, AreSpaced, IsClear, AreInTime, orders_given, IsMeasure}
 use Rattle.sc_live_orderly.proofs.RowsOfSchedules.{allows_calm, by_rows}
 use Rattle.sc_live_orderly.proofs.PotentialBounds.{count_push}
 use Rattle.sc_live_orderly.proofs.QuietLineEnds.{acts-event, delivery-event, free-event, deliver-event}

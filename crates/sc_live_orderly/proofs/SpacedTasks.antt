@@ -6,7 +6,7 @@ use Rattle.sc_actor.specs.declared.rows.Row.{Row}
 use Rattle.sc_actor.specs.declared.schedules.Line.{Line}
 use Rattle.sc_actor.specs.declared.schedules.Line.TheVariants.{Go as GoLine, Deliver as DeliverLine, Drop as DropLine, Again as AgainLine, Tick as TickLine, Crash as CrashLine, Told as ToldLine, Settle, Free, Storm}
 use Rattle.sc_actor.specs.Definitions.{is_delivery, System, Task, Once, Settles, Frees, Storms, Allows, is_quiet, tasks_of}
-use Rattle.sc_live_orderly.specs.Definitions.{HasRoom, Said, Nothing, Goes, AnOrder, MayGo, MayOrder, AreSpaced, IsClear}
+use Rattle.sc_live_orderly.specs.OrderlyDefinitions.{HasRoom, Said, Nothing, Goes, AnOrder, MayGo, MayOrder, AreSpaced, IsClear}
 use Rattle.sc_live_orderly.proofs.RowsInTime.{clear_row, clear_quiet, delivery_untold, never_quiet}
 
 -- tasks are spaced, and each of many deliveries has room for this number of them

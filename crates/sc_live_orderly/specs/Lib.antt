@@ -2,4 +2,4 @@ pub mod OrderedRows
 pub mod Potential
 pub mod OrdersInQuiet
 pub mod Turns
-pub mod Definitions
+pub mod OrderlyDefinitions

@@ -1,7 +1,7 @@
 -- Laws that follow from lemmas of this crate and of those below.
 use Rattle.sc_live_plain.proofs.BudgetProofs.PlainLineEnds.{ends_quiet}
 use Rattle.sc_scenario.proofs.ScenarioProofs.Lemmas.{valid_scenarios_are_bounded}
-use Rattle.sc_live_plain.specs.Definitions.{PlainLinesEndQuiet, RequestsGoOn, QuietJournalsAsk}
+use Rattle.sc_live_plain.specs.PlainDefinitions.{PlainLinesEndQuiet, RequestsGoOn, QuietJournalsAsk}
 use Rattle.sc_live_plain.proofs.CalmProofs.RequestPhaseClients.{go_on}
 use Rattle.sc_live_plain.proofs.CalmProofs.RequestsAfterQuiet.{quiet_ask}
 

@@ -4,4 +4,4 @@ pub mod PlainProofs
 pub mod CalmProofs
 pub mod BudgetProofs
 pub mod Laws
-pub mod Lemmas
+pub mod PlainLemmas

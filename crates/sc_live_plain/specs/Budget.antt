@@ -8,7 +8,7 @@ use Rattle.sc_scenario.specs.declared.scenario.scenarios.Asks.{Asks}
 use Rattle.sc_scenario.specs.declared.scenario.scenarios.Scenario.{Scenario}
 use Rattle.sc_scenario.specs.declared.scenario.scenarios.SchedLine.{SchedLine}
 use Rattle.sc_scenario.specs.declared.scenario.scenarios.SchedLine.TheVariants.{Go, Deliver, Drop, Again, Tick, Crash, Told, Settle, Free, Storm}
-use Rattle.sc_meaning.specs.sound.Definitions.{route_of, kept_replies}
+use Rattle.sc_meaning.specs.sound.SoundDefinitions.{route_of, kept_replies}
 
 -- the number of requests of all clients together
 abbrev pub requests_of : Scenario → ℕ

@@ -6,8 +6,8 @@ use Rattle.sc_scenario.specs.scenario.Definitions.{most_deliveries}
 use Rattle.sc_scenario.specs.declared.scenario.scenarios.Scenario.{Scenario}
 use Rattle.sc_scenario.specs.declared.scenario.scenarios.SchedLine.{SchedLine}
 use Rattle.sc_scenario.specs.declared.scenario.scenarios.SchedLine.TheVariants.{Go, Deliver, Drop, Again, Tick, Crash, Told, Settle, Free, Storm}
-use Rattle.sc_meaning.specs.sound.Definitions.{schedule}
-use Rattle.sc_live_orderly.specs.Definitions.{HasRoom, AreSpaced, Nothing}
+use Rattle.sc_meaning.specs.sound.SoundDefinitions.{schedule}
+use Rattle.sc_live_orderly.specs.OrderlyDefinitions.{HasRoom, AreSpaced, Nothing}
 use Rattle.sc_live_plain.specs.Budget.{requests_of, delivers, IsAtBudget}
 
 -- whether a line gives an order

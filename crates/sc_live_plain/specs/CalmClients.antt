@@ -3,9 +3,9 @@ use Rattle.std.specs.Prelude.{◌≡◌, ℕ, ◌-◌, ◌<◌, ◌≤◌, Bool,
 use Rattle.sc_base.specs.Definitions.{Among, Each, client_actor, least_of}
 use Rattle.sc_node_table.specs.Values.{Draw, Op, Got, Row, Route, OrderLine, Mail}
 use Rattle.sc_actor.specs.declared.rows.Input.TheVariants.{Go}
-use Rattle.sc_client_table.specs.lookup.Definitions.{KnownGroups, target_of}
+use Rattle.sc_client_table.specs.lookup.LookupDefinitions.{KnownGroups, target_of}
 use Rattle.sc_client_table.specs.declared.lookup.ways.Way.{Way}
-use Rattle.sc_client_table.specs.table.Definitions.{Client as ClientState, ClientStep, table}
+use Rattle.sc_client_table.specs.table.TableDefinitions.{Client as ClientState, ClientStep, table}
 use Rattle.sc_scenario.specs.declared.scenario.scenarios.Asks.{Asks}
 use Rattle.sc_scenario.specs.declared.scenario.scenarios.Scenario.{Scenario}
 use Rattle.sc_live_plain.specs.KnownGroups.{AreRoundRing, KnowsFirst}

@@ -2,9 +2,9 @@
 use Rattle.std.specs.Prelude.{◌≡◌, ℕ, ◌+◌, ◌≤◌, true, false, List, Option, Some, None, ◌⊎◌}
 use Rattle.sc_base.specs.Definitions.{Among, Each, client_actor}
 use Rattle.sc_node_table.specs.Values.{Draw, Op, Got, Row, Route, OrderLine, AnswerBody, Value, NotLeader, NotMine, Gone, Stale, Mail, MailBody, Request, Answer, Prepare, Promise, Accept, Accepted, Nack, Learn, Ask, Install, TxPrepare, TxVote, TxOutcome, TxElsewhere, TxWatch, TxWatched, Told}
-use Rattle.sc_node_table.specs.Definitions.{NodeState, replica_of, node_table, ReplicaState, next, last_slot, slots_ahead}
+use Rattle.sc_node_table.specs.NodeDefinitions.{NodeState, replica_of, node_table, ReplicaState, next, last_slot, slots_ahead}
 use Rattle.sc_scenario.specs.declared.scenario.scenarios.Scenario.{Scenario}
-use Rattle.sc_live_steps.specs.calm.Definitions.{Ways, View as Replicas}
+use Rattle.sc_live_steps.specs.calm.CalmDefinitions.{Ways, View as Replicas}
 use Rattle.sc_live_plain.specs.Frames.{Frame, IsFrame, AreNamedApart}
 use Rattle.sc_live_plain.specs.PlainClients.{IsBegun}
 use Rattle.sc_live_plain.specs.PlainMail.{Requests, IsPlainBody, IsPlainMail}

@@ -2,8 +2,8 @@
 use Rattle.std.specs.Prelude.{◌≡◌, ℕ, false, List, []}
 use Rattle.sc_node_table.specs.Values.{Op, OrderLine, Mail, Row, MailBody, Request}
 use Rattle.sc_scenario.specs.declared.scenario.scenarios.Scenario.{Scenario}
-use Rattle.sc_node_table.specs.Definitions.{ReplicaState, name_of}
-use Rattle.sc_live_steps.specs.calm.Definitions.{AreBounded, Lowers, Points, Ways}
+use Rattle.sc_node_table.specs.NodeDefinitions.{ReplicaState, name_of}
+use Rattle.sc_live_steps.specs.calm.CalmDefinitions.{AreBounded, Lowers, Points, Ways}
 use Rattle.sc_live_plain.specs.Frames.{Frame, IsFrame}
 use Rattle.sc_live_plain.specs.PlainClients.{IsBegun}
 use Rattle.sc_live_plain.specs.PlainMail.{IsPlainBody}

@@ -2,7 +2,7 @@
 use Rattle.std.specs.Prelude.{◌≡◌, ℕ, ◌+◌, ◌≤◌, true, List, None}
 use Rattle.sc_base.specs.Definitions.{Among, IsRoster, is_member}
 use Rattle.sc_node_table.specs.Values.{Ballot, Base, Core, Free}
-use Rattle.sc_node_table.specs.Definitions.{is_node, first_ballot, slots_ahead}
+use Rattle.sc_node_table.specs.NodeDefinitions.{is_node, first_ballot, slots_ahead}
 
 -- a frame: the group's record, the node that leads it and the ballot in which it does, the members that decide each slot, and a slot `from`: the slots from `from + slots_ahead` on have the members of the record
 pub record Frame : Type 0 where

@@ -3,7 +3,7 @@ use Rattle.std.specs.Prelude.{◌≡◌, ℕ, ◌+◌, ◌^◌, ◌<◌, ◌≤�
 use Rattle.sc_base.specs.Definitions.{Among, Each, IsArc, end_of, holds}
 use Rattle.sc_node_table.specs.Values.{Draw}
 use Rattle.sc_client_table.specs.declared.lookup.ways.Way.{Way}
-use Rattle.sc_client_table.specs.lookup.Definitions.{KnownGroups, way_to, chosen, preferring, learnt_from_not_mine}
+use Rattle.sc_client_table.specs.lookup.LookupDefinitions.{KnownGroups, way_to, chosen, preferring, learnt_from_not_mine}
 use Rattle.sc_live_plain.specs.Frames.{Frame}
 
 -- the group's successor is the other group, whose arc starts where this group's arc ends

@@ -6,7 +6,7 @@ use Rattle.sc_actor.specs.Definitions.{is_quiet}
 use Rattle.sc_scenario.specs.declared.scenario.scenarios.Scenario.{Scenario}
 use Rattle.sc_scenario.specs.declared.scenario.scenarios.SchedLine.{SchedLine}
 use Rattle.sc_scenario.specs.scenario.Definitions.{IsValid}
-use Rattle.sc_meaning.specs.sound.Definitions.{Lawful, Whole, as_nodes, system_of}
+use Rattle.sc_meaning.specs.sound.SoundDefinitions.{Lawful, Whole, as_nodes, system_of}
 use Rattle.sc_live_plain.specs.Budget.{AllowsDeliveries, delivers, budget_of, AreAnswered}
 
 -- A plain scenario whose last line is at the budget: each line starts a client or delivers pending mail, the first of one actor or any number of all; and the last line delivers pending mail of all actors, and has room for the budget.

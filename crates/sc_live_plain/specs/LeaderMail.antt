@@ -2,7 +2,7 @@
 use Rattle.std.specs.Prelude.{◌≡◌, ℕ, suc, ◌+◌, ◌<◌, ◌≤◌, max, true, List, [], ◌∷◌, Option, Some, if◌then◌else◌, ◌⊎◌}
 use Rattle.sc_base.specs.Definitions.{Among, Each, same_draw, is_member}
 use Rattle.sc_node_table.specs.Values.{Draw, Mail, MailBody, Request, Answer, Prepare, Promise, Accept, Accepted, Nack, Learn, Ask, Install, TxPrepare, TxVote, TxOutcome, TxElsewhere, TxWatch, TxWatched, Told}
-use Rattle.sc_node_table.specs.Definitions.{numbers_from}
+use Rattle.sc_node_table.specs.NodeDefinitions.{numbers_from}
 use Rattle.sc_live_plain.specs.Frames.{Frame}
 
 -- the mark of a mail for a group: it asks to accept something at a slot, it is the vote of a node at a slot, it reports what was decided at a slot, or it is none of these

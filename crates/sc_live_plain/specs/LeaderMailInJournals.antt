@@ -3,11 +3,11 @@ use Rattle.std.specs.Prelude.{◌≡◌, ℕ, ◌+◌, ◌==◌, List, [], map, 
 use Rattle.std.specs.Option.{option_map}
 use Rattle.sc_node_table.specs.Values.{Draw, Command, OrderLine, Mail, Row, Flight, Node, Client}
 use Rattle.sc_actor.specs.Definitions.{value}
-use Rattle.sc_words.specs.paxos.Definitions.{flight_at, kept_voters}
-use Rattle.sc_node_table.specs.Definitions.{replica_of, is_node, ReplicaState, next}
+use Rattle.sc_words.specs.paxos.PaxosDefinitions.{flight_at, kept_voters}
+use Rattle.sc_node_table.specs.NodeDefinitions.{replica_of, is_node, ReplicaState, next}
 use Rattle.sc_scenario.specs.declared.scenario.scenarios.Scenario.{Scenario}
-use Rattle.sc_meaning.specs.sound.Definitions.{Player, player_table, node_seat, system_of, as_nodes}
-use Rattle.sc_live_orderly.specs.Definitions.{rest}
+use Rattle.sc_meaning.specs.sound.SoundDefinitions.{Player, player_table, node_seat, system_of, as_nodes}
+use Rattle.sc_live_orderly.specs.OrderlyDefinitions.{rest}
 use Rattle.sc_live_plain.specs.Frames.{Frame}
 use Rattle.sc_live_plain.specs.LeaderMail.{Mark, mark, View, IsBetween}
 use Rattle.sc_live_plain.specs.PlainNodes.{AreTaken}

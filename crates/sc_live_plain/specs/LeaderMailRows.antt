@@ -2,7 +2,7 @@
 use Rattle.std.specs.Prelude.{◌≡◌, ℕ, ◌+◌, ◌<◌, ◌≤◌, true, List, [], ◌∷◌, Some, ◌⊎◌}
 use Rattle.sc_base.specs.Definitions.{Among, Each, is_member}
 use Rattle.sc_node_table.specs.Values.{Mail}
-use Rattle.sc_node_table.specs.Definitions.{ReplicaState, next, numbers_from}
+use Rattle.sc_node_table.specs.NodeDefinitions.{ReplicaState, next, numbers_from}
 use Rattle.sc_live_plain.specs.Frames.{Frame}
 use Rattle.sc_live_plain.specs.LeaderMail.{Mark, Asks, Votes, Teaches, Other, View, taught_slots}
 use Rattle.sc_live_plain.specs.LeaderMailInJournals.{voters_in, marks_for}

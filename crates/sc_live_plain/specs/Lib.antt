@@ -18,4 +18,4 @@ pub mod PlainPotential
 pub mod PlainClients
 pub mod PlainMail
 pub mod PlainNodes
-pub mod Definitions
+pub mod PlainDefinitions

@@ -4,11 +4,11 @@ use Rattle.sc_base.specs.Definitions.{Among, key_of, pos_of}
 use Rattle.sc_node_table.specs.Values.{Draw, Op, Base, OrderLine, Mail, Row, Node, Client}
 use Rattle.sc_actor.specs.Definitions.{value}
 use Rattle.sc_client_table.specs.declared.lookup.ways.Way.{Way}
-use Rattle.sc_client_table.specs.lookup.Definitions.{chosen, target_in, new_way}
-use Rattle.sc_client_table.specs.table.Definitions.{Client as ClientState}
+use Rattle.sc_client_table.specs.lookup.LookupDefinitions.{chosen, target_in, new_way}
+use Rattle.sc_client_table.specs.table.TableDefinitions.{Client as ClientState}
 use Rattle.sc_scenario.specs.declared.scenario.scenarios.Asks.{Asks}
 use Rattle.sc_scenario.specs.declared.scenario.scenarios.Scenario.{Scenario}
-use Rattle.sc_meaning.specs.sound.Definitions.{Player, player_table, client_seat, route_of}
+use Rattle.sc_meaning.specs.sound.SoundDefinitions.{Player, player_table, client_seat, route_of}
 use Rattle.sc_live_plain.specs.Frames.{Frame}
 use Rattle.sc_live_plain.specs.PlainPotential.{begun_ones}
 

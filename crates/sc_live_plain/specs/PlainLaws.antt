@@ -6,7 +6,7 @@ use Rattle.sc_mail.specs.Definitions.{body_weight}
 use Rattle.sc_actor.specs.Definitions.{journal_bytes, unsettled}
 use Rattle.sc_scenario.specs.declared.scenario.scenarios.Scenario.{Scenario}
 use Rattle.sc_scenario.specs.scenario.Definitions.{made_scenario, IsValid}
-use Rattle.sc_meaning.specs.sound.Definitions.{Lawful, Whole, as_nodes, schedule, system_of}
+use Rattle.sc_meaning.specs.sound.SoundDefinitions.{Lawful, Whole, as_nodes, schedule, system_of}
 use Rattle.sc_live_plain.specs.Budget.{IsAtBudget, AreAnswered}
 
 -- in each lawful journal of a valid plain scenario at its budget no line of deliveries is cut off with mail pending

@@ -2,7 +2,7 @@
 use Rattle.std.specs.Prelude.{◌≡◌, ◌<◌, ℕ, true, false, List, Option, Some, None}
 use Rattle.sc_base.specs.Definitions.{Among, client_actor, is_member}
 use Rattle.sc_node_table.specs.Values.{Op, Get, Put, Del, Add, Cas, Command, Noop, Call, Join, Leave, Split, Begin, Prepared, RecordVote, GiveUp, Finish, Watched, RecordWatch, AnswerBody, Value, NotLeader, NotMine, Gone, Stale, Mail, MailBody, Request, Answer, Prepare, Promise, Accept, Accepted, Nack, Learn, Ask, Install, TxPrepare, TxVote, TxOutcome, TxElsewhere, TxWatch, TxWatched, Told}
-use Rattle.sc_words.specs.ideal.Definitions.{key_of, holds_key}
+use Rattle.sc_words.specs.ideal.IdealDefinitions.{key_of, holds_key}
 use Rattle.sc_live_plain.specs.Frames.{Frame}
 
 -- which requests are begun: a predicate of the client, the request's number and its operation

@@ -4,9 +4,9 @@ use Rattle.std.specs.FinMap.{get}
 use Rattle.sc_base.specs.Definitions.{Among, Each, votes_of, is_majority, is_member}
 use Rattle.sc_node_table.specs.Values.{Noted, Op, Command, MailBody, Request, Answer, Prepare, Promise, Accept, Accepted, Nack, Learn, Ask, Install, TxPrepare, TxVote, TxOutcome, TxElsewhere, TxWatch, TxWatched, Told, Flight}
 use Rattle.sc_words.specs.declared.paxos.answers.Must.TheVariants.{Free as Open}
-use Rattle.sc_words.specs.paxos.Definitions.{IsAtLeast, must, kept_voters}
-use Rattle.sc_group_table.specs.machine.Definitions.{Group}
-use Rattle.sc_node_table.specs.Definitions.{NodeState, replica_of, ReplicaState, name_of, next, may_offer, slots_ahead, numbers_from}
+use Rattle.sc_words.specs.paxos.PaxosDefinitions.{IsAtLeast, must, kept_voters}
+use Rattle.sc_group_table.specs.machine.MachineDefinitions.{Group}
+use Rattle.sc_node_table.specs.NodeDefinitions.{NodeState, replica_of, ReplicaState, name_of, next, may_offer, slots_ahead, numbers_from}
 use Rattle.sc_live_plain.specs.Frames.{Frame}
 use Rattle.sc_live_plain.specs.PlainMail.{Requests, IsWrittenValue, IsPlainCommand}
 

@@ -1,9 +1,9 @@
 -- The potential of plain journals: an upper bound of the deliveries that are still to come, as a sum over the mail under way and over what each player still has to do.
 use Rattle.std.specs.Prelude.{ℕ, ◌+◌, ◌-◌, ◌*◌, nat_lt, length, sum_by, Option, Some, None, if◌then◌else◌}
 use Rattle.sc_node_table.specs.Values.{AnswerBody, Value, NotLeader, NotMine, Gone, Stale, Mail, MailBody, Request, Answer, Prepare, Promise, Accept, Accepted, Nack, Learn, Ask, Install, TxPrepare, TxVote, TxOutcome, TxElsewhere, TxWatch, TxWatched, Told, Node, Client}
-use Rattle.sc_client_table.specs.table.Definitions.{Client as ClientState}
-use Rattle.sc_node_table.specs.Definitions.{NodeState, ReplicaState, next}
-use Rattle.sc_meaning.specs.sound.Definitions.{Player}
+use Rattle.sc_client_table.specs.table.TableDefinitions.{Client as ClientState}
+use Rattle.sc_node_table.specs.NodeDefinitions.{NodeState, ReplicaState, next}
+use Rattle.sc_meaning.specs.sound.SoundDefinitions.{Player}
 
 -- what an answer owes: its own delivery; NotMine sends the client to the next group, so it owes 27 more, with which the client sends its request again
 abbrev pub answer_owes : AnswerBody → ℕ

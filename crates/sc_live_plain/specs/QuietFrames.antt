@@ -2,9 +2,9 @@
 use Rattle.std.specs.Prelude.{◌≡◌, ℕ, ◌-◌, ◌<◌, true, List, [], length, slice_get, unwrap_or, Some}
 use Rattle.sc_base.specs.Definitions.{Each, IsRoster, is_member}
 use Rattle.sc_node_table.specs.Values.{Draw, OrderLine, Mail, Row}
-use Rattle.sc_node_table.specs.Definitions.{is_node, ReplicaState, name_of, next, members, slots_ahead}
+use Rattle.sc_node_table.specs.NodeDefinitions.{is_node, ReplicaState, name_of, next, members, slots_ahead}
 use Rattle.sc_scenario.specs.declared.scenario.scenarios.Scenario.{Scenario}
-use Rattle.sc_live_steps.specs.calm.Definitions.{View as Replicas, IsAtRest, StandsQuiet}
+use Rattle.sc_live_steps.specs.calm.CalmDefinitions.{View as Replicas, IsAtRest, StandsQuiet}
 use Rattle.sc_live_plain.specs.LeaderMail.{View, IsBetween}
 use Rattle.sc_live_plain.specs.LeaderMailInJournals.{next_in, votes_in}
 use Rattle.sc_live_plain.specs.Frames.{Frame, IsFrame}

@@ -3,14 +3,14 @@ use Rattle.std.specs.Prelude.{◌≡◌, ℕ, ◌+◌, ◌-◌, ◌≤◌, ◌||
 use Rattle.sc_base.specs.Definitions.{Among, Each, client_actor, least_of}
 use Rattle.sc_node_table.specs.Values.{Draw, Base, Route, OrderLine, Mail, Node, Client, Row}
 use Rattle.sc_actor.specs.Definitions.{value, has_started}
-use Rattle.sc_client_table.specs.table.Definitions.{Client as ClientState}
-use Rattle.sc_node_table.specs.Definitions.{NodeState, ReplicaState}
+use Rattle.sc_client_table.specs.table.TableDefinitions.{Client as ClientState}
+use Rattle.sc_node_table.specs.NodeDefinitions.{NodeState, ReplicaState}
 use Rattle.sc_scenario.specs.declared.scenario.scenarios.Asks.{Asks}
 use Rattle.sc_scenario.specs.declared.scenario.scenarios.Scenario.{Scenario}
 use Rattle.sc_scenario.specs.scenario.Definitions.{IsValid}
-use Rattle.sc_meaning.specs.sound.Definitions.{player_table, node_seat, client_seat, route_of, system_of, as_nodes}
-use Rattle.sc_live_orderly.specs.Definitions.{rest, is_born}
-use Rattle.sc_live_steps.specs.calm.Definitions.{Ways, View as Replicas, HasReplica, StandsQuiet, IsQuiet}
+use Rattle.sc_meaning.specs.sound.SoundDefinitions.{player_table, node_seat, client_seat, route_of, system_of, as_nodes}
+use Rattle.sc_live_orderly.specs.OrderlyDefinitions.{rest, is_born}
+use Rattle.sc_live_steps.specs.calm.CalmDefinitions.{Ways, View as Replicas, HasReplica, StandsQuiet, IsQuiet}
 use Rattle.sc_live_plain.specs.RequestPhase.{IsAsking}
 use Rattle.sc_live_plain.specs.RequestLines.{NobodyWaits}
 use Rattle.sc_live_plain.specs.QuietFrames.{IsKept, frame_at_rest}

@@ -3,13 +3,13 @@ use Rattle.std.specs.Prelude.{◌≡◌, ℕ, ◌+◌, ◌≤◌, true, List, []
 use Rattle.sc_base.specs.Definitions.{Among, Each, client_actor}
 use Rattle.sc_node_table.specs.Values.{Base, OrderLine, Mail, Node, Client, Row}
 use Rattle.sc_actor.specs.Definitions.{value, has_started}
-use Rattle.sc_client_table.specs.table.Definitions.{Client as ClientState}
-use Rattle.sc_node_table.specs.Definitions.{NodeState, last_slot, slots_ahead}
+use Rattle.sc_client_table.specs.table.TableDefinitions.{Client as ClientState}
+use Rattle.sc_node_table.specs.NodeDefinitions.{NodeState, last_slot, slots_ahead}
 use Rattle.sc_scenario.specs.declared.scenario.scenarios.Asks.{Asks}
 use Rattle.sc_scenario.specs.declared.scenario.scenarios.Scenario.{Scenario}
 use Rattle.sc_scenario.specs.scenario.Definitions.{IsValid}
-use Rattle.sc_meaning.specs.sound.Definitions.{player_table, node_seat, client_seat, route_of, system_of, as_nodes}
-use Rattle.sc_live_orderly.specs.Definitions.{IsOrderly, IsTidy, rest, is_born}
+use Rattle.sc_meaning.specs.sound.SoundDefinitions.{player_table, node_seat, client_seat, route_of, system_of, as_nodes}
+use Rattle.sc_live_orderly.specs.OrderlyDefinitions.{IsOrderly, IsTidy, rest, is_born}
 use Rattle.sc_live_plain.specs.LeaderMailInJournals.{replica_at, next_in, IsGroupAt}
 use Rattle.sc_live_plain.specs.CalmClients.{IsLinkedSetting, IsCalmClient}
 use Rattle.sc_live_plain.specs.CalmNodes.{Setting, IsSetting, IsCalmNode, IsCalmMail}

@@ -33,4 +33,4 @@ pub mod TransactionEntries
 pub mod VoteRows
 pub mod BornReplicas
 pub mod CalmLaws
-pub mod Lemmas
+pub mod CalmStepLemmas

@@ -1,4 +1,4 @@
 pub mod OrderEntryVotes
 pub mod EntryMembers
 pub mod CoordinatorQuestions
-pub mod Lemmas
+pub mod EntryLemmas

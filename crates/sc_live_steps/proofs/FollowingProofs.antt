@@ -30,4 +30,4 @@ pub mod OutsideMail
 pub mod TableHints
 pub mod LearningMembers
 pub mod TakenVotes
-pub mod Lemmas
+pub mod FollowingLemmas

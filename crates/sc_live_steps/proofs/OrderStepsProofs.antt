@@ -16,4 +16,4 @@ pub mod OrderTables
 pub mod LoneEntries
 pub mod LoneVotes
 pub mod IdleRows
-pub mod Lemmas
+pub mod OrderStepLemmas

@@ -1,2 +1,2 @@
 pub mod Pumping
-pub mod Lemmas
+pub mod PumpLemmas

@@ -13,4 +13,4 @@ pub mod ClientReach
 pub mod RestingJournals
 pub mod UntakenMail
 pub mod Totals
-pub mod Definitions
+pub mod CalmDefinitions

@@ -12,4 +12,4 @@ pub mod OwnPrepares
 pub mod LeaderRows
 pub mod PaxosTables
 pub mod TaughtMembers
-pub mod Definitions
+pub mod FollowingDefinitions

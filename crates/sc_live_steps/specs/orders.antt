@@ -6,4 +6,4 @@ pub mod Stages
 pub mod OrderTables
 pub mod Entries
 pub mod LoneEntries
-pub mod Definitions
+pub mod OrderDefinitions

@@ -3,7 +3,7 @@ use Rattle.std.specs.Prelude.{ℕ, ◌+◌}
 use Rattle.std.specs.List.{sum_by}
 use Rattle.sc_words.specs.declared.paxos.reports.Report.{Report}
 use Rattle.sc_words.specs.declared.commands.commands.Command.{Command}
-use Rattle.sc_words.specs.commands.Definitions.{op_weight, reply_weight, command_weight, base_weight, vote_weight, outcome_weight}
+use Rattle.sc_words.specs.commands.CommandDefinitions.{op_weight, reply_weight, command_weight, base_weight, vote_weight, outcome_weight}
 use Rattle.sc_mail.specs.declared.bodies.AnswerBody.{AnswerBody}
 use Rattle.sc_mail.specs.declared.bodies.AnswerBody.TheVariants.{Value, NotLeader, NotMine, Gone, Stale}
 use Rattle.sc_mail.specs.declared.bodies.MailBody.{MailBody}

@@ -10,4 +10,4 @@ pub mod WorkedMoves
 pub mod WorkedPairs
 pub mod WorkedSplits
 pub mod Worked
-pub mod Lemmas
+pub mod EntryLemmas

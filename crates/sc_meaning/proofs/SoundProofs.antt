@@ -3,4 +3,4 @@ pub mod Example
 pub mod Rows
 pub mod WorkedOrder
 pub mod WorkedSplit
-pub mod Lemmas
+pub mod SoundLemmas

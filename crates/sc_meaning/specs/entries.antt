@@ -5,4 +5,4 @@ pub mod Laws
 pub mod Parts
 pub mod Rings
 pub mod Worlds
-pub mod Definitions
+pub mod EntryDefinitions

@@ -7,4 +7,4 @@ pub mod Players
 pub mod Requests
 pub mod Soundness
 pub mod Summary
-pub mod Definitions
+pub mod SoundDefinitions

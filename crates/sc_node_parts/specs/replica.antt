@@ -1,3 +1,3 @@
 pub mod Requests
 pub mod Heads
-pub mod Definitions
+pub mod ReplicaDefinitions

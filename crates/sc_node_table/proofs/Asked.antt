@@ -4,8 +4,8 @@ use Rattle.std.proofs.Common.{◌≡◌, ℕ, zero, suc, ◌+◌, ◌<◌, ◌�
 use Rattle.std.proofs.lemmas.Bool.{cases_Bool, cond-true, cond-false, cond_both, cases_order, lt-ltb, le-ltb, ne_eqb, eq-eqb, eqb-true}
 use Rattle.std.proofs.lemmas.List.Elements.{filter_agree}
 use Rattle.sc_base.specs.Definitions.{Each, most_nodes, is_member, with_member, with_any, united}
-use Rattle.sc_words.proofs.PaxosProofs.Lemmas.{Each-weaker}
-use Rattle.sc_node_table.specs.Definitions.{is_in_some, nodes_to, AsksTheOpenSets, numbers_from}
+use Rattle.sc_words.proofs.PaxosProofs.PaxosLemmas.{Each-weaker}
+use Rattle.sc_node_table.specs.NodeDefinitions.{is_in_some, nodes_to, AsksTheOpenSets, numbers_from}
 
 -- a test, or one node more
 abbrev or_node : ℕ → (ℕ → Bool) → ℕ → Bool

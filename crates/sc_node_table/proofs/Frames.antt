@@ -4,8 +4,8 @@ use Rattle.std.specs.List.{list_any}
 use Rattle.sc_words.specs.declared.commands.commands.Command.{Command}
 use Rattle.sc_words.specs.declared.paxos.answers.Must.{Must}
 use Rattle.sc_words.specs.declared.paxos.answers.Must.TheVariants.{Value, Gap, Free}
-use Rattle.sc_words.specs.paxos.Definitions.{must}
-use Rattle.sc_node_table.specs.Definitions.{ReplicaState, Place, next, settled, may_offer, taken_at, under_way, is_idle, Found, is_act, from_backlog, from_acts, from_queues, found_by, found_for, offered, pumped_from, StaysSettled}
+use Rattle.sc_words.specs.paxos.PaxosDefinitions.{must}
+use Rattle.sc_node_table.specs.NodeDefinitions.{ReplicaState, Place, next, settled, may_offer, taken_at, under_way, is_idle, Found, is_act, from_backlog, from_acts, from_queues, found_by, found_for, offered, pumped_from, StaysSettled}
 
 -- a replica but for what is in flight and the queues
 abbrev pub frame : ReplicaState → ReplicaState

@@ -11,8 +11,8 @@ use Rattle.sc_words.specs.declared.commands.orders.OrderResult.TheVariants.{Done
 use Rattle.sc_mail.specs.declared.bodies.AnswerBody.TheVariants as Says
 use Rattle.sc_mail.specs.declared.bodies.MailBody.TheVariants.{Request, Answer, Accept, Accepted, Learn, Ask, Install, Told as ToldMail}
 use Rattle.sc_node_table.specs.declared.ReplicaInput.TheVariants.{Got, Told}
-use Rattle.sc_group_table.specs.machine.Definitions.{group_of, base_of}
-use Rattle.sc_node_table.specs.Definitions.{born_replica, forgotten, sent_all, sent_others, answered, answered_all, order_reported, dismissed, dismissed_all, install_to, welcomed_all, jumped, put_back, nodes_to, elected, ended, saw, next_queued, from_backlog, from_queues, found_for, offered, pumped_from, pumped, entered, announced, answered_or_put_back, effect_reported, learnt_to, welcomed, landed, left, looked, executed_one, executed_ready, executed, promised, prepare_row, took, accept_row, promise_row, readied, accepted_row, nack_row, spoken, spoken_mails, begun_reported, went_on, reminded, wishing, ordered_row, act_queued, offer_row, watch_row, vote_row, watched_row, elsewhere_row, outcome_row, queued, requested, request_row, learn_row, taught, ask_row, asked_again, last_entry_sent, tick_row, looked_up, took_over, install_row, mailed, stepped}
+use Rattle.sc_group_table.specs.machine.MachineDefinitions.{group_of, base_of}
+use Rattle.sc_node_table.specs.NodeDefinitions.{born_replica, forgotten, sent_all, sent_others, answered, answered_all, order_reported, dismissed, dismissed_all, install_to, welcomed_all, jumped, put_back, nodes_to, elected, ended, saw, next_queued, from_backlog, from_queues, found_for, offered, pumped_from, pumped, entered, announced, answered_or_put_back, effect_reported, learnt_to, welcomed, landed, left, looked, executed_one, executed_ready, executed, promised, prepare_row, took, accept_row, promise_row, readied, accepted_row, nack_row, spoken, spoken_mails, begun_reported, went_on, reminded, wishing, ordered_row, act_queued, offer_row, watch_row, vote_row, watched_row, elsewhere_row, outcome_row, queued, requested, request_row, learn_row, taught, ask_row, asked_again, last_entry_sent, tick_row, looked_up, took_over, install_row, mailed, stepped}
 use Rattle.sc_node_table.proofs.Runs.{g, b, mail, core, base, run}
 
 abbrev line : ℕ → Order → OrderLine

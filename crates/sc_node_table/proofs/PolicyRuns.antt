@@ -7,7 +7,7 @@ use Rattle.sc_words.specs.declared.commands.cores.Base.{Base}
 use Rattle.sc_words.specs.declared.commands.cores.Lock.TheVariants.{Free, Watching}
 use Rattle.sc_mail.specs.declared.bodies.MailBody.TheVariants.{Accept}
 use Rattle.sc_mail.specs.declared.bodies.Mail.{Mail}
-use Rattle.sc_node_table.specs.Definitions.{sent_all, sent_others, answered, next_queued, from_backlog, from_queues, found_for, offered, pumped_from, pumped, reminded, wishing, asked_again, last_entry_sent, tick_row, NodeState, born_node, ticked, names_after_ticks, on_tick}
+use Rattle.sc_node_table.specs.NodeDefinitions.{sent_all, sent_others, answered, next_queued, from_backlog, from_queues, found_for, offered, pumped_from, pumped, reminded, wishing, asked_again, last_entry_sent, tick_row, NodeState, born_node, ticked, names_after_ticks, on_tick}
 use Rattle.sc_node_table.proofs.Runs.{g, b, mail, base}
 use Rattle.sc_node_table.proofs.TransactionRuns.{h, tx, left_core, right_core, bare, watch}
 

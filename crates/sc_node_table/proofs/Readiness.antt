@@ -8,8 +8,8 @@ use Rattle.sc_words.specs.declared.commands.orders.OrderResult.{OrderResult}
 use Rattle.sc_mail.specs.declared.bodies.AnswerBody.{AnswerBody}
 use Rattle.sc_mail.specs.declared.bodies.Mail.{Mail}
 use Rattle.sc_base.specs.Definitions.{is_member, least_of}
-use Rattle.sc_group_table.specs.machine.Definitions.{applied}
-use Rattle.sc_node_table.specs.Definitions.{at_slot, without_slot, ReplicaState, Place, childless, next, members, flying, forgotten, install_to, asked_to_promise, welcomed_all, put_back, same_command, elected, ended, before_of, spoken, entered, answer_of, announced, answered_or_put_back, effect_reported, order_result, learnt_to, welcomed, slot_lost, landed, left, left_gone, is_among, looked, looked_for, executed_one, next_child, has_room, next_ready, ending, executed_ready}
+use Rattle.sc_group_table.specs.machine.MachineDefinitions.{applied}
+use Rattle.sc_node_table.specs.NodeDefinitions.{at_slot, without_slot, ReplicaState, Place, childless, next, members, flying, forgotten, install_to, asked_to_promise, welcomed_all, put_back, same_command, elected, ended, before_of, spoken, entered, answer_of, announced, answered_or_put_back, effect_reported, order_result, learnt_to, welcomed, slot_lost, landed, left, left_gone, is_among, looked, looked_for, executed_one, next_child, has_room, next_ready, ending, executed_ready}
 use Rattle.sc_node_table.specs.declared.Before.{Before}
 
 -- taking a slot out makes the list shorter

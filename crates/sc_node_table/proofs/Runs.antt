@@ -14,8 +14,8 @@ use Rattle.sc_mail.specs.declared.bodies.MailBody.TheVariants.{Request, Answer, 
 use Rattle.sc_mail.specs.declared.bodies.Mail.{Mail}
 use Rattle.sc_node_table.specs.declared.ReplicaInput.{ReplicaInput}
 use Rattle.sc_node_table.specs.declared.ReplicaInput.TheVariants.{Got, Tick}
-use Rattle.sc_node_table.specs.Definitions.{numbers_from, ReplicaState, Place, born_replica, forgotten, sent_all, sent_others, answered, answered_all, order_reported, dismissed, dismissed_all, install_to, welcomed_all, put_back, nodes_to, elected, ended, saw, next_queued, from_backlog, from_queues, found_for, offered, pumped_from, pumped, entered, announced, answered_or_put_back, effect_reported, learnt_to, welcomed, landed, left, looked, executed_one, executed_ready, executed, promised, prepare_row, took, accept_row, promise_row, readied, accepted_row, nack_row, spoken, spoken_mails, begun_reported, went_on, reminded, wishing, ordered_row, act_queued, offer_row, watch_row, vote_row, watched_row, elsewhere_row, outcome_row, queued, requested, request_row, learn_row, taught, ask_row, asked_again, last_entry_sent, tick_row, mailed, stepped}
-use Rattle.sc_words.specs.paxos.Definitions.{first_leader}
+use Rattle.sc_node_table.specs.NodeDefinitions.{numbers_from, ReplicaState, Place, born_replica, forgotten, sent_all, sent_others, answered, answered_all, order_reported, dismissed, dismissed_all, install_to, welcomed_all, put_back, nodes_to, elected, ended, saw, next_queued, from_backlog, from_queues, found_for, offered, pumped_from, pumped, entered, announced, answered_or_put_back, effect_reported, learnt_to, welcomed, landed, left, looked, executed_one, executed_ready, executed, promised, prepare_row, took, accept_row, promise_row, readied, accepted_row, nack_row, spoken, spoken_mails, begun_reported, went_on, reminded, wishing, ordered_row, act_queued, offer_row, watch_row, vote_row, watched_row, elsewhere_row, outcome_row, queued, requested, request_row, learn_row, taught, ask_row, asked_again, last_entry_sent, tick_row, mailed, stepped}
+use Rattle.sc_words.specs.paxos.PaxosDefinitions.{first_leader}
 
 -- the name of the group in these runs
 abbrev pub g : Draw

@@ -22,7 +22,7 @@ use Rattle.sc_words.specs.declared.commands.votes.Past.{Past}
 use Rattle.sc_words.specs.declared.commands.votes.Past.TheVariants as Voted
 use Rattle.sc_words.specs.declared.commands.votes.Vote.{Vote}
 use Rattle.sc_words.specs.declared.commands.votes.Vote.TheVariants as Says
-use Rattle.sc_node_table.specs.Definitions.{same_numbers, same_op, same_arc, same_link, same_route, same_pair, same_pairs, same_client, same_clients, same_body, same_offer, same_watch, same_no, same_frozen, same_vote, same_past, same_gift, same_outcome, same_command, DecidesCommands}
+use Rattle.sc_node_table.specs.NodeDefinitions.{same_numbers, same_op, same_arc, same_link, same_route, same_pair, same_pairs, same_client, same_clients, same_body, same_offer, same_watch, same_no, same_frozen, same_vote, same_past, same_gift, same_outcome, same_command, DecidesCommands}
 
 -- a test that is true exactly where two values are equal
 abbrev DecidesEquality : {X : Type 0} → (X → X → Bool) → Type 0

@@ -27,8 +27,8 @@ use Rattle.sc_words.specs.declared.commands.votes.Past.{Past}
 use Rattle.sc_words.specs.declared.commands.votes.Past.TheVariants as Cast
 use Rattle.sc_words.specs.declared.commands.votes.Vote.TheVariants as Says
 use Rattle.sc_mail.specs.declared.bodies.MailBody.TheVariants.{Accept, TxPrepare, TxVote, TxOutcome, TxElsewhere, TxWatch, TxWatched, Told}
-use Rattle.sc_group_table.specs.machine.Definitions.{group_of, frozen_of}
-use Rattle.sc_node_table.specs.Definitions.{Place, born_replica, sent_all, answered, order_reported, next_queued, from_backlog, from_queues, found_for, offered, pumped_from, pumped, act_queued, offer_row, vote_row, watched_row, elsewhere_row, outcome_row, reminded, ordered_row, names_after, before_of, begun_reported, went_on, spoken_mails, spoken}
+use Rattle.sc_group_table.specs.machine.MachineDefinitions.{group_of, frozen_of}
+use Rattle.sc_node_table.specs.NodeDefinitions.{Place, born_replica, sent_all, answered, order_reported, next_queued, from_backlog, from_queues, found_for, offered, pumped_from, pumped, act_queued, offer_row, vote_row, watched_row, elsewhere_row, outcome_row, reminded, ordered_row, names_after, before_of, begun_reported, went_on, spoken_mails, spoken}
 use Rattle.sc_node_table.proofs.Runs.{g, b, mail}
 
 -- the participant's name, and the transaction's

@@ -10,10 +10,10 @@ use Rattle.sc_mail.specs.declared.bodies.AnswerBody.{AnswerBody}
 use Rattle.sc_mail.specs.declared.bodies.AnswerBody.TheVariants as Says
 use Rattle.sc_mail.specs.declared.bodies.MailBody.TheVariants.{Learn}
 use Rattle.sc_words.specs.declared.commands.orders.OrderResult.{OrderResult}
-use Rattle.sc_words.specs.commands.Definitions.{result_of}
+use Rattle.sc_words.specs.commands.CommandDefinitions.{result_of}
 use Rattle.sc_base.specs.Definitions.{is_member, least_of}
-use Rattle.sc_words.specs.paxos.Definitions.{LogState, learnt, next_of, without_flight_at}
-use Rattle.sc_group_table.specs.machine.Definitions.{child_by, applied}
+use Rattle.sc_words.specs.paxos.PaxosDefinitions.{LogState, learnt, next_of, without_flight_at}
+use Rattle.sc_group_table.specs.machine.MachineDefinitions.{child_by, applied}
 use Rattle.sc_node_table.specs.Slots.{rest_of, at_slot, without_slot}
 use Rattle.sc_node_table.specs.Replica.{ReplicaState, Place, Executed, childless, name_of, next, members, flying, last_slot, forgotten, waits_in}
 use Rattle.sc_node_table.specs.Mails.{answer_to, sent_others, order_number, order_reported}

@@ -3,8 +3,8 @@ use Rattle.std.specs.Prelude.{ℕ, ◌-◌, List, [], ◌∷◌, if◌then◌els
 use Rattle.sc_base.specs.declared.names.Draw.{Draw}
 use Rattle.sc_words.specs.declared.commands.cores.Base.{Base}
 use Rattle.sc_mail.specs.declared.bodies.MailBody.TheVariants.{Prepare, Install}
-use Rattle.sc_words.specs.paxos.Definitions.{installed}
-use Rattle.sc_group_table.specs.machine.Definitions.{group_of, base_of}
+use Rattle.sc_words.specs.paxos.PaxosDefinitions.{installed}
+use Rattle.sc_group_table.specs.machine.MachineDefinitions.{group_of, base_of}
 use Rattle.sc_node_table.specs.Replica.{ReplicaState, Place, name_of, next, forgotten, waits_in}
 use Rattle.sc_node_table.specs.Mails.{sent}
 

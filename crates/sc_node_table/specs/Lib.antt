@@ -18,4 +18,4 @@ pub mod Spoken
 pub mod Transactions
 pub mod Voting
 pub mod Values
-pub mod Definitions
+pub mod NodeDefinitions

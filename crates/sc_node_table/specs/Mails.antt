@@ -11,7 +11,7 @@ use Rattle.sc_mail.specs.declared.bodies.AnswerBody.{AnswerBody}
 use Rattle.sc_mail.specs.declared.bodies.MailBody.{MailBody}
 use Rattle.sc_mail.specs.declared.bodies.MailBody.TheVariants.{Answer, Told}
 use Rattle.sc_mail.specs.declared.bodies.Mail.{Mail}
-use Rattle.sc_group_table.specs.policy.Definitions.{is_reported}
+use Rattle.sc_group_table.specs.policy.PolicyDefinitions.{is_reported}
 
 -- one mail more
 abbrev pub sent : ℕ → ℕ → MailBody → List Mail → List Mail

@@ -11,7 +11,7 @@ use Rattle.sc_words.specs.declared.commands.orders.OrderLine.{OrderLine}
 use Rattle.sc_words.specs.declared.commands.orders.OrderRefusal.{OrderRefusal}
 use Rattle.sc_words.specs.declared.commands.orders.OrderRefusal.TheVariants.{NotLeader}
 use Rattle.sc_words.specs.declared.commands.orders.OrderResult.TheVariants.{Refused}
-use Rattle.sc_group_table.specs.machine.Definitions.{refusal_of}
+use Rattle.sc_group_table.specs.machine.MachineDefinitions.{refusal_of}
 use Rattle.sc_node_table.specs.Replica.{ReplicaState, Place, settled}
 use Rattle.sc_node_table.specs.Mails.{result_sent}
 use Rattle.sc_node_table.specs.Queues.{with_order_queued}

@@ -9,7 +9,7 @@ use Rattle.sc_words.specs.declared.commands.cores.Lock.TheVariants.{Free, Coordi
 use Rattle.sc_words.specs.declared.commands.orders.Order.{Order}
 use Rattle.sc_words.specs.declared.commands.orders.OrderLine.{OrderLine}
 use Rattle.sc_words.specs.declared.commands.orders.OrderRefusal.{OrderRefusal}
-use Rattle.sc_group_table.specs.policy.Definitions.{wished_order}
+use Rattle.sc_group_table.specs.policy.PolicyDefinitions.{wished_order}
 use Rattle.sc_node_table.specs.Replica.{ReplicaState, Place, members, settled, is_idle}
 use Rattle.sc_node_table.specs.Queues.{with_order_queued}
 use Rattle.sc_node_table.specs.Reminders.{waited_in}

@@ -2,7 +2,7 @@
 use Rattle.std.specs.Prelude.{◌≡◌, ℕ, ◌+◌, ◌&&◌, ◌||◌, not, nat_le, Bool, true, false, List, [], ◌∷◌, if◌then◌else◌, Option, Some, None, is_some}
 use Rattle.std.specs.List.{list_any}
 use Rattle.sc_base.specs.declared.ops.Op.{Op}
-use Rattle.sc_words.specs.ideal.Definitions.{key_of, holds_key}
+use Rattle.sc_words.specs.ideal.IdealDefinitions.{key_of, holds_key}
 use Rattle.sc_words.specs.declared.commands.links.Route.{Route}
 use Rattle.sc_words.specs.declared.commands.cores.Core.{Core}
 use Rattle.sc_words.specs.declared.commands.cores.Lock.{Lock}
@@ -15,7 +15,7 @@ use Rattle.sc_mail.specs.declared.bodies.MailBody.TheVariants.{Accept}
 use Rattle.sc_mail.specs.declared.bodies.Mail.{Mail}
 use Rattle.sc_words.specs.declared.paxos.answers.Must.{Must}
 use Rattle.sc_words.specs.declared.paxos.answers.Must.TheVariants.{Value, Gap, Free as Open}
-use Rattle.sc_words.specs.paxos.Definitions.{must, with_flight_at}
+use Rattle.sc_words.specs.paxos.PaxosDefinitions.{must, with_flight_at}
 use Rattle.sc_node_table.specs.Replica.{Place, name_of, next, settled, may_offer, taken_at, under_way, is_idle, last_slot}
 use Rattle.sc_node_table.specs.Mails.{sent_all, answered}
 

@@ -15,7 +15,7 @@ use Rattle.sc_mail.specs.declared.bodies.Mail.{Mail}
 use Rattle.sc_mail.specs.declared.bodies.MailBody.{MailBody}
 use Rattle.sc_mail.specs.declared.bodies.MailBody.TheVariants.{TxPrepare, TxWatch}
 use Rattle.sc_base.specs.Definitions.{least_of, united}
-use Rattle.sc_group_table.specs.machine.Definitions.{can_split, merged_link, right_link}
+use Rattle.sc_group_table.specs.machine.MachineDefinitions.{can_split, merged_link, right_link}
 use Rattle.sc_node_table.specs.Mails.{sent, sent_all}
 
 -- the offer of a group to its successor, sent by its node `me`

@@ -8,7 +8,7 @@ use Rattle.sc_words.specs.declared.commands.votes.Past.TheVariants as Cast
 use Rattle.sc_words.specs.declared.commands.votes.Vote.TheVariants as Says
 use Rattle.sc_mail.specs.declared.bodies.Mail.{Mail}
 use Rattle.sc_mail.specs.declared.bodies.MailBody.TheVariants.{TxVote, TxWatched}
-use Rattle.sc_group_table.specs.machine.Definitions.{Group, frozen_of}
+use Rattle.sc_group_table.specs.machine.MachineDefinitions.{Group, frozen_of}
 use Rattle.sc_node_table.specs.Replica.{ReplicaState, Place}
 use Rattle.sc_node_table.specs.Mails.{sent_all}
 use Rattle.sc_node_table.specs.Questions.{asked_all}

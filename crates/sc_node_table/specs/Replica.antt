@@ -9,8 +9,8 @@ use Rattle.sc_words.specs.declared.commands.cores.Core.{Core}
 use Rattle.sc_words.specs.declared.commands.cores.Lock.{Lock}
 use Rattle.sc_words.specs.declared.commands.cores.Lock.TheVariants.{Free, Coordinating, Promised, Watching}
 use Rattle.sc_mail.specs.declared.bodies.Mail.{Mail}
-use Rattle.sc_words.specs.paxos.Definitions.{LogState, empty_log, next_of, installed, log_cut, AcceptorState, born_acceptor, after_cut, LeaderState, first_leader, flight_at, is_settled}
-use Rattle.sc_group_table.specs.machine.Definitions.{Group, group_of}
+use Rattle.sc_words.specs.paxos.PaxosDefinitions.{LogState, empty_log, next_of, installed, log_cut, AcceptorState, born_acceptor, after_cut, LeaderState, first_leader, flight_at, is_settled}
+use Rattle.sc_group_table.specs.machine.MachineDefinitions.{Group, group_of}
 use Rattle.sc_node_table.specs.Slots.{at_slot, numbers_from}
 
 -- the state of a replica: `me` the node's number; `group` the executed state and `log` the executed entries; `acceptor`; `hint` the node that it takes for the leader; `top` the greatest ballot seen; `running` whether it runs as candidate or leader, and `leader` its state as such, which counts only then; `ready` the commands that a majority has accepted and that are not executed yet, by slot; `sets` the members of the open slots, from the next slot on; `acts` the queued commands of transactions, and `backlog` the queued requests and orders; `waits` how many ticks a transaction has waited

@@ -12,7 +12,7 @@ use Rattle.sc_words.specs.declared.commands.cores.Core.{Core}
 use Rattle.sc_words.specs.declared.commands.cores.Lock.{Lock}
 use Rattle.sc_words.specs.declared.commands.cores.Lock.TheVariants.{Free, Coordinating, Promised, Watching}
 use Rattle.sc_words.specs.declared.commands.effects.Effect.{Effect}
-use Rattle.sc_words.specs.commands.Definitions.{result_of, refused_result, decided_in, cast_in, is_changed, is_alone}
+use Rattle.sc_words.specs.commands.CommandDefinitions.{result_of, refused_result, decided_in, cast_in, is_changed, is_alone}
 use Rattle.sc_words.specs.declared.commands.links.Link.{Link}
 use Rattle.sc_words.specs.declared.commands.orders.OrderResult.{OrderResult}
 use Rattle.sc_words.specs.declared.commands.orders.OrderResult.TheVariants as Results
@@ -26,7 +26,7 @@ use Rattle.sc_words.specs.declared.commands.votes.Vote.TheVariants as Says
 use Rattle.sc_mail.specs.declared.bodies.Mail.{Mail}
 use Rattle.sc_mail.specs.declared.bodies.MailBody.TheVariants.{TxPrepare, TxOutcome}
 use Rattle.sc_base.specs.Definitions.{least_of}
-use Rattle.sc_group_table.specs.machine.Definitions.{Group}
+use Rattle.sc_group_table.specs.machine.MachineDefinitions.{Group}
 use Rattle.sc_node_table.specs.Replica.{Place}
 use Rattle.sc_node_table.specs.Mails.{sent, sent_all, order_reported}
 use Rattle.sc_node_table.specs.declared.Before.{Before}

@@ -18,7 +18,7 @@ use Rattle.sc_words.specs.declared.commands.votes.Vote.{Vote}
 use Rattle.sc_words.specs.declared.commands.votes.Vote.TheVariants as Says
 use Rattle.sc_mail.specs.declared.bodies.Mail.{Mail}
 use Rattle.sc_mail.specs.declared.bodies.MailBody.TheVariants.{TxVote, TxOutcome, TxElsewhere, TxWatched}
-use Rattle.sc_group_table.specs.machine.Definitions.{Group, locked_in, frozen_of, is_locked_in, asks_watcher}
+use Rattle.sc_group_table.specs.machine.MachineDefinitions.{Group, locked_in, frozen_of, is_locked_in, asks_watcher}
 use Rattle.sc_node_table.specs.Replica.{Place, settled}
 use Rattle.sc_node_table.specs.Mails.{sent}
 use Rattle.sc_node_table.specs.Questions.{asked_link, asked_node}

@@ -8,7 +8,7 @@ use Rattle.sc_words.specs.declared.paxos.flights.Flight.{Flight}
 use Rattle.sc_words.specs.declared.paxos.answers.Counted.{Counted}
 use Rattle.sc_words.specs.declared.paxos.answers.Counted.TheVariants.{Chosen, NotYet}
 use Rattle.sc_base.proofs.Lemmas.{ballot_itself}
-use Rattle.sc_words.specs.paxos.Definitions.{LeaderState, flight_at, without_flight_at, without_flight, kept_voters, voters_after, with_voters, tallied, vote_at, counted}
+use Rattle.sc_words.specs.paxos.PaxosDefinitions.{LeaderState, flight_at, without_flight_at, without_flight, kept_voters, voters_after, with_voters, tallied, vote_at, counted}
 
 -- the flight whose voters were found
 pub in_flight : {V : Type 0} (o : Option (Flight V)) (kept : Option (List ℕ)) → option_map (λ (f : Flight V). f.voters) o ≡ Some kept → (f : Flight V) × (o ≡ Some f) × (f.voters ≡ kept)

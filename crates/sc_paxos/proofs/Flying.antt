@@ -3,9 +3,9 @@ use Rattle.std.proofs.Common.{◌≡◌, ◌≢◌, ℕ, eqb, List, [], ◌∷�
 use Rattle.std.proofs.lemmas.Bool.{cases_Bool, cond-true, cond-false, eqb-true, eqb-false, ne_eqb}
 use Rattle.sc_words.specs.declared.paxos.flights.Flight.{Flight}
 use Rattle.sc_base.specs.Definitions.{Each}
-use Rattle.sc_words.specs.paxos.Definitions.{flight_at, without_flight, with_voters}
-use Rattle.sc_words.proofs.PaxosProofs.Lemmas.{Each-append}
-use Rattle.sc_paxos.specs.Definitions.{IsOneEach}
+use Rattle.sc_words.specs.paxos.PaxosDefinitions.{flight_at, without_flight, with_voters}
+use Rattle.sc_words.proofs.PaxosProofs.PaxosLemmas.{Each-append}
+use Rattle.sc_paxos.specs.PaxosDefinitions.{IsOneEach}
 use Rattle.sc_paxos.proofs.Places.{changed}
 
 abbrev Other : {V : Type 0} → ℕ → Flight V → Type 0

@@ -3,7 +3,7 @@ use Rattle.std.proofs.Common.{◌≡◌, ℕ, suc, ◌+◌, ◌<◌, ◌≤◌, 
 use Rattle.std.specs.List.{position, position_or_len}
 use Rattle.std.proofs.lemmas.Bool.{cases_Bool, cond-true, cond-false, ltb-true, ltb-false, not_from_true, not_from_false}
 use Rattle.sc_words.specs.declared.paxos.flights.Flight.{Flight}
-use Rattle.sc_words.specs.paxos.Definitions.{flight_at, without_flight, with_voters}
+use Rattle.sc_words.specs.paxos.PaxosDefinitions.{flight_at, without_flight, with_voters}
 
 -- whether a flight is at a slot
 abbrev pub At : {V : Type 0} → ℕ → Flight V → Bool

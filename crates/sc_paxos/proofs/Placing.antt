@@ -6,8 +6,8 @@ use Rattle.std.proofs.lemmas.List.{set_at, take_at, drop_at, get_or_at, append-n
 use Rattle.std.proofs.lemmas.List.Sums.{length-filter}
 use Rattle.sc_words.specs.declared.paxos.reports.Report.{Report}
 use Rattle.sc_base.specs.Definitions.{Each}
-use Rattle.sc_words.proofs.PaxosProofs.Lemmas.{Each-weaker, Each-passes}
-use Rattle.sc_words.specs.paxos.Definitions.{IsBySlot, with_report}
+use Rattle.sc_words.proofs.PaxosProofs.PaxosLemmas.{Each-weaker, Each-passes}
+use Rattle.sc_words.specs.paxos.PaxosDefinitions.{IsBySlot, with_report}
 
 abbrev low_of : {V : Type 0} → ℕ → List (Report V) → List (Report V)
 low_of slot xs = filter (λ r. ltb r.slot slot) xs

@@ -1,3 +1,3 @@
 pub mod OneEach
 pub mod Roomy
-pub mod Definitions
+pub mod PaxosDefinitions

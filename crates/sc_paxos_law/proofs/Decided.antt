@@ -5,10 +5,10 @@ use Rattle.std.proofs.lemmas.List.{length_push, take_all}
 use Rattle.sc_base.specs.Definitions.{Among, Each, is_member, IsMajority, is_majority, same_ballot}
 use Rattle.sc_base.specs.declared.names.Ballot.{Ballot}
 use Rattle.std.specs.Option.{option_map}
-use Rattle.sc_words.specs.paxos.Definitions.{below, IsAtLeast}
+use Rattle.sc_words.specs.paxos.PaxosDefinitions.{below, IsAtLeast}
 use Rattle.sc_words.specs.declared.paxos.reports.Report.{Report}
-use Rattle.sc_words.proofs.PaxosProofs.Lemmas.{at_least_itself, at_least_trans, at_least_from_below, Each-among, Each-weaker}
-use Rattle.sc_paxos_law.specs.Definitions.{Step, Prepared, Promised, Offered, Accepted, Cut, Rule, needed, members_of, IsChosen, IsChosenAfter, IsLog, IsLawfulHistory, voters_of, lesser_of, found_in, chosen_at, top_slot, with_next_entries, log_of}
+use Rattle.sc_words.proofs.PaxosProofs.PaxosLemmas.{at_least_itself, at_least_trans, at_least_from_below, Each-among, Each-weaker}
+use Rattle.sc_paxos_law.specs.PaxosLawDefinitions.{Step, Prepared, Promised, Offered, Accepted, Cut, Rule, needed, members_of, IsChosen, IsChosenAfter, IsLog, IsLawfulHistory, voters_of, lesser_of, found_in, chosen_at, top_slot, with_next_entries, log_of}
 use Rattle.sc_paxos_law.proofs.Among.{shared_member, member-among, among-member, count_by-le}
 use Rattle.sc_paxos_law.proofs.History.{was_offered, one_offer}
 use Rattle.sc_paxos_law.proofs.Law.{earlier, agree_members, logs_agree, element, chosen_by, later_log, longer_log}

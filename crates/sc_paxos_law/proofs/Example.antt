@@ -2,7 +2,7 @@
 use Rattle.std.proofs.Common.{ℕ, List, [], ◌∷◌, inl, inr, refl, ap, arith, lit<, lit≤}
 use Rattle.sc_words.specs.declared.paxos.reports.Report.{Report}
 use Rattle.sc_base.specs.Definitions.{Among}
-use Rattle.sc_paxos_law.specs.Definitions.{Step, Prepared, Promised, Offered, Accepted, IsLog, CountedPromise, MayOffer, IsLawfulHistory, three, first, second, example_steps}
+use Rattle.sc_paxos_law.specs.PaxosLawDefinitions.{Step, Prepared, Promised, Offered, Accepted, IsLog, CountedPromise, MayOffer, IsLawfulHistory, three, first, second, example_steps}
 
 nothing_yet : (h : List (Step ℕ)) → IsLog three h []
 nothing_yet h k v e = cc

@@ -4,9 +4,9 @@ use Rattle.std.proofs.lemmas.Bool.{cases_order, eqb-true, eq-eqb, cond-true, con
 use Rattle.sc_base.specs.declared.names.Ballot.{Ballot}
 use Rattle.sc_words.specs.declared.paxos.reports.Report.{Report}
 use Rattle.sc_base.specs.Definitions.{Among}
-use Rattle.sc_words.specs.paxos.Definitions.{below, IsAtLeast, AcceptorState, with_report, may_promise, may_accept, after_promise, after_accept, after_cut}
-use Rattle.sc_words.proofs.PaxosProofs.Lemmas.{at_least_trans, at_least_itself, at_least_from_below, at_least_below, not_both, Among-filter, from_filter, may_is}
-use Rattle.sc_paxos_law.specs.Definitions.{Step, Prepared, Promised, Offered, Accepted, Cut, state_of, Rule, IsLawfulStep, IsLawfulHistory}
+use Rattle.sc_words.specs.paxos.PaxosDefinitions.{below, IsAtLeast, AcceptorState, with_report, may_promise, may_accept, after_promise, after_accept, after_cut}
+use Rattle.sc_words.proofs.PaxosProofs.PaxosLemmas.{at_least_trans, at_least_itself, at_least_from_below, at_least_below, not_both, Among-filter, from_filter, may_is}
+use Rattle.sc_paxos_law.specs.PaxosLawDefinitions.{Step, Prepared, Promised, Offered, Accepted, Cut, state_of, Rule, IsLawfulStep, IsLawfulHistory}
 use Rattle.sc_paxos_law.proofs.Among.{Among-left, Among-right, Among-either}
 
 abbrev pub promise_of : {V : Type 0} → Ballot → ℕ → List (Step V) → Ballot

@@ -7,9 +7,9 @@ use Rattle.std.proofs.lemmas.List.{take_more, take-take, take-append-le, take_al
 use Rattle.sc_base.specs.Definitions.{Among, Each, IsMajority}
 use Rattle.sc_base.specs.declared.names.Ballot.{Ballot}
 use Rattle.sc_words.specs.declared.paxos.reports.Report.{Report}
-use Rattle.sc_words.specs.paxos.Definitions.{below, IsAtLeast}
-use Rattle.sc_words.proofs.PaxosProofs.Lemmas.{below_parts, at_least_trans, at_least_from_below, cases_below, same_from_at_least, not_both, Each-among, Each-weaker, choice_among, choice_best}
-use Rattle.sc_paxos_law.specs.Definitions.{Step, Offered, Accepted, Rule, needed, members_of, IsChosen, IsChosenAfter, IsLog, CountedPromise, IsElected, IsLawfulStep, IsLawfulHistory}
+use Rattle.sc_words.specs.paxos.PaxosDefinitions.{below, IsAtLeast}
+use Rattle.sc_words.proofs.PaxosProofs.PaxosLemmas.{below_parts, at_least_trans, at_least_from_below, cases_below, same_from_at_least, not_both, Each-among, Each-weaker, choice_among, choice_best}
+use Rattle.sc_paxos_law.specs.PaxosLawDefinitions.{Step, Offered, Accepted, Rule, needed, members_of, IsChosen, IsChosenAfter, IsLog, CountedPromise, IsElected, IsLawfulStep, IsLawfulHistory}
 use Rattle.sc_paxos_law.proofs.Among.{Among-flat_map, from_flat_map, from_map, shared_member, get_pushed}
 use Rattle.sc_paxos_law.proofs.History.{first_is_least, was_offered, one_offer, reported, report_accepted}
 

@@ -6,9 +6,9 @@ use Rattle.std.proofs.lemmas.Bool.{ltb-true, cond-true, cond_both}
 use Rattle.std.proofs.lemmas.List.Sums.{sum_by-cons}
 use Rattle.sc_base.specs.Definitions.{is_member, IsMajority, is_majority, Among, Each}
 use Rattle.sc_words.specs.declared.paxos.reports.Report.{Report}
-use Rattle.sc_words.specs.paxos.Definitions.{choice, names_above, LeaderState, Obeys, must, must_without}
-use Rattle.sc_words.proofs.PaxosProofs.Lemmas.{Among-filter}
-use Rattle.sc_paxos_law.specs.Definitions.{Step, Promised, CountedPromise, IsElected}
+use Rattle.sc_words.specs.paxos.PaxosDefinitions.{choice, names_above, LeaderState, Obeys, must, must_without}
+use Rattle.sc_words.proofs.PaxosProofs.PaxosLemmas.{Among-filter}
+use Rattle.sc_paxos_law.specs.PaxosLawDefinitions.{Step, Promised, CountedPromise, IsElected}
 use Rattle.sc_paxos_law.proofs.Among.{member-among, among-member}
 
 obeys : {V : Type 0} (above : Bool) (o : Option (Report V)) (value : V) → Obeys (must_without above (option_map (λ (r : Report V). r.value) o)) value → IfSome o (λ (best : Report V). best.value ≡ value)

@@ -3,7 +3,7 @@ use Rattle.std.specs.Prelude.{ℕ, zero, suc, ◌+◌, ◌==◌, ◌&&◌, max, 
 use Rattle.sc_base.specs.declared.names.Ballot.{Ballot}
 use Rattle.sc_base.specs.Definitions.{is_majority, same_ballot}
 use Rattle.std.specs.Option.{option_map}
-use Rattle.sc_words.specs.paxos.Definitions.{below}
+use Rattle.sc_words.specs.paxos.PaxosDefinitions.{below}
 use Rattle.sc_words.specs.declared.paxos.reports.Report.{Report}
 use Rattle.sc_paxos_law.specs.Steps.{Step, Prepared, Promised, Offered, Accepted, Cut}
 use Rattle.sc_paxos_law.specs.Chosen.{Rule, members_of}

@@ -4,7 +4,7 @@ use Rattle.std.specs.List.{flat_map}
 use Rattle.sc_base.specs.declared.names.Ballot.{Ballot}
 use Rattle.sc_base.specs.Definitions.{IsMajority, Among, Each}
 use Rattle.sc_words.specs.declared.paxos.reports.Report.{Report}
-use Rattle.sc_words.specs.paxos.Definitions.{choice, may_promise, may_accept, reports_from}
+use Rattle.sc_words.specs.paxos.PaxosDefinitions.{choice, may_promise, may_accept, reports_from}
 use Rattle.sc_paxos_law.specs.Steps.{Step, Prepared, Promised, Offered, Accepted, Cut, state_of}
 use Rattle.sc_paxos_law.specs.Chosen.{Rule, needed, members_of, IsLog}
 

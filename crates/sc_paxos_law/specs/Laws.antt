@@ -6,7 +6,7 @@ use Rattle.sc_base.specs.declared.names.Ballot.{Ballot}
 use Rattle.sc_words.specs.declared.paxos.reports.Report.{Report}
 use Rattle.sc_words.specs.declared.paxos.answers.PrepareAnswer.TheVariants.{Promise}
 use Rattle.sc_words.specs.declared.paxos.answers.AcceptAnswer.TheVariants.{Accepted as Yes}
-use Rattle.sc_words.specs.paxos.Definitions.{IsAtLeast, AcceptorState, after_cut, prepared, accepted, LeaderState, Obeys, must}
+use Rattle.sc_words.specs.paxos.PaxosDefinitions.{IsAtLeast, AcceptorState, after_cut, prepared, accepted, LeaderState, Obeys, must}
 use Rattle.sc_paxos_law.specs.Steps.{Step, Promised, Offered, Accepted, Cut, state_of}
 use Rattle.sc_paxos_law.specs.Chosen.{Rule, IsChosen, IsChosenAfter, IsLog}
 use Rattle.sc_paxos_law.specs.Lawful.{CountedPromise, IsElected, IsLawfulStep, IsLawfulHistory}

@@ -4,4 +4,4 @@ pub mod Example
 pub mod Lawful
 pub mod Laws
 pub mod Steps
-pub mod Definitions
+pub mod PaxosLawDefinitions

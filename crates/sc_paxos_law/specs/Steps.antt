@@ -2,7 +2,7 @@
 use Rattle.std.specs.Prelude.{ℕ, ◌==◌, List, [], ◌∷◌, if◌then◌else◌}
 use Rattle.sc_base.specs.declared.names.Ballot.{Ballot}
 use Rattle.sc_words.specs.declared.paxos.reports.Report.{Report}
-use Rattle.sc_words.specs.paxos.Definitions.{AcceptorState, born_acceptor, after_promise, after_accept, after_cut}
+use Rattle.sc_words.specs.paxos.PaxosDefinitions.{AcceptorState, born_acceptor, after_promise, after_accept, after_cut}
 
 -- a step of one node. A message that is lost is one that no later step uses; one that is late, repeated or overtakes another is used later, again or earlier
 pub data Step (V : Type 0) : Type 0 where

@@ -8,7 +8,7 @@ use Rattle.sc_actor.proofs.Lemmas.{mails-snoc}
 use Rattle.sc_scenario.specs.declared.scenario.scenarios.Scenario.{Scenario}
 use Rattle.sc_meaning.specs.sound.Players.{as_nodes}
 use Rattle.sc_law_refusal.specs.refusal.Journals.{RefusesWithCause}
-use Rattle.sc_law_refusal.specs.results.Definitions.{IfReported, ReportAs, HasHappened}
+use Rattle.sc_law_refusal.specs.results.ResultDefinitions.{IfReported, ReportAs, HasHappened}
 use Rattle.sc_world.specs.Summary.{reported_in_mail, reported_of}
 use Rattle.sc_run.specs.ReportedOrders.{IsReportedFirst, LinesHaveHappened}
 

@@ -18,7 +18,7 @@ use Rattle.sc_cli.specs.declared.said.Said.TheVariants.{Ended}
 use Rattle.sc_cli.specs.Errors.{IsBadText}
 use Rattle.sc_live_plain.specs.Budget.{IsAtBudget, AreAnswered}
 use Rattle.sc_live_plain.specs.CalmBudget.{calm_budget_of, IsCalm, IsCalmAtBudget}
-use Rattle.sc_live_plain.proofs.Lemmas.{roomy_scenarios_are_calm}
+use Rattle.sc_live_plain.proofs.PlainLemmas.{roomy_scenarios_are_calm}
 use Rattle.sc_live_plain.specs.LastLine.{LastLinesAnswer}
 use Rattle.sc_live_plain.specs.PlainLaws.{PlainLinesEndQuiet, PlainRequestsAreAnswered, PlainJournalsAreLight}
 use Rattle.sc_live_answers.specs.AnsweredRequests.{CalmLinesSettle, CalmRequestsAreAnswered, SettledRequestsAreAnswered}

@@ -6,7 +6,7 @@ use Rattle.std.proofs.lemmas.List.{length-append, length-set}
 use Rattle.std.proofs.lemmas.List.Elements.{filter-append}
 use Rattle.std.proofs.lemmas.List.Sums.{fold_more}
 use Rattle.sc_thread_ledger.specs.declared.spots.Spot.{Spot}
-use Rattle.sc_thread_ledger.specs.Definitions.{AreCounted, IsNext, spot_after, spots_from}
+use Rattle.sc_thread_ledger.specs.LedgerDefinitions.{AreCounted, IsNext, spot_after, spots_from}
 
 one_more : (before : List Spot) (spot : Spot) (who : ℕ) → length (filter (λ s. eqb s.who who) (before ++ spot ∷ [])) ≡ length (filter (λ s. eqb s.who who) before) + length (cond (eqb spot.who who) (spot ∷ []) [])
 one_more before spot who = ap length (filter-append (λ s. eqb s.who who) before (spot ∷ [])) ∙ length-append (filter (λ s. eqb s.who who) before) (cond (eqb spot.who who) (spot ∷ []) [])

@@ -5,7 +5,7 @@ use Rattle.std.proofs.lemmas.Bool.{lt-ltb, le-ltb}
 use Rattle.std.specs.Map.{remove_entry}
 use Rattle.indexmap.specs.IndexMap.{insert_entry}
 use Rattle.sc_actor.specs.Definitions.{numbers}
-use Rattle.sc_thread_ledger.specs.Definitions.{open_entries, copies_in, lower, recounted}
+use Rattle.sc_thread_ledger.specs.LedgerDefinitions.{open_entries, copies_in, lower, recounted}
 
 pub and_false : (b : Bool) → (b && false) ≡ false
 and_false true = refl

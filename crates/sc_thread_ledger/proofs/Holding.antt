@@ -8,7 +8,7 @@ use Rattle.sc_actor.specs.Definitions.{one_less, one_more, numbers, kth}
 use Rattle.std.specs.List.{list_any}
 use Rattle.std.proofs.lemmas.List.Folds.{list_any-append}
 use Rattle.sc_thread_ledger.specs.declared.queues.Queues.{Queues}
-use Rattle.sc_thread_ledger.specs.Definitions.{runs, counts_for, open_entries, copies_in, queue_of, recounted, kept, Holds}
+use Rattle.sc_thread_ledger.specs.LedgerDefinitions.{runs, counts_for, open_entries, copies_in, queue_of, recounted, kept, Holds}
 use Rattle.std.specs.Prelude.{IfSome}
 use Rattle.sc_thread_ledger.proofs.Entries.{recounted_at, set_other, push_here, push_other, open_same, open_none, expand}
 

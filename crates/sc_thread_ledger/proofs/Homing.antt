@@ -6,7 +6,7 @@ use Rattle.std.proofs.lemmas.List.{append-nil, length-replicate}
 use Rattle.sc_actor.specs.declared.rows.Row.{Row}
 use Rattle.std.proofs.lemmas.Option.{slice_get_past}
 use Rattle.sc_actor.specs.Definitions.{mails, numbered}
-use Rattle.sc_thread_ledger.specs.Definitions.{homes_from, firsts_from}
+use Rattle.sc_thread_ledger.specs.LedgerDefinitions.{homes_from, firsts_from}
 use Rattle.sc_actor.proofs.Lemmas.{get_at}
 use Rattle.sc_thread_ledger.proofs.MailPlaces.{get_first, get_second}
 

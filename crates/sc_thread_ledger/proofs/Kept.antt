@@ -8,7 +8,7 @@ use Rattle.sc_actor.specs.declared.rows.Event.{Event}
 use Rattle.sc_actor.specs.declared.rows.Event.TheVariants.{Deliver, Drop, Again, Go, Tick, Crash, Told}
 use Rattle.sc_actor.specs.Definitions.{mails, copies, counts_at, counts_after, is_crash, has_crashed, mail_bytes, row_bytes, journal_bytes}
 use Rattle.sc_actor.proofs.Lemmas.{mails_count, journal_counts, journal_bytes-snoc, counted, mails-snoc, copies-snoc}
-use Rattle.sc_thread_ledger.specs.Definitions.{crashed_in}
+use Rattle.sc_thread_ledger.specs.LedgerDefinitions.{crashed_in}
 
 -- a row that fits within a limit has few mails
 pub few_sent : {M : Type 0} (weighs : M → ℕ) (sent : List M) (before total limit : ℕ) → total ≡ min (before + (64 + sum_by (mail_bytes weighs) sent)) (2 ^ 64 - 1) → total ≤ limit → limit ≤ 1073741824 → length sent < 1099511627776

@@ -8,4 +8,4 @@ pub mod Homing
 mod OneCopy
 mod Places
 mod Counted
-pub mod Lemmas
+pub mod LedgerLemmas

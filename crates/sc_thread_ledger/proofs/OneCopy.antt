@@ -7,7 +7,7 @@ use Rattle.std.proofs.lemmas.List.Sums.{fold-append, length-filter, count_by-le-
 use Rattle.std.proofs.lemmas.Option.{none-some, slice_get_past}
 use Rattle.sc_base.specs.declared.dups.OutOfMemory.{OutOfMemory}
 use Rattle.sc_thread_ledger.specs.declared.spots.Spot.{Spot}
-use Rattle.sc_thread_ledger.specs.Definitions.{copies_in, copies_for, picked_spot, spot_after, spot_behind, spots_from}
+use Rattle.sc_thread_ledger.specs.LedgerDefinitions.{copies_in, copies_for, picked_spot, spot_after, spot_behind, spots_from}
 
 -- ---- lists
 

@@ -10,7 +10,7 @@ use Rattle.std.specs.Option.{option_map}
 use Rattle.std.specs.Prelude.{slice_get, IsSome, IfSome}
 use Rattle.sc_actor.specs.declared.rows.Row.{Row}
 use Rattle.sc_actor.specs.Definitions.{mails, copies, numbers, numbered, may_get, is_for, kth}
-use Rattle.sc_thread_ledger.specs.Definitions.{crashed_in, runs, counts_for, upto, whose, pending_of, kth_pending, is_pending, may_have, may_repeat}
+use Rattle.sc_thread_ledger.specs.LedgerDefinitions.{crashed_in, runs, counts_for, upto, whose, pending_of, kth_pending, is_pending, may_have, may_repeat}
 use Rattle.sc_actor.proofs.Lemmas.{counted, pending_sound}
 use Rattle.sc_thread_ledger.proofs.Kept.{crashed_any}
 use Rattle.sc_thread_ledger.proofs.Entries.{and_false}

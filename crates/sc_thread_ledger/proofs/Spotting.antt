@@ -8,7 +8,7 @@ use Rattle.std.proofs.Math.Nat.{add-zero}
 use Rattle.sc_actor.specs.declared.rows.Row.{Row}
 use Rattle.sc_actor.specs.Definitions.{mails, copies, numbers, kth}
 use Rattle.sc_thread_ledger.specs.declared.spots.Spot.{Spot}
-use Rattle.sc_thread_ledger.specs.Definitions.{crashed_in, runs, counts_for, kth_pending, spot_after, spots_from, spots_of}
+use Rattle.sc_thread_ledger.specs.LedgerDefinitions.{crashed_in, runs, counts_for, kth_pending, spot_after, spots_from, spots_of}
 use Rattle.sc_thread_ledger.proofs.Open.{open_is}
 
 get_seam : (xs ys : List ℕ) (y : ℕ) → slice_get (xs ++ y ∷ ys) (length xs) ≡ Some y

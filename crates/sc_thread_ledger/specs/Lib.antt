@@ -4,4 +4,4 @@ pub mod Homes
 pub mod PostErrors
 pub mod Spots
 pub mod Queues
-pub mod Definitions
+pub mod LedgerDefinitions

@@ -6,4 +6,4 @@ pub mod Fetching
 pub mod Addressing
 pub mod Halting
 pub mod SeatsAfterTurns
-pub mod Lemmas
+pub mod ExchangeLemmas

@@ -4,4 +4,4 @@ pub mod Answers
 pub mod Fetches
 pub mod Turns
 pub mod Ports
-pub mod Definitions
+pub mod ExchangeDefinitions

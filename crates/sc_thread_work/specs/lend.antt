@@ -1,3 +1,3 @@
 pub mod Lending
 pub mod Offices
-pub mod Definitions
+pub mod LendDefinitions

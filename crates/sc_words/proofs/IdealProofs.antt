@@ -3,4 +3,4 @@ pub mod Example
 pub mod Joins
 pub mod Kept
 pub mod Tables
-pub mod Lemmas
+pub mod IdealLemmas

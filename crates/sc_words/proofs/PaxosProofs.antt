@@ -2,4 +2,4 @@ pub mod AcceptorLemmas
 pub mod BallotLemmas
 pub mod ChoiceLemmas
 pub mod ListLemmas
-pub mod Lemmas
+pub mod PaxosLemmas

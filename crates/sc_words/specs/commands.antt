@@ -2,4 +2,4 @@ pub mod Cores
 pub mod Effects
 pub mod Order
 pub mod Weight
-pub mod Definitions
+pub mod CommandDefinitions

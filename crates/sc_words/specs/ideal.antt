@@ -2,4 +2,4 @@ pub mod Clients
 pub mod History
 pub mod IdealStore
 pub mod StoreLaws
-pub mod Definitions
+pub mod IdealDefinitions

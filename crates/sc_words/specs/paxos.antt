@@ -7,4 +7,4 @@ pub mod Leaders
 pub mod Logs
 pub mod Preparing
 pub mod Votes
-pub mod Definitions
+pub mod PaxosDefinitions

@@ -5,7 +5,7 @@ use Rattle.std.proofs.lemmas.Bool.{leb-true, leb-false}
 use Rattle.std.proofs.lemmas.List.Elements.{All-append}
 use Rattle.sc_base.specs.declared.names.Draw.{Draw}
 use Rattle.sc_client_table.specs.declared.lookup.ways.Way.{Way}
-use Rattle.sc_client_table.specs.lookup.Definitions.{far, KnownGroups, nearer, better, chosen, IsNearest, ChoosesNearest}
+use Rattle.sc_client_table.specs.lookup.LookupDefinitions.{far, KnownGroups, nearer, better, chosen, IsNearest, ChoosesNearest}
 
 -- once there is a best group there is one
 pub some_best : (p : ℕ) (best : Draw × Way) (known : KnownGroups) → fold (better p) (Some best) known ≡ None → ⊥

@@ -7,7 +7,7 @@ use Rattle.sc_base.specs.declared.names.Draw.{Draw}
 use Rattle.sc_base.specs.Definitions.{same_draw}
 use Rattle.sc_client_table.specs.declared.lookup.ways.Way.{Way}
 use Rattle.std.specs.Prelude.{is_some, Result, Ok, Err, OnOk, IsOk}
-use Rattle.sc_client_table.specs.lookup.Definitions.{new_way, KnownGroups, way_to, changed, group_learnt}
+use Rattle.sc_client_table.specs.lookup.LookupDefinitions.{new_way, KnownGroups, way_to, changed, group_learnt}
 
 -- to change what is known of a group that is not known changes nothing
 pub set_value-none : {K X : Type 0} (test : K → Bool) (es : List (K × X)) (w : X) → lookup test es ≡ None → set_value test es w ≡ es

@@ -13,8 +13,8 @@ use Rattle.sc_mail.specs.declared.bodies.MailBody.{MailBody}
 use Rattle.sc_mail.specs.declared.bodies.MailBody.TheVariants.{Answer, Request}
 use Rattle.sc_mail.specs.declared.bodies.AnswerBody.{AnswerBody}
 use Rattle.sc_mail.specs.declared.bodies.AnswerBody.TheVariants.{Value, NotLeader, NotMine, Gone, Stale}
-use Rattle.sc_client_table.specs.lookup.Definitions.{KnownGroups, target_in, preferring, passed_on, learnt_from_not_mine, learnt_from_gone}
-use Rattle.sc_client_table.specs.table.Definitions.{Client, table, waiting_request, ClientStep, asked_of, sent_to, sent_where, chosen_for, request_sent, started, turned_on, client_ticked, waits_for, was_asked, redirected, answer_taken, got, SendsWaiting, InTurn, SendsInTurn}
+use Rattle.sc_client_table.specs.lookup.LookupDefinitions.{KnownGroups, target_in, preferring, passed_on, learnt_from_not_mine, learnt_from_gone}
+use Rattle.sc_client_table.specs.table.TableDefinitions.{Client, table, waiting_request, ClientStep, asked_of, sent_to, sent_where, chosen_for, request_sent, started, turned_on, client_ticked, waits_for, was_asked, redirected, answer_taken, got, SendsWaiting, InTurn, SendsInTurn}
 
 -- a step that sends at most the waiting request, and otherwise only learns
 record Sent (client : Client) (step : ClientStep) : Type 0 where

@@ -5,7 +5,7 @@ use Rattle.sc_base.specs.declared.names.Draw.{Draw}
 use Rattle.sc_base.specs.declared.ops.Op.{Op}
 use Rattle.sc_base.specs.declared.ops.Reply.{Reply}
 use Rattle.sc_words.specs.declared.commands.links.Route.{Route}
-use Rattle.sc_client_table.specs.lookup.Definitions.{new_way, KnownGroups}
+use Rattle.sc_client_table.specs.lookup.LookupDefinitions.{new_way, KnownGroups}
 
 -- the state of a client
 pub record Client : Type 0 where

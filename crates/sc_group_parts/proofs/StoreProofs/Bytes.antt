@@ -9,7 +9,7 @@ use Rattle.std.specs.Map.{lookup}
 use Rattle.std.specs.BTreeMap.{is_at}
 use Rattle.std.specs.FinMap.{get, insert, remove, retain_keys, entries, from_entries}
 use Rattle.std.proofs.lemmas.Map.Lookups.{exact_bytes}
-use Rattle.sc_words.proofs.IdealProofs.Lemmas.{get-kept, insert-kept, remove-kept, retain-kept, entries-kept, entries-part, is_sorted_from, all_end_below, part_ends_below}
+use Rattle.sc_words.proofs.IdealProofs.IdealLemmas.{get-kept, insert-kept, remove-kept, retain-kept, entries-kept, entries-part, is_sorted_from, all_end_below, part_ends_below}
 
 -- keys and values as lists
 abbrev pub Pairs : Type 0

@@ -9,7 +9,7 @@ use Rattle.std.specs.FinMap.{get, insert, entries, from_entries}
 use Rattle.std.proofs.lemmas.Map.Lookups.{exact_unsigned}
 use Rattle.sc_base.specs.Definitions.{EndsBelow}
 use Rattle.sc_base.specs.declared.ops.Noted.{Noted}
-use Rattle.sc_words.proofs.IdealProofs.Lemmas.{get-kept, insert-kept, entries-kept, is_sorted_from, all_end_below}
+use Rattle.sc_words.proofs.IdealProofs.IdealLemmas.{get-kept, insert-kept, entries-kept, is_sorted_from, all_end_below}
 
 -- look-ups by number
 pub get-numbers : (es : List (ℕ × Noted)) (q : ℕ) → get (from_entries {R = nat_cmp} es) q ≡ lookup (is_at (nat_cmp q)) es

@@ -6,7 +6,7 @@ use Rattle.std.proofs.lemmas.Bool.{cond_both, eq-eqb}
 use Rattle.std.proofs.lemmas.List.Elements.{All-weaker, filter_passes}
 use Rattle.std.proofs.lemmas.List.Folds.{list_any_none, list_any-append}
 use Rattle.sc_base.specs.Definitions.{is_member, with_member, without_member, united}
-use Rattle.sc_group_parts.specs.transactions.Definitions.{MigrationsKeepAll}
+use Rattle.sc_group_parts.specs.transactions.TransactionDefinitions.{MigrationsKeepAll}
 
 passed : (b : Bool) → not b ≡ true → b ≡ false
 passed true t = absurd (let no_way : false ≡ true = t in cc)

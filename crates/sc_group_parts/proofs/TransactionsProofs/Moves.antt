@@ -4,10 +4,10 @@ use Rattle.std.proofs.lemmas.Bool.{ltb-true}
 use Rattle.std.specs.FinMap.{entries}
 use Rattle.sc_base.specs.Definitions.{Arc, IsArc, CanJoin, before, from, joined, offset, end_of, PartsJoin}
 use Rattle.sc_base.proofs.Lemmas.{cuts_join, joins_hold}
-use Rattle.sc_words.specs.ideal.Definitions.{Contents, part_of, with_pairs}
-use Rattle.sc_words.proofs.IdealProofs.Lemmas.{parts_join, joined_by_number}
+use Rattle.sc_words.specs.ideal.IdealDefinitions.{Contents, part_of, with_pairs}
+use Rattle.sc_words.proofs.IdealProofs.IdealLemmas.{parts_join, joined_by_number}
 use Rattle.sc_group_table.proofs.MachineProofs.Lemmas.{part_within, first_inside, second_inside, parts_turned, pairs_again}
-use Rattle.sc_group_parts.specs.transactions.Definitions.{GivingKeepsTheTotal, TakingKeepsTheTotal}
+use Rattle.sc_group_parts.specs.transactions.TransactionDefinitions.{GivingKeepsTheTotal, TakingKeepsTheTotal}
 
 -- the second part of an arc ends where the arc does
 second_end : (arc : Arc) (at : ℕ) → arc.lo < 2 ^ 32 → PartsJoin arc at → end_of arc ≡ end_of (from arc at)

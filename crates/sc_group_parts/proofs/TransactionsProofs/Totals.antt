@@ -3,12 +3,12 @@ use Rattle.std.proofs.Common.{◌≡◌, ℕ, ◌+◌, ◌%◌, ◌<◌, ◌≤�
 use Rattle.std.specs.FinMap.{entries}
 use Rattle.sc_base.specs.Definitions.{Arc, IsArc, CanCut, before, from, joined}
 use Rattle.sc_base.proofs.Lemmas.{cuts_join, joins_hold}
-use Rattle.sc_words.specs.ideal.Definitions.{Contents, part_of, with_pairs}
-use Rattle.sc_words.proofs.IdealProofs.Lemmas.{parts_join, joined_by_number}
+use Rattle.sc_words.specs.ideal.IdealDefinitions.{Contents, part_of, with_pairs}
+use Rattle.sc_words.proofs.IdealProofs.IdealLemmas.{parts_join, joined_by_number}
 use Rattle.sc_group_table.proofs.MachineProofs.Lemmas.{part_within, first_inside, second_inside, pairs_again, clients_again}
 use Rattle.sc_words.specs.declared.commands.cores.Core.{Core}
-use Rattle.sc_group_table.specs.machine.Definitions.{Group, frozen_of, merged_core, closing_core, enriched, whole_gift, AreNeighbours}
-use Rattle.sc_group_parts.specs.transactions.Definitions.{Merges, SplitsShareThePairs, MergesKeepTheTotal}
+use Rattle.sc_group_table.specs.machine.MachineDefinitions.{Group, frozen_of, merged_core, closing_core, enriched, whole_gift, AreNeighbours}
+use Rattle.sc_group_parts.specs.transactions.TransactionDefinitions.{Merges, SplitsShareThePairs, MergesKeepTheTotal}
 
 -- the parts of a map on the two parts of an arc
 together : (arc : Arc) (at : ℕ) (contents : Contents) → arc.lo < 2 ^ 32 → at < 2 ^ 32 → IsArc arc → CanCut arc at

@@ -1,7 +1,7 @@
 -- What handing over a member leaves unchanged, and what it changes.
 use Rattle.std.specs.Prelude.{◌≡◌, ℕ, true, false}
 use Rattle.sc_base.specs.Definitions.{is_member}
-use Rattle.sc_group_table.specs.machine.Definitions.{Group, frozen_of, migrated_group, welcomed_group}
+use Rattle.sc_group_table.specs.machine.MachineDefinitions.{Group, frozen_of, migrated_group, welcomed_group}
 
 -- a group has afterwards the arc, the pairs and the client table that it had before
 pub record KeepsAll (group after : Group) : Type 0 where

@@ -2,7 +2,7 @@
 use Rattle.std.specs.Prelude.{◌≡◌, ℕ, ◌<◌, ◌^◌, false}
 use Rattle.sc_base.specs.Definitions.{CanCut, holds}
 use Rattle.sc_words.specs.declared.commands.bodies.Offer.{Offer}
-use Rattle.sc_group_table.specs.machine.Definitions.{Group, frozen_of, giving_group, taking_group, part_gift, gained_group, lost_group, AreNeighbours, IsJoined, KeepTheTotal}
+use Rattle.sc_group_table.specs.machine.MachineDefinitions.{Group, frozen_of, giving_group, taking_group, part_gift, gained_group, lost_group, AreNeighbours, IsJoined, KeepTheTotal}
 
 -- where the group gives, the arcs and pairs of both together are unchanged, its successor joins the group's client table to its own, and the group keeps its own
 pub record GivesArc (group next : Group) (offer : Offer) (at : ℕ) : Type 0 where

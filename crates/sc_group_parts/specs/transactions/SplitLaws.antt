@@ -3,10 +3,10 @@ use Rattle.std.specs.Prelude.{◌≡◌, ℕ, ◌<◌, ◌^◌, ◌++◌}
 use Rattle.std.specs.FinMap.{empty, entries}
 use Rattle.sc_base.specs.Definitions.{IsArc, CanJoin, end_of, joined, IsRoster}
 use Rattle.sc_base.specs.declared.names.Draw.{Draw}
-use Rattle.sc_words.specs.ideal.Definitions.{Contents, part_of, with_pairs}
+use Rattle.sc_words.specs.ideal.IdealDefinitions.{Contents, part_of, with_pairs}
 use Rattle.sc_words.specs.declared.commands.cores.Core.{Core}
 use Rattle.sc_words.specs.declared.commands.links.Route.{Route}
-use Rattle.sc_group_table.specs.machine.Definitions.{gone_group, Group, group_of, frozen_of, merged_group, closing_group, CanSplit, left_core, right_core, left_group, child_of, AreNeighbours, HasItsPart, IsJoined}
+use Rattle.sc_group_table.specs.machine.MachineDefinitions.{gone_group, Group, group_of, frozen_of, merged_group, closing_group, CanSplit, left_core, right_core, left_group, child_of, AreNeighbours, HasItsPart, IsJoined}
 
 -- the two parts of a split have arcs that meet and join to the group's arc; their members, in order, are the group's, and each part is a set of nodes
 pub record KeepsTheWhole (core left right : Core) : Type 0 where

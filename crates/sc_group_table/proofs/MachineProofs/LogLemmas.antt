@@ -1,7 +1,7 @@
 -- What one more command adds to the entries and the state of a log.
 use Rattle.std.proofs.Common.{◌≡◌, List, [], ◌∷◌, ◌++◌, refl, sym, ◌∙◌, ap, append-nil, append_assoc}
 use Rattle.sc_words.specs.declared.commands.commands.Command.{Command}
-use Rattle.sc_group_table.specs.machine.Definitions.{Group, applied, state_after, entry_of, done_by}
+use Rattle.sc_group_table.specs.machine.MachineDefinitions.{Group, applied, state_after, entry_of, done_by}
 
 -- one command more adds its entry to those of the log
 pub done_push : (group : Group) (log : List Command) (c : Command) → done_by group (log ++ c ∷ []) ≡ done_by group log ++ entry_of c (applied (state_after group log) c).1

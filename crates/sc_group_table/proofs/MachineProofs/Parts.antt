@@ -8,9 +8,9 @@ use Rattle.std.proofs.lemmas.Map.Lookups.{exact_unsigned}
 use Rattle.sc_base.specs.Definitions.{Arc, IsArc, CanJoin, before, from, joined, holds, PartsJoin, pos_of}
 use Rattle.sc_base.specs.declared.ops.Noted.{Noted}
 use Rattle.sc_base.proofs.Lemmas.{joins_hold}
-use Rattle.sc_words.specs.ideal.Definitions.{Contents, holds_key, part_of, with_pairs, ClientTable, later, joined_with}
-use Rattle.sc_words.proofs.IdealProofs.Lemmas.{same_contents, get-part, or_else, get-with_pairs, get-joined_with}
-use Rattle.sc_group_table.specs.machine.Definitions.{Group, group_of, base_of}
+use Rattle.sc_words.specs.ideal.IdealDefinitions.{Contents, holds_key, part_of, with_pairs, ClientTable, later, joined_with}
+use Rattle.sc_words.proofs.IdealProofs.IdealLemmas.{same_contents, get-part, or_else, get-with_pairs, get-joined_with}
+use Rattle.sc_group_table.specs.machine.MachineDefinitions.{Group, group_of, base_of}
 
 -- the part on an arc that lies in another
 inside : {X : Type 0} (a b : Bool) (found : Option X) → (a ≡ true → b ≡ true) → cond a (cond b found None) None ≡ cond a found None

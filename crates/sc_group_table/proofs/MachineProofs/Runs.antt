@@ -11,7 +11,7 @@ use Rattle.sc_words.specs.declared.commands.effects.Effect.TheVariants.{Changed,
 use Rattle.sc_words.specs.declared.commands.orders.OrderRefusal.TheVariants.{NotLeader, InTransaction, BadBoundary, TooManyMembers, NotMember, LastMember, IsMember}
 use Rattle.sc_words.specs.declared.commands.votes.Outcome.TheVariants.{Abort}
 use Rattle.sc_words.specs.declared.commands.votes.Past.TheVariants.{Yes}
-use Rattle.sc_group_table.specs.machine.Definitions.{group_of, applied, refusal_of, left_core, right_core, right_succ}
+use Rattle.sc_group_table.specs.machine.MachineDefinitions.{group_of, applied, refusal_of, left_core, right_core, right_succ}
 
 abbrev draw : ℕ → ℕ → Draw
 draw node count = record { node = node; count = count }

@@ -16,7 +16,7 @@ use Rattle.sc_words.specs.declared.commands.votes.No.TheVariants.{Busy, Gone, Ap
 use Rattle.sc_words.specs.declared.commands.votes.Outcome.TheVariants.{Abort, Divided}
 use Rattle.sc_words.specs.declared.commands.votes.Past.TheVariants as Cast
 use Rattle.sc_words.specs.declared.commands.votes.Vote.TheVariants.{Yes}
-use Rattle.sc_group_table.specs.machine.Definitions.{finished, gained_core, lost_core, Group, group_of, refusal_of, kept_arc, given_up, vote_recorded, vote_of, offer_voted, watched}
+use Rattle.sc_group_table.specs.machine.MachineDefinitions.{finished, gained_core, lost_core, Group, group_of, refusal_of, kept_arc, given_up, vote_recorded, vote_of, offer_voted, watched}
 
 abbrev draw : ℕ → ℕ → Draw
 draw node count = record { node = node; count = count }

@@ -12,7 +12,7 @@ use Rattle.std.proofs.lemmas.List.Elements.{All-nil, All-cons, All-tail, All-hea
 use Rattle.std.proofs.Math.Nat.{add-mod_left, mod-eq_of_lt}
 use Rattle.sc_base.specs.Definitions.{IsAscending, longest_key, IsText, pos_of}
 use Rattle.sc_base.proofs.Lemmas.{is_less, AllPairs-head, AllPairs-tail}
-use Rattle.sc_group_table.specs.policy.Definitions.{positions, far_from, KeysRiseFromTheStart}
+use Rattle.sc_group_table.specs.policy.PolicyDefinitions.{positions, far_from, KeysRiseFromTheStart}
 use Rattle.sc_group_table.proofs.PolicyProofs.Prefixes.{are_bytes, pos_le, pos_small}
 
 abbrev HasKey : List ℕ × List ℕ → Type 0

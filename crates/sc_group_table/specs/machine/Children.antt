@@ -13,7 +13,7 @@ use Rattle.sc_words.specs.declared.commands.links.Route.{Route}
 use Rattle.sc_words.specs.declared.commands.orders.OrderRefusal.{OrderRefusal}
 use Rattle.sc_words.specs.declared.commands.votes.Past.{Past}
 use Rattle.sc_words.specs.declared.commands.votes.Past.TheVariants as Cast
-use Rattle.sc_words.specs.commands.Definitions.{is_alone}
+use Rattle.sc_words.specs.commands.CommandDefinitions.{is_alone}
 use Rattle.sc_group_table.specs.machine.Group.{Group}
 use Rattle.sc_group_table.specs.machine.Orders.{refusal_of}
 use Rattle.sc_group_table.specs.machine.Plans.{can_split}

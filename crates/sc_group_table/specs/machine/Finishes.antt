@@ -3,7 +3,7 @@ use Rattle.std.specs.Prelude.{ℕ, Bool, ◌&&◌, not, nat_le, length, List, �
 use Rattle.std.specs.FinMap.{empty}
 use Rattle.sc_base.specs.Definitions.{from, joined, same_draw, united}
 use Rattle.sc_base.specs.declared.names.Draw.{Draw}
-use Rattle.sc_words.specs.ideal.Definitions.{part_of}
+use Rattle.sc_words.specs.ideal.IdealDefinitions.{part_of}
 use Rattle.sc_words.specs.declared.commands.bodies.Offer.{Offer}
 use Rattle.sc_words.specs.declared.commands.bodies.Watch.{Watch}
 use Rattle.sc_words.specs.declared.commands.cores.Core.{Core}

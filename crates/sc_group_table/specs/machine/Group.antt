@@ -1,6 +1,6 @@
 -- A group as its state machine holds it.
 use Rattle.std.specs.FinMap.{empty, entries}
-use Rattle.sc_words.specs.ideal.Definitions.{Contents, with_pairs, ClientTable, joined_with}
+use Rattle.sc_words.specs.ideal.IdealDefinitions.{Contents, with_pairs, ClientTable, joined_with}
 use Rattle.sc_words.specs.declared.commands.cores.Core.{Core}
 use Rattle.sc_words.specs.declared.commands.cores.Base.{Base}
 

@@ -4,8 +4,8 @@ use Rattle.std.specs.FinMap.{get, insert}
 use Rattle.sc_base.specs.declared.names.Draw.{Draw}
 use Rattle.sc_base.specs.declared.ops.Op.{Op}
 use Rattle.sc_base.specs.declared.ops.Noted.{Noted}
-use Rattle.sc_words.specs.commands.Definitions.{is_alone}
-use Rattle.sc_words.specs.ideal.Definitions.{key_of, reply_of, after, holds_key}
+use Rattle.sc_words.specs.commands.CommandDefinitions.{is_alone}
+use Rattle.sc_words.specs.ideal.IdealDefinitions.{key_of, reply_of, after, holds_key}
 use Rattle.sc_words.specs.declared.commands.bodies.Body.TheVariants as Body
 use Rattle.sc_words.specs.declared.commands.links.Route.{Route}
 use Rattle.sc_words.specs.declared.commands.orders.OrderRefusal.{OrderRefusal}

@@ -14,7 +14,7 @@ use Rattle.sc_words.specs.declared.commands.effects.Effect.TheVariants as Was
 use Rattle.sc_words.specs.declared.commands.links.Route.{Route}
 use Rattle.sc_words.specs.declared.commands.orders.OrderRefusal.{OrderRefusal}
 use Rattle.sc_words.specs.declared.commands.orders.OrderRefusal.TheVariants.{NotLeader, InTransaction, NoNeighbour, BadBoundary, TooManyMembers, NotMember, LastMember, TxLimit, IsMember}
-use Rattle.sc_words.specs.commands.Definitions.{is_alone}
+use Rattle.sc_words.specs.commands.CommandDefinitions.{is_alone}
 use Rattle.sc_group_table.specs.machine.Group.{Group}
 
 -- the transaction that a lock is in, if it is in one

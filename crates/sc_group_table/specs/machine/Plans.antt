@@ -4,7 +4,7 @@ use Rattle.std.specs.List.{list_any}
 use Rattle.std.specs.FinMap.{empty, entries, get}
 use Rattle.sc_base.specs.Definitions.{Arc, holds, end_of, before, from, joined, same_draw, is_member, without_member, united}
 use Rattle.sc_base.specs.declared.names.Draw.{Draw}
-use Rattle.sc_words.specs.ideal.Definitions.{Contents, part_of, with_pairs, joined_with}
+use Rattle.sc_words.specs.ideal.IdealDefinitions.{Contents, part_of, with_pairs, joined_with}
 use Rattle.sc_words.specs.declared.commands.cores.Core.{Core}
 use Rattle.sc_words.specs.declared.commands.links.Link.{Link}
 use Rattle.sc_words.specs.declared.commands.links.Route.{Route}

@@ -4,8 +4,8 @@ use Rattle.std.specs.List.{list_any}
 use Rattle.std.specs.FinMap.{entries}
 use Rattle.sc_base.specs.Definitions.{CanCut, before, from, least_of, same_draw}
 use Rattle.sc_base.specs.declared.names.Draw.{Draw}
-use Rattle.sc_words.specs.commands.Definitions.{is_alone}
-use Rattle.sc_words.specs.ideal.Definitions.{part_of}
+use Rattle.sc_words.specs.commands.CommandDefinitions.{is_alone}
+use Rattle.sc_words.specs.ideal.IdealDefinitions.{part_of}
 use Rattle.sc_words.specs.declared.commands.cores.Base.{Base}
 use Rattle.sc_words.specs.declared.commands.cores.Core.{Core}
 use Rattle.sc_words.specs.declared.commands.cores.Lock.TheVariants.{Free}

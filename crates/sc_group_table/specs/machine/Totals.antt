@@ -2,7 +2,7 @@
 use Rattle.std.specs.Prelude.{◌≡◌, ℕ, ◌<◌, ◌^◌}
 use Rattle.std.specs.FinMap.{get}
 use Rattle.sc_base.specs.Definitions.{IsArc, CanJoin, joined}
-use Rattle.sc_words.specs.ideal.Definitions.{Contents, part_of, ClientTable, later}
+use Rattle.sc_words.specs.ideal.IdealDefinitions.{Contents, part_of, ClientTable, later}
 use Rattle.sc_group_table.specs.machine.Group.{Group}
 
 -- the group has exactly the pairs of a whole map that lie on its arc

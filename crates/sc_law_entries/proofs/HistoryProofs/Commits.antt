@@ -13,17 +13,17 @@ use Rattle.sc_words.specs.declared.commands.votes.Frozen.{Frozen}
 use Rattle.sc_words.specs.declared.commands.votes.Gift.{Gift}
 use Rattle.sc_words.specs.declared.commands.votes.Outcome.{Outcome}
 use Rattle.sc_words.specs.declared.commands.votes.Outcome.TheVariants.{Merged, Moved, Migrated}
-use Rattle.sc_group_table.specs.machine.Definitions.{Group, entry_of, decided}
-use Rattle.sc_meaning.specs.entries.Definitions.{birth_of, concluded, after_outcome, arc_in, both_arcs, is_cut_of, recut, ring_decided, ring_merged, ring_moved, StoreWorld, named_group, with_result}
+use Rattle.sc_group_table.specs.machine.MachineDefinitions.{Group, entry_of, decided}
+use Rattle.sc_meaning.specs.entries.EntryDefinitions.{birth_of, concluded, after_outcome, arc_in, both_arcs, is_cut_of, recut, ring_decided, ring_merged, ring_moved, StoreWorld, named_group, with_result}
 use Rattle.sc_meaning.specs.declared.entries.Cut.{Cut}
-use Rattle.sc_law_entries.specs.history.Definitions.{GivenFrom, JoinedTo, RequestOf, TakenUpTo, Unmoved, both_holdings, holding_of, part_before, part_from, with_next, with_previous, IsItsOwn, IsParty, HasKnownTable, holdings_in}
+use Rattle.sc_law_entries.specs.history.HistoryDefinitions.{GivenFrom, JoinedTo, RequestOf, TakenUpTo, Unmoved, both_holdings, holding_of, part_before, part_from, with_next, with_previous, IsItsOwn, IsParty, HasKnownTable, holdings_in}
 use Rattle.sc_law_entries.proofs.HistoryProofs.Disjoint.{first_here, neither_here, second_here}
 use Rattle.sc_law_entries.proofs.HistoryProofs.Elsewhere.{elsewhere, held_by, held_none, held_some, here, own_group, tables_from, there, holds_own}
 use Rattle.sc_law_entries.proofs.HistoryProofs.Parties.{next_after, next_before, others_after}
 use Rattle.sc_law_entries.proofs.HistoryProofs.Recuts.{arc_of, gone_cut, has_arc, has_recut, is_none_of, taken_out}
 use Rattle.sc_law_entries.proofs.HistoryProofs.Shares.{both_are}
 use Rattle.sc_law_entries.proofs.HistoryProofs.Staying.{Goes}
-use Rattle.sc_meaning.proofs.EntriesProofs.Lemmas.{draw_cases}
+use Rattle.sc_meaning.proofs.EntriesProofs.EntryLemmas.{draw_cases}
 
 has_some : (name : Draw) (ring : List Cut) (arc : Arc) → arc_in name ring ≡ Some arc → has_arc name ring ≡ true
 has_some name ring arc e = ap is_some e

@@ -7,7 +7,7 @@ use Rattle.std.proofs.lemmas.Bool.{and_parts, cases_Bool, cond-true, cond-false,
 use Rattle.sc_base.specs.Definitions.{CanCut, before, from, holds}
 use Rattle.sc_base.specs.declared.names.Draw.{Draw}
 use Rattle.sc_base.proofs.Lemmas.{same_name}
-use Rattle.sc_law_walks.proofs.Lemmas.{vote_step, watch_step}
+use Rattle.sc_law_walks.proofs.WalkLemmas.{vote_step, watch_step}
 use Rattle.sc_words.specs.declared.commands.bodies.Body.{Body}
 use Rattle.sc_words.specs.declared.commands.bodies.Body.TheVariants as At
 use Rattle.sc_words.specs.declared.commands.commands.Command.TheVariants.{RecordVote, RecordWatch, Split}
@@ -25,12 +25,12 @@ use Rattle.sc_words.specs.declared.commands.votes.Past.{Past}
 use Rattle.sc_words.specs.declared.commands.votes.Past.TheVariants as Cast
 use Rattle.sc_words.specs.declared.commands.votes.Vote.{Vote}
 use Rattle.sc_words.specs.declared.commands.votes.Vote.TheVariants as Says
-use Rattle.sc_words.specs.commands.Definitions.{is_alone}
-use Rattle.sc_words.specs.ideal.Definitions.{contents_after}
-use Rattle.sc_group_table.specs.machine.Definitions.{Group, applied, split_group, locked_in, refusal_of, refused_in, can_cut, can_join, can_repart, can_split, closing_group, giving_group, has_key_of, merged_group, merged_route, migrated_group, part_gift, taken, taking_group, child_of, has_named, left_group, aborted, begun_group, decided, heard_group, is_coordinating}
-use Rattle.sc_meaning.specs.entries.Definitions.{division_in, begun_split, decision, named_watcher, arc_in, ring_divided, StoreWorld, named_group}
+use Rattle.sc_words.specs.commands.CommandDefinitions.{is_alone}
+use Rattle.sc_words.specs.ideal.IdealDefinitions.{contents_after}
+use Rattle.sc_group_table.specs.machine.MachineDefinitions.{Group, applied, split_group, locked_in, refusal_of, refused_in, can_cut, can_join, can_repart, can_split, closing_group, giving_group, has_key_of, merged_group, merged_route, migrated_group, part_gift, taken, taking_group, child_of, has_named, left_group, aborted, begun_group, decided, heard_group, is_coordinating}
+use Rattle.sc_meaning.specs.entries.EntryDefinitions.{division_in, begun_split, decision, named_watcher, arc_in, ring_divided, StoreWorld, named_group}
 use Rattle.sc_meaning.specs.declared.entries.Division.{Division}
-use Rattle.sc_law_entries.specs.history.Definitions.{RequestOf, MatchesHoldings, holding_of, IsItsOwn, IsParty, MayHear, MayHearWatcher, MaySplit, holdings_in}
+use Rattle.sc_law_entries.specs.history.HistoryDefinitions.{RequestOf, MatchesHoldings, holding_of, IsItsOwn, IsParty, MayHear, MayHearWatcher, MaySplit, holdings_in}
 use Rattle.sc_law_entries.proofs.HistoryProofs.Commits.{give_goes, merge_goes, migrate_goes, take_goes}
 use Rattle.sc_law_entries.proofs.HistoryProofs.Divisions.{division_goes}
 use Rattle.sc_law_entries.proofs.HistoryProofs.Elsewhere.{held_by, own_group, holds_own}

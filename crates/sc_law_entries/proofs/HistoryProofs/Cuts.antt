@@ -7,8 +7,8 @@ use Rattle.sc_base.specs.Definitions.{Among, Arc}
 use Rattle.sc_base.specs.declared.names.Draw.{Draw}
 use Rattle.sc_base.proofs.Lemmas.{map-some, draw_is, same_name}
 use Rattle.sc_meaning.specs.declared.entries.Cut.{Cut}
-use Rattle.sc_meaning.specs.entries.Definitions.{arc_in, is_cut_of}
-use Rattle.sc_words.proofs.PaxosProofs.Lemmas.{find_found}
+use Rattle.sc_meaning.specs.entries.EntryDefinitions.{arc_in, is_cut_of}
+use Rattle.sc_words.proofs.PaxosProofs.PaxosLemmas.{find_found}
 
 -- a name that has an arc has a cut with it
 pub cut_of : (name : Draw) (ring : List Cut) (arc : Arc) → arc_in name ring ≡ Some arc → (cut : Cut) × Among cut ring × (cut.group ≡ name) × (cut.arc ≡ arc)

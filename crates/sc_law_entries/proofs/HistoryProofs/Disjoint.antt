@@ -5,9 +5,9 @@ use Rattle.sc_base.specs.Definitions.{holds, same_draw}
 use Rattle.sc_base.specs.declared.names.Draw.{Draw}
 use Rattle.sc_base.proofs.Lemmas.{draw_is, same_name}
 use Rattle.sc_words.specs.declared.ideal.Entry.{Entry}
-use Rattle.sc_law_entries.specs.history.Definitions.{Holding, Holdings, with_holding, AreDisjoint, IsReportedOf}
+use Rattle.sc_law_entries.specs.history.HistoryDefinitions.{Holding, Holdings, with_holding, AreDisjoint, IsReportedOf}
 use Rattle.sc_law_entries.proofs.HistoryProofs.Holdings.{IsOnRing}
-use Rattle.sc_meaning.proofs.EntriesProofs.Lemmas.{draw_cases}
+use Rattle.sc_meaning.proofs.EntriesProofs.EntryLemmas.{draw_cases}
 
 pub holding_here : (group : Draw) (holding : Option Holding) (holdings : Holdings) (other : Draw) → other ≡ group → with_holding group holding holdings other ≡ holding
 holding_here group holding holdings other e = cond-true (same_draw other group) holding (holdings other) (same_name other group e)

@@ -9,14 +9,14 @@ use Rattle.sc_base.specs.declared.names.Draw.{Draw}
 use Rattle.sc_base.proofs.Lemmas.{draw_is, same_name}
 use Rattle.sc_words.specs.declared.commands.commands.Command.{Command}
 use Rattle.sc_words.specs.declared.commands.effects.Effect.{Effect}
-use Rattle.sc_group_table.specs.machine.Definitions.{Group, group_of, entry_of, child_of}
-use Rattle.sc_words.proofs.PaxosProofs.Lemmas.{find_within}
-use Rattle.sc_meaning.specs.entries.Definitions.{birth_of, parts_of, StoreWorld, groups_after, is_named, named_group, with_group, with_result}
+use Rattle.sc_group_table.specs.machine.MachineDefinitions.{Group, group_of, entry_of, child_of}
+use Rattle.sc_words.proofs.PaxosProofs.PaxosLemmas.{find_within}
+use Rattle.sc_meaning.specs.entries.EntryDefinitions.{birth_of, parts_of, StoreWorld, groups_after, is_named, named_group, with_group, with_result}
 use Rattle.sc_meaning.specs.declared.entries.Division.{Division}
-use Rattle.sc_law_entries.specs.history.Definitions.{DividedAt, Holding, RequestOf, holding_of, part_before, part_from, IsNewChild, HasKnownTable, holdings_in}
+use Rattle.sc_law_entries.specs.history.HistoryDefinitions.{DividedAt, Holding, RequestOf, holding_of, part_before, part_from, IsNewChild, HasKnownTable, holdings_in}
 use Rattle.sc_law_entries.proofs.HistoryProofs.Disjoint.{first_here, neither_here, second_here}
 use Rattle.sc_law_entries.proofs.HistoryProofs.Elsewhere.{held_by, held_none, held_some, same_at, same_found, holds_own}
-use Rattle.sc_meaning.proofs.EntriesProofs.Lemmas.{found_name, draw_cases}
+use Rattle.sc_meaning.proofs.EntriesProofs.EntryLemmas.{found_name, draw_cases}
 use Rattle.sc_law_entries.proofs.HistoryProofs.Found.{found_now, found_still}
 use Rattle.sc_law_entries.proofs.HistoryProofs.PlanHoldings.{plans_move}
 use Rattle.sc_law_entries.proofs.HistoryProofs.Recuts.{arc_of, child_has, has_arc, has_divided}

@@ -7,11 +7,11 @@ use Rattle.sc_base.specs.Definitions.{Arc}
 use Rattle.sc_base.specs.declared.names.Draw.{Draw}
 use Rattle.sc_words.specs.declared.commands.commands.Command.{Command}
 use Rattle.sc_words.specs.declared.commands.effects.Effect.{Effect}
-use Rattle.sc_group_table.specs.machine.Definitions.{Group}
-use Rattle.sc_meaning.specs.entries.Definitions.{birth_of, effective_by, arc_in, StoreWorld, groups_after, named_group, with_group, with_result}
+use Rattle.sc_group_table.specs.machine.MachineDefinitions.{Group}
+use Rattle.sc_meaning.specs.entries.EntryDefinitions.{birth_of, effective_by, arc_in, StoreWorld, groups_after, named_group, with_group, with_result}
 use Rattle.sc_meaning.specs.declared.entries.Transaction.{Transaction}
-use Rattle.sc_law_entries.specs.history.Definitions.{Holding, holding_of, HasKnownTable, holdings_in}
-use Rattle.sc_meaning.proofs.EntriesProofs.Lemmas.{found_name, draw_cases}
+use Rattle.sc_law_entries.specs.history.HistoryDefinitions.{Holding, holding_of, HasKnownTable, holdings_in}
+use Rattle.sc_meaning.proofs.EntriesProofs.EntryLemmas.{found_name, draw_cases}
 use Rattle.sc_law_entries.proofs.HistoryProofs.Found.{found_now, found_still}
 
 -- what a group holds by the decisions of these transactions

@@ -15,9 +15,9 @@ use Rattle.sc_words.specs.declared.commands.effects.Effect.TheVariants.{NoEffect
 use Rattle.sc_words.specs.declared.commands.votes.Gift.{Gift}
 use Rattle.sc_words.specs.declared.commands.votes.Outcome.{Outcome}
 use Rattle.sc_words.specs.declared.commands.votes.Outcome.TheVariants.{Abort, Merged, Moved, Migrated, Divided}
-use Rattle.sc_group_table.specs.machine.Definitions.{Group, can_gain, finished, gained_group, lost_group, participant_after, settled_in, watch_ended, welcomed_group, applied, locked_in, can_cut, has_key_of}
-use Rattle.sc_meaning.specs.entries.Definitions.{decision, after_outcome, effective_by, is_commit, StoreWorld, named_group, with_result}
-use Rattle.sc_law_entries.specs.history.Definitions.{RequestOf, holding_of, MayFinish, HasKnownTable}
+use Rattle.sc_group_table.specs.machine.MachineDefinitions.{Group, can_gain, finished, gained_group, lost_group, participant_after, settled_in, watch_ended, welcomed_group, applied, locked_in, can_cut, has_key_of}
+use Rattle.sc_meaning.specs.entries.EntryDefinitions.{decision, after_outcome, effective_by, is_commit, StoreWorld, named_group, with_result}
+use Rattle.sc_law_entries.specs.history.HistoryDefinitions.{RequestOf, holding_of, MayFinish, HasKnownTable}
 use Rattle.sc_law_entries.proofs.HistoryProofs.Elsewhere.{held_by, held_some, here, same_table}
 use Rattle.sc_law_entries.proofs.HistoryProofs.Finishing.{free_held, watching_held}
 use Rattle.sc_law_entries.proofs.HistoryProofs.Logs.{applied_same}

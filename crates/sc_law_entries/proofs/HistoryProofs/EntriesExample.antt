@@ -13,12 +13,12 @@ use Rattle.sc_base.specs.declared.ops.Reply.{Reply}
 use Rattle.sc_words.specs.declared.commands.commands.Command.TheVariants.{Call, Split}
 use Rattle.sc_words.specs.declared.commands.effects.Effect.{Effect}
 use Rattle.sc_words.specs.declared.commands.effects.Effect.TheVariants.{Changed}
-use Rattle.sc_words.specs.ideal.Definitions.{Legal}
-use Rattle.sc_group_table.specs.machine.Definitions.{Group, group_of, applied, done, served_by_note, child_of, left_group}
+use Rattle.sc_words.specs.ideal.IdealDefinitions.{Legal}
+use Rattle.sc_group_table.specs.machine.MachineDefinitions.{Group, group_of, applied, done, served_by_note, child_of, left_group}
 use Rattle.sc_group_table.proofs.MachineProofs.Lemmas.{clients_again}
 use Rattle.sc_meaning.specs.declared.entries.Cut.{Cut}
-use Rattle.sc_meaning.specs.entries.Definitions.{Covers, first_cut, StoreWorld, first_world, recorded, with_result, world_after, world_of}
-use Rattle.sc_law_entries.specs.history.Definitions.{ExampleOfEntries, answers_with, example_log, get_a, get_entry, lone_base, offspring, put_a, put_entry, split_entry, two_requests, AllMayBeApplied, MayBeApplied, MayCall, MaySplit, BeginBare, BeginsBare}
+use Rattle.sc_meaning.specs.entries.EntryDefinitions.{Covers, first_cut, StoreWorld, first_world, recorded, with_result, world_after, world_of}
+use Rattle.sc_law_entries.specs.history.HistoryDefinitions.{ExampleOfEntries, answers_with, example_log, get_a, get_entry, lone_base, offspring, put_a, put_entry, split_entry, two_requests, AllMayBeApplied, MayBeApplied, MayCall, MaySplit, BeginBare, BeginsBare}
 use Rattle.sc_law_entries.proofs.HistoryProofs.EntryMoves.{entries_report}
 
 -- ---- the start

@@ -3,10 +3,10 @@ use Rattle.std.proofs.Common.{◌≡◌, List, [], ◌∷◌, Option, Some, None
 use Rattle.sc_base.specs.declared.names.Draw.{Draw}
 use Rattle.sc_words.specs.declared.commands.commands.Command.{Command}
 use Rattle.sc_words.specs.declared.commands.commands.Command.TheVariants.{Noop, Call, Join, Leave, Split, Begin, Prepared, RecordVote, GiveUp, Finish, Watched, RecordWatch}
-use Rattle.sc_group_table.specs.machine.Definitions.{Group, applied}
+use Rattle.sc_group_table.specs.machine.MachineDefinitions.{Group, applied}
 use Rattle.sc_meaning.specs.declared.entries.LogEntry.{LogEntry}
-use Rattle.sc_meaning.specs.entries.Definitions.{StoreWorld, after_command, first_world, named_group, recorded}
-use Rattle.sc_law_entries.specs.history.Definitions.{RequestOf, MatchesHoldings, Unmoved, EntriesMakeMoves, AppliedEntriesMakeHistory, AllMayBeApplied, MayExecute, AllMakeMoves, IsMoveTo, holdings_in}
+use Rattle.sc_meaning.specs.entries.EntryDefinitions.{StoreWorld, after_command, first_world, named_group, recorded}
+use Rattle.sc_law_entries.specs.history.HistoryDefinitions.{RequestOf, MatchesHoldings, Unmoved, EntriesMakeMoves, AppliedEntriesMakeHistory, AllMayBeApplied, MayExecute, AllMakeMoves, IsMoveTo, holdings_in}
 use Rattle.sc_law_entries.proofs.HistoryProofs.Coordinators.{split_goes, vote_goes, watch_goes}
 use Rattle.sc_law_entries.proofs.HistoryProofs.Ending.{finish_goes}
 use Rattle.sc_law_entries.proofs.HistoryProofs.MoveLaw.{move_told, moves_make_worlds}

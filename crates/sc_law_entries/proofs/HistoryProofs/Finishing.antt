@@ -13,10 +13,10 @@ use Rattle.sc_words.specs.declared.commands.effects.Effect.TheVariants.{NoEffect
 use Rattle.sc_words.specs.declared.commands.votes.Outcome.{Outcome}
 use Rattle.sc_words.specs.declared.commands.votes.Outcome.TheVariants.{Abort, Merged, Moved, Migrated, Divided}
 use Rattle.sc_words.specs.declared.commands.votes.Past.{Past}
-use Rattle.sc_group_table.specs.machine.Definitions.{Group, can_gain, finished, gained_group, lost_group, participant_after, settled_in, watch_ended, welcomed_group, applied, can_cut, has_key_of, is_coordinating}
+use Rattle.sc_group_table.specs.machine.MachineDefinitions.{Group, can_gain, finished, gained_group, lost_group, participant_after, settled_in, watch_ended, welcomed_group, applied, can_cut, has_key_of, is_coordinating}
 use Rattle.sc_meaning.specs.declared.entries.Transaction.{Transaction}
-use Rattle.sc_meaning.specs.entries.Definitions.{decision, after_outcome, effective_by, is_commit}
-use Rattle.sc_law_entries.specs.history.Definitions.{Holding, holding_of}
+use Rattle.sc_meaning.specs.entries.EntryDefinitions.{decision, after_outcome, effective_by, is_commit}
+use Rattle.sc_law_entries.specs.history.HistoryDefinitions.{Holding, holding_of}
 use Rattle.sc_law_entries.proofs.HistoryProofs.Elsewhere.{held_by}
 use Rattle.sc_law_entries.proofs.HistoryProofs.Outcomes.{commit_in, no_commit}
 

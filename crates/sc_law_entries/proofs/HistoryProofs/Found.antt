@@ -3,9 +3,9 @@ use Rattle.std.proofs.Common.{◌≡◌, cond, List, [], ◌∷◌, Some, None, 
 use Rattle.std.proofs.lemmas.Bool.{cases_Bool, cond-true, cond-false}
 use Rattle.sc_base.specs.declared.names.Draw.{Draw}
 use Rattle.sc_base.proofs.Lemmas.{draw_is, same_name}
-use Rattle.sc_group_table.specs.machine.Definitions.{Group}
-use Rattle.sc_meaning.specs.entries.Definitions.{is_named, named_group, with_group}
-use Rattle.sc_meaning.proofs.EntriesProofs.Lemmas.{other_name}
+use Rattle.sc_group_table.specs.machine.MachineDefinitions.{Group}
+use Rattle.sc_meaning.specs.entries.EntryDefinitions.{is_named, named_group, with_group}
+use Rattle.sc_meaning.proofs.EntriesProofs.EntryLemmas.{other_name}
 
 -- a group that was replaced is found as it is now
 pub found_now : (name : Draw) (after : Group) (groups : List Group) (group : Group) → after.core.id ≡ name → named_group name groups ≡ Some group → named_group name (with_group name after groups) ≡ Some after

@@ -7,11 +7,11 @@ use Rattle.sc_base.specs.Definitions.{same_draw}
 use Rattle.sc_base.specs.declared.names.Draw.{Draw}
 use Rattle.sc_base.proofs.Lemmas.{same_name}
 use Rattle.sc_words.specs.declared.commands.commands.Command.{Command}
-use Rattle.sc_group_table.specs.machine.Definitions.{Group, group_of, state_after, applied}
-use Rattle.sc_meaning.specs.entries.Definitions.{birth_of, StoreWorld, after_command, first_world, named_group, recorded, with_group, world_of}
+use Rattle.sc_group_table.specs.machine.MachineDefinitions.{Group, group_of, state_after, applied}
+use Rattle.sc_meaning.specs.entries.EntryDefinitions.{birth_of, StoreWorld, after_command, first_world, named_group, recorded, with_group, world_of}
 use Rattle.sc_meaning.specs.declared.entries.LogEntry.{LogEntry}
-use Rattle.sc_meaning.proofs.EntriesProofs.Lemmas.{world_append, found_name, other_name, draw_cases}
-use Rattle.sc_law_entries.specs.history.Definitions.{PrefixesAnswerByHistory, LogsMakeStates, log_in}
+use Rattle.sc_meaning.proofs.EntriesProofs.EntryLemmas.{world_append, found_name, other_name, draw_cases}
+use Rattle.sc_law_entries.specs.history.HistoryDefinitions.{PrefixesAnswerByHistory, LogsMakeStates, log_in}
 use Rattle.sc_law_entries.proofs.HistoryProofs.Divisions.{found_left}
 use Rattle.sc_law_entries.proofs.HistoryProofs.Found.{found_now, found_still}
 use Rattle.sc_law_entries.proofs.HistoryProofs.Logs.{applied_same}

@@ -4,11 +4,11 @@ use Rattle.std.proofs.lemmas.Bool.{and_from, both_ways, or_cases}
 use Rattle.std.specs.FinMap.{empty, entries}
 use Rattle.sc_base.specs.Definitions.{Arc, IsArc, CanCut, CanJoin, holds, before, from, joined, pos_of}
 use Rattle.sc_base.proofs.Lemmas.{cuts_join, joins_hold}
-use Rattle.sc_words.specs.ideal.Definitions.{contents_after, key_of, part_of, with_pairs}
+use Rattle.sc_words.specs.ideal.IdealDefinitions.{contents_after, key_of, part_of, with_pairs}
 use Rattle.sc_words.specs.declared.ideal.Entry.{Entry}
-use Rattle.sc_words.proofs.IdealProofs.Lemmas.{parts_join}
+use Rattle.sc_words.proofs.IdealProofs.IdealLemmas.{parts_join}
 use Rattle.sc_group_table.proofs.MachineProofs.Lemmas.{part_within, first_inside, second_inside, parts_turned}
-use Rattle.sc_law_entries.specs.history.Definitions.{Holding, IsReportedOf, part_before, part_from, with_next, with_previous}
+use Rattle.sc_law_entries.specs.history.HistoryDefinitions.{Holding, IsReportedOf, part_before, part_from, with_next, with_previous}
 use Rattle.sc_law_entries.proofs.HistoryProofs.Tables.{noted_left, noted_right, notes_joined}
 
 -- an arc of the ring

@@ -1,9 +1,9 @@
 -- Entries of which no two are of one client and number, in another form.
 use Rattle.std.proofs.Common.{ℕ, zero, suc, ◌<◌, List, [], ◌∷◌, ◌++◌, length, get_or, inl, inr, refl, AllPairs, arith}
-use Rattle.sc_words.specs.ideal.Definitions.{AreApart}
+use Rattle.sc_words.specs.ideal.IdealDefinitions.{AreApart}
 use Rattle.sc_words.specs.declared.ideal.Entry.{Entry}
 use Rattle.sc_base.specs.Definitions.{Among, Each}
-use Rattle.sc_words.proofs.PaxosProofs.Lemmas.{Each-among, Each-append}
+use Rattle.sc_words.proofs.PaxosProofs.PaxosLemmas.{Each-among, Each-append}
 
 -- no two entries are of one client and number
 abbrev pub IsApart : List Entry → Type 0

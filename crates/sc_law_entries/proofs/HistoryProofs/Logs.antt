@@ -6,8 +6,8 @@ use Rattle.sc_words.specs.declared.commands.commands.Command.{Command}
 use Rattle.sc_words.specs.declared.commands.commands.Command.TheVariants.{Call}
 use Rattle.sc_words.specs.declared.commands.cores.Core.{Core}
 use Rattle.sc_words.specs.declared.commands.orders.OrderRefusal.{OrderRefusal}
-use Rattle.sc_law_walks.proofs.Lemmas.{name_step}
-use Rattle.sc_group_table.specs.machine.Definitions.{Group, applied, ordered, state_after}
+use Rattle.sc_law_walks.proofs.WalkLemmas.{name_step}
+use Rattle.sc_group_table.specs.machine.MachineDefinitions.{Group, applied, ordered, state_after}
 use Rattle.sc_law_walks.proofs.CoreWalks.{called_core}
 
 -- ---- the core of the group stays

@@ -6,14 +6,14 @@ use Rattle.std.specs.Ordering.{nat_cmp}
 use Rattle.sc_base.specs.Definitions.{Among, Arc}
 use Rattle.sc_base.specs.declared.names.Draw.{Draw}
 use Rattle.sc_words.specs.declared.commands.cores.Base.{Base}
-use Rattle.sc_words.specs.ideal.Definitions.{ClientTable, contents_after, part_of}
+use Rattle.sc_words.specs.ideal.IdealDefinitions.{ClientTable, contents_after, part_of}
 use Rattle.sc_words.specs.declared.ideal.Entry.{Entry}
-use Rattle.sc_group_table.specs.machine.Definitions.{Group}
+use Rattle.sc_group_table.specs.machine.MachineDefinitions.{Group}
 use Rattle.sc_meaning.specs.declared.entries.Cut.{Cut}
 use Rattle.sc_meaning.specs.declared.entries.LogEntry.{LogEntry}
-use Rattle.sc_meaning.specs.entries.Definitions.{effective, arc_in, StoreWorld, first_world, named_group, recorded, world_after, world_of}
-use Rattle.sc_meaning.proofs.EntriesProofs.Lemmas.{world_append}
-use Rattle.sc_law_entries.specs.history.Definitions.{RequestOf, HasNotes, MatchesHoldings, entries_by, holding_of, holdings_after, AllMakeMoves, BeginBare, MovingEntriesMakeHistory, HasKnownTable, IsMoveTo, MakesMove, holdings_in}
+use Rattle.sc_meaning.specs.entries.EntryDefinitions.{effective, arc_in, StoreWorld, first_world, named_group, recorded, world_after, world_of}
+use Rattle.sc_meaning.proofs.EntriesProofs.EntryLemmas.{world_append}
+use Rattle.sc_law_entries.specs.history.HistoryDefinitions.{RequestOf, HasNotes, MatchesHoldings, entries_by, holding_of, holdings_after, AllMakeMoves, BeginBare, MovingEntriesMakeHistory, HasKnownTable, IsMoveTo, MakesMove, holdings_in}
 use Rattle.sc_law_entries.proofs.HistoryProofs.Cuts.{has_cut}
 use Rattle.sc_law_entries.proofs.HistoryProofs.MovesKept.{move_kept, same_told}
 use Rattle.sc_law_entries.proofs.HistoryProofs.QuietLaw.{first_notes, first_recorded}

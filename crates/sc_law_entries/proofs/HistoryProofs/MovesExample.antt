@@ -7,12 +7,12 @@ use Rattle.std.specs.Ordering.{nat_cmp}
 use Rattle.sc_base.specs.Definitions.{IsArc}
 use Rattle.sc_base.specs.declared.names.Draw.{Draw}
 use Rattle.sc_base.specs.declared.ops.Reply.{Reply}
-use Rattle.sc_words.specs.ideal.Definitions.{later}
-use Rattle.sc_words.proofs.IdealProofs.Lemmas.{joined_by_number}
-use Rattle.sc_law_entries.specs.history.Definitions.{Holding, AreBare, MayMakeAll, history_by, part_before, part_from, with_previous, with_request, ExampleOfMoves, answers_with, bare_ring, example_moves, lone_holdings, offspring, parent, put_a, two_requests}
+use Rattle.sc_words.specs.ideal.IdealDefinitions.{later}
+use Rattle.sc_words.proofs.IdealProofs.IdealLemmas.{joined_by_number}
+use Rattle.sc_law_entries.specs.history.HistoryDefinitions.{Holding, AreBare, MayMakeAll, history_by, part_before, part_from, with_previous, with_request, ExampleOfMoves, answers_with, bare_ring, example_moves, lone_holdings, offspring, parent, put_a, two_requests}
 use Rattle.sc_law_entries.proofs.HistoryProofs.Disjoint.{holding_here, holding_there}
 use Rattle.sc_law_entries.proofs.HistoryProofs.MovesKept.{moves_make_history}
-use Rattle.sc_meaning.proofs.EntriesProofs.Lemmas.{draw_cases}
+use Rattle.sc_meaning.proofs.EntriesProofs.EntryLemmas.{draw_cases}
 use Rattle.std.proofs.lemmas.Option.{none-some, same_Some}
 
 -- only the group holds something

@@ -3,15 +3,15 @@ use Rattle.std.proofs.Common.{◌≡◌, List, [], ◌∷◌, ◌++◌, Option, 
 use Rattle.std.specs.FinMap.{get, get-empty}
 use Rattle.std.specs.Ordering.{nat_cmp}
 use Rattle.sc_base.specs.declared.names.Draw.{Draw}
-use Rattle.sc_words.specs.ideal.Definitions.{HasEntry}
+use Rattle.sc_words.specs.ideal.IdealDefinitions.{HasEntry}
 use Rattle.sc_words.specs.declared.ideal.Entry.{Entry}
-use Rattle.sc_law_entries.specs.history.Definitions.{Holding, Holdings, RequestOf, Move, Unmoved, ServedBy, DividedAt, JoinedTo, GivenFrom, TakenUpTo, MayMakeAll, MovesKeepHistories, MovesMakeHistories, AreBare, MatchesHoldings, with_holding, holdings_after, holdings_after_all, history_by, entries_by}
+use Rattle.sc_law_entries.specs.history.HistoryDefinitions.{Holding, Holdings, RequestOf, Move, Unmoved, ServedBy, DividedAt, JoinedTo, GivenFrom, TakenUpTo, MayMakeAll, MovesKeepHistories, MovesMakeHistories, AreBare, MatchesHoldings, with_holding, holdings_after, holdings_after_all, history_by, entries_by}
 use Rattle.sc_law_entries.proofs.HistoryProofs.Disjoint.{IsGood, SharesOut, shared_disjoint, shared_told}
 use Rattle.sc_law_entries.proofs.HistoryProofs.Shares.{divided, joined_up, given, taken}
 use Rattle.sc_law_entries.proofs.HistoryProofs.Serving.{served_kept}
 use Rattle.sc_law_entries.proofs.HistoryProofs.StoreAdditions.{entry_later}
 use Rattle.std.proofs.lemmas.Option.{none-some}
-use Rattle.sc_meaning.proofs.EntriesProofs.Lemmas.{part_of_nothing as empty_part}
+use Rattle.sc_meaning.proofs.EntriesProofs.EntryLemmas.{part_of_nothing as empty_part}
 
 -- ---- one move
 

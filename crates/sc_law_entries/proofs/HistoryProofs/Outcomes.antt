@@ -12,9 +12,9 @@ use Rattle.sc_words.specs.declared.commands.cores.Lock.{Lock}
 use Rattle.sc_words.specs.declared.commands.cores.Lock.TheVariants.{Free, Coordinating, Promised, Watching}
 use Rattle.sc_words.specs.declared.commands.votes.Outcome.{Outcome}
 use Rattle.sc_words.specs.declared.commands.votes.Outcome.TheVariants.{Abort}
-use Rattle.sc_group_table.specs.machine.Definitions.{Group, applied, locked_in}
+use Rattle.sc_group_table.specs.machine.MachineDefinitions.{Group, applied, locked_in}
 use Rattle.sc_meaning.specs.declared.entries.Transaction.{Transaction}
-use Rattle.sc_meaning.specs.entries.Definitions.{amended, concluded, decision, is_of, transaction_in, with_outcome, with_watcher, after_outcome, effective_by, is_commit}
+use Rattle.sc_meaning.specs.entries.EntryDefinitions.{amended, concluded, decision, is_of, transaction_in, with_outcome, with_watcher, after_outcome, effective_by, is_commit}
 
 -- the commit in what was decided, if it is one
 abbrev pub commit_in : Option Outcome → Option Outcome

@@ -16,11 +16,11 @@ use Rattle.sc_words.specs.declared.commands.cores.Lock.TheVariants.{Promised}
 use Rattle.sc_words.specs.declared.commands.effects.Effect.TheVariants.{NoEffect}
 use Rattle.sc_words.specs.declared.commands.votes.Outcome.{Outcome}
 use Rattle.sc_words.specs.declared.commands.votes.Outcome.TheVariants.{Moved, Migrated}
-use Rattle.sc_words.specs.ideal.Definitions.{Contents, holds_key, part_of}
-use Rattle.sc_words.proofs.IdealProofs.Lemmas.{get-part}
-use Rattle.sc_group_table.specs.machine.Definitions.{can_gain, finished, gained_group, lost_group, participant_after, settled_in, welcomed_group, Group, can_cut, can_join, has_key_of, part_gift}
-use Rattle.sc_meaning.specs.entries.Definitions.{after_outcome}
-use Rattle.sc_law_entries.specs.history.Definitions.{holding_of, part_from, with_previous}
+use Rattle.sc_words.specs.ideal.IdealDefinitions.{Contents, holds_key, part_of}
+use Rattle.sc_words.proofs.IdealProofs.IdealLemmas.{get-part}
+use Rattle.sc_group_table.specs.machine.MachineDefinitions.{can_gain, finished, gained_group, lost_group, participant_after, settled_in, welcomed_group, Group, can_cut, can_join, has_key_of, part_gift}
+use Rattle.sc_meaning.specs.entries.EntryDefinitions.{after_outcome}
+use Rattle.sc_law_entries.specs.history.HistoryDefinitions.{holding_of, part_from, with_previous}
 use Rattle.sc_law_entries.proofs.HistoryProofs.PlanHoldings.{plans_move}
 
 -- ---- tests of arcs

@@ -7,15 +7,15 @@ use Rattle.sc_words.specs.declared.commands.cores.Lock.{Lock}
 use Rattle.sc_words.specs.declared.commands.cores.Lock.TheVariants.{Free, Coordinating, Promised, Watching}
 use Rattle.sc_words.specs.declared.commands.votes.Frozen.{Frozen}
 use Rattle.sc_words.specs.declared.commands.votes.Outcome.{Outcome}
-use Rattle.sc_group_table.specs.machine.Definitions.{Group, locked_in}
+use Rattle.sc_group_table.specs.machine.MachineDefinitions.{Group, locked_in}
 use Rattle.sc_meaning.specs.declared.entries.Transaction.{Transaction}
-use Rattle.sc_meaning.specs.entries.Definitions.{concluded, after_outcome, effective_by, StoreWorld, named_group}
-use Rattle.sc_law_entries.specs.history.Definitions.{holding_of, IsItsOwn, IsParty, holdings_in}
+use Rattle.sc_meaning.specs.entries.EntryDefinitions.{concluded, after_outcome, effective_by, StoreWorld, named_group}
+use Rattle.sc_law_entries.specs.history.HistoryDefinitions.{holding_of, IsItsOwn, IsParty, holdings_in}
 use Rattle.sc_law_entries.proofs.HistoryProofs.Elsewhere.{held_by, holds_own}
 use Rattle.sc_law_entries.proofs.HistoryProofs.Finishing.{coordinating_held, free_held, promised_held, watching_held}
 use Rattle.sc_law_entries.proofs.HistoryProofs.Outcomes.{commit_in, other_concluded, own_concluded, same_party}
 use Rattle.sc_law_entries.proofs.HistoryProofs.Staying.{none_committed}
-use Rattle.sc_meaning.proofs.EntriesProofs.Lemmas.{draw_cases}
+use Rattle.sc_meaning.proofs.EntriesProofs.EntryLemmas.{draw_cases}
 
 -- who has not promised in a transaction holds the same whatever it comes to
 pub others_held : (transactions : List Transaction) (tx coordinator : Draw) (outcome : Outcome) (group : Group) (lock : Lock) → group.core.lock ≡ lock → ((offer : Offer) → lock ≡ Promised tx offer → ⊥)

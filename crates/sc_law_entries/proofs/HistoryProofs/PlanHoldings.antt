@@ -5,10 +5,10 @@ use Rattle.std.specs.FinMap.{empty, entries}
 use Rattle.sc_base.specs.Definitions.{Arc, before, from, holds, joined}
 use Rattle.sc_base.specs.declared.names.Draw.{Draw}
 use Rattle.sc_words.specs.declared.commands.bodies.Offer.{Offer}
-use Rattle.sc_words.specs.ideal.Definitions.{ClientTable, joined_with, Contents, part_of, with_pairs}
-use Rattle.sc_group_table.specs.machine.Definitions.{Group}
+use Rattle.sc_words.specs.ideal.IdealDefinitions.{ClientTable, joined_with, Contents, part_of, with_pairs}
+use Rattle.sc_group_table.specs.machine.MachineDefinitions.{Group}
 use Rattle.sc_group_table.proofs.MachineProofs.Lemmas.{clients_again, pairs_again}
-use Rattle.sc_law_entries.specs.history.Definitions.{Holding, DividesHolding, GivesHolding, PlansAreMoves, TakesHolding}
+use Rattle.sc_law_entries.specs.history.HistoryDefinitions.{Holding, DividesHolding, GivesHolding, PlansAreMoves, TakesHolding}
 
 abbrev held : Arc → Contents → ClientTable → Holding
 held arc pairs clients = record { arc = arc; pairs = pairs; clients = clients }

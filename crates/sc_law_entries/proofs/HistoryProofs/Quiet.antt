@@ -4,11 +4,11 @@ use Rattle.sc_words.specs.declared.commands.commands.Command.{Command}
 use Rattle.sc_words.specs.declared.commands.commands.Command.TheVariants.{Noop, Call, Join, Leave}
 use Rattle.sc_words.specs.declared.commands.cores.Core.{Core}
 use Rattle.sc_words.specs.declared.commands.effects.Effect.{Effect}
-use Rattle.sc_group_table.specs.machine.Definitions.{Group}
-use Rattle.sc_meaning.specs.entries.Definitions.{birth_of, transactions_after, ring_after}
+use Rattle.sc_group_table.specs.machine.MachineDefinitions.{Group}
+use Rattle.sc_meaning.specs.entries.EntryDefinitions.{birth_of, transactions_after, ring_after}
 use Rattle.sc_meaning.specs.declared.entries.Cut.{Cut}
 use Rattle.sc_meaning.specs.declared.entries.Transaction.{Transaction}
-use Rattle.sc_law_entries.specs.history.Definitions.{LeavesWhole}
+use Rattle.sc_law_entries.specs.history.HistoryDefinitions.{LeavesWhole}
 
 -- no group is created
 pub no_birth : (group : Group) (c : Command) (effect : Effect) → LeavesWhole c → birth_of group c effect ≡ None

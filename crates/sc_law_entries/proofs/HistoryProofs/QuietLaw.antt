@@ -8,15 +8,15 @@ use Rattle.sc_base.specs.Definitions.{Among, Each, Arc, holds}
 use Rattle.sc_base.specs.declared.names.Draw.{Draw}
 use Rattle.sc_base.proofs.Lemmas.{map-some, draw_is}
 use Rattle.sc_words.specs.declared.commands.cores.Base.{Base}
-use Rattle.sc_words.specs.ideal.Definitions.{contents_after, part_of, with_pairs, joined_with}
-use Rattle.sc_group_table.specs.machine.Definitions.{Group, group_of}
+use Rattle.sc_words.specs.ideal.IdealDefinitions.{contents_after, part_of, with_pairs, joined_with}
+use Rattle.sc_group_table.specs.machine.MachineDefinitions.{Group, group_of}
 use Rattle.sc_meaning.specs.declared.entries.Cut.{Cut}
 use Rattle.sc_meaning.specs.declared.entries.LogEntry.{LogEntry}
-use Rattle.sc_meaning.specs.entries.Definitions.{Covers, arc_in, first_cut, is_cut_of, StoreWorld, first_world, is_named, named_group, world_of}
-use Rattle.sc_meaning.proofs.EntriesProofs.Lemmas.{world_append}
-use Rattle.sc_words.proofs.PaxosProofs.Lemmas.{find_found, Each-split, one_of_name}
+use Rattle.sc_meaning.specs.entries.EntryDefinitions.{Covers, arc_in, first_cut, is_cut_of, StoreWorld, first_world, is_named, named_group, world_of}
+use Rattle.sc_meaning.proofs.EntriesProofs.EntryLemmas.{world_append}
+use Rattle.sc_words.proofs.PaxosProofs.PaxosLemmas.{find_found, Each-split, one_of_name}
 use Rattle.sc_paxos_law.proofs.Lemmas.{from_map}
-use Rattle.sc_law_entries.specs.history.Definitions.{Holding, RequestOf, AreBare, HasNotes, MatchesHoldings, holding_of, BeginBare, IsQuiet, HistoryMatchesWorld, QuietEntriesMakeHistory, holdings_in}
+use Rattle.sc_law_entries.specs.history.HistoryDefinitions.{Holding, RequestOf, AreBare, HasNotes, MatchesHoldings, holding_of, BeginBare, IsQuiet, HistoryMatchesWorld, QuietEntriesMakeHistory, holdings_in}
 use Rattle.sc_law_entries.proofs.HistoryProofs.MovesKept.{bare_told}
 use Rattle.sc_law_entries.proofs.HistoryProofs.Cuts.{cut_of}
 use Rattle.sc_law_entries.proofs.HistoryProofs.Holdings.{IsOnRing}

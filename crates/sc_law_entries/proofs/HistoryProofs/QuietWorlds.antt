@@ -11,20 +11,20 @@ use Rattle.sc_words.specs.declared.commands.cores.Core.{Core}
 use Rattle.sc_words.specs.declared.commands.cores.Lock.{Lock}
 use Rattle.sc_words.specs.declared.commands.cores.Lock.TheVariants.{Free}
 use Rattle.sc_words.specs.declared.commands.effects.Effect.{Effect}
-use Rattle.sc_words.specs.ideal.Definitions.{ClientTable, HasEntry}
+use Rattle.sc_words.specs.ideal.IdealDefinitions.{ClientTable, HasEntry}
 use Rattle.sc_words.specs.declared.ideal.Entry.{Entry}
-use Rattle.sc_group_table.specs.machine.Definitions.{Group, entry_of, applied, done, ordered, refusal_of, with_node, without_node}
+use Rattle.sc_group_table.specs.machine.MachineDefinitions.{Group, entry_of, applied, done, ordered, refusal_of, with_node, without_node}
 use Rattle.sc_meaning.specs.declared.entries.LogEntry.{LogEntry}
-use Rattle.sc_meaning.specs.entries.Definitions.{effective, effective_by, arc_in, first_cut, birth_of, StoreWorld, after_command, named_group, recorded, with_result, world_after}
+use Rattle.sc_meaning.specs.entries.EntryDefinitions.{effective, effective_by, arc_in, first_cut, birth_of, StoreWorld, after_command, named_group, recorded, with_result, world_after}
 use Rattle.sc_law_entries.proofs.HistoryProofs.Elsewhere.{own_group, here, there}
-use Rattle.sc_law_entries.specs.history.Definitions.{LeavesWhole, Holding, RequestOf, MayServe, MatchesHoldings, HasNotes, ServedBy, entries_by, holding_of, holdings_after, request_entry, with_request, holdings_in, IsAskedCall, IsQuiet}
+use Rattle.sc_law_entries.specs.history.HistoryDefinitions.{LeavesWhole, Holding, RequestOf, MayServe, MatchesHoldings, HasNotes, ServedBy, entries_by, holding_of, holdings_after, request_entry, with_request, holdings_in, IsAskedCall, IsQuiet}
 use Rattle.sc_law_entries.proofs.HistoryProofs.Disjoint.{holding_here, holding_there}
 use Rattle.sc_law_entries.proofs.HistoryProofs.Logs.{OnlyMembers, ordered_either}
 use Rattle.sc_law_entries.proofs.HistoryProofs.MovesKept.{move_kept, same_told}
 use Rattle.sc_law_entries.proofs.HistoryProofs.Quiet.{no_birth, same_transactions, same_ring}
 use Rattle.sc_law_entries.proofs.HistoryProofs.Requests.{TakesEffect, request_cases}
 use Rattle.sc_law_entries.proofs.HistoryProofs.StoreAdditions.{entry_later}
-use Rattle.sc_meaning.proofs.EntriesProofs.Lemmas.{draw_cases}
+use Rattle.sc_meaning.proofs.EntriesProofs.EntryLemmas.{draw_cases}
 
 -- ---- without transactions the effective record is the group's own
 

@@ -7,11 +7,11 @@ use Rattle.std.proofs.lemmas.Bool.{cases_Bool, cond-true, cond-false, not-true}
 use Rattle.sc_base.specs.Definitions.{Arc, before, from, same_draw}
 use Rattle.sc_base.specs.declared.names.Draw.{Draw}
 use Rattle.sc_base.proofs.Lemmas.{draw_is, same_name}
-use Rattle.sc_words.proofs.PaxosProofs.Lemmas.{find_filter, find_nothing, Each-passes, Each-weaker}
+use Rattle.sc_words.proofs.PaxosProofs.PaxosLemmas.{find_filter, find_nothing, Each-passes, Each-weaker}
 use Rattle.sc_meaning.specs.declared.entries.Cut.{Cut}
 use Rattle.sc_meaning.specs.declared.entries.Division.{Division}
-use Rattle.sc_meaning.specs.entries.Definitions.{arc_in, is_cut_of, parts_of, recut}
-use Rattle.sc_meaning.proofs.EntriesProofs.Lemmas.{other_name}
+use Rattle.sc_meaning.specs.entries.EntryDefinitions.{arc_in, is_cut_of, parts_of, recut}
+use Rattle.sc_meaning.proofs.EntriesProofs.EntryLemmas.{other_name}
 
 -- whether a group has a cut
 abbrev pub has_arc : Draw → List Cut → Bool

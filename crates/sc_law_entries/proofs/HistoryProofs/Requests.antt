@@ -4,15 +4,15 @@ use Rattle.std.specs.FinMap.{get}
 use Rattle.std.proofs.lemmas.Bool.{cond_both, ltb-true}
 use Rattle.sc_base.specs.declared.ops.Noted.{Noted}
 use Rattle.sc_base.specs.declared.ops.Op.{Op}
-use Rattle.sc_words.specs.ideal.Definitions.{key_of, holds_key}
+use Rattle.sc_words.specs.ideal.IdealDefinitions.{key_of, holds_key}
 use Rattle.sc_words.specs.declared.commands.links.Route.{Route}
 use Rattle.sc_words.specs.declared.commands.cores.Lock.{Lock}
 use Rattle.sc_words.specs.declared.commands.cores.Lock.TheVariants.{Free, Coordinating, Promised, Watching}
 use Rattle.sc_words.specs.declared.commands.commands.Command.TheVariants.{Call}
 use Rattle.sc_words.specs.declared.commands.effects.Effect.{Effect}
 use Rattle.sc_words.specs.declared.commands.effects.Effect.TheVariants.{Again, Stale, NotMine, Gone, NoEffect}
-use Rattle.sc_group_table.specs.machine.Definitions.{Group, entry_by, applied, done, served_by_note, served, called}
-use Rattle.sc_meaning.specs.entries.Definitions.{is_open}
+use Rattle.sc_group_table.specs.machine.MachineDefinitions.{Group, entry_by, applied, done, served_by_note, served, called}
+use Rattle.sc_meaning.specs.entries.EntryDefinitions.{is_open}
 
 -- the group is open and not gone, its arc holds the key, and what is noted of the client is lower
 pub record TakesEffect (group : Group) (client seq : ℕ) (op : Op) : Type 0 where

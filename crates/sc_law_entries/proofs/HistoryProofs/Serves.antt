@@ -9,17 +9,17 @@ use Rattle.sc_words.specs.declared.commands.commands.Command.TheVariants.{Call}
 use Rattle.sc_words.specs.declared.commands.cores.Lock.{Lock}
 use Rattle.sc_words.specs.declared.commands.cores.Lock.TheVariants.{Free, Coordinating, Promised, Watching}
 use Rattle.sc_words.specs.declared.commands.effects.Effect.{Effect}
-use Rattle.sc_words.specs.ideal.Definitions.{key_of, holds_key}
-use Rattle.sc_group_table.specs.machine.Definitions.{Group, applied, done}
+use Rattle.sc_words.specs.ideal.IdealDefinitions.{key_of, holds_key}
+use Rattle.sc_group_table.specs.machine.MachineDefinitions.{Group, applied, done}
 use Rattle.sc_meaning.specs.declared.entries.Transaction.{Transaction}
-use Rattle.sc_meaning.specs.entries.Definitions.{is_open, StoreWorld, named_group, with_result}
-use Rattle.sc_law_entries.specs.history.Definitions.{RequestOf, ServedBy, holding_of, request_entry, with_request, MayCall, holdings_in}
+use Rattle.sc_meaning.specs.entries.EntryDefinitions.{is_open, StoreWorld, named_group, with_result}
+use Rattle.sc_law_entries.specs.history.HistoryDefinitions.{RequestOf, ServedBy, holding_of, request_entry, with_request, MayCall, holdings_in}
 use Rattle.sc_law_entries.proofs.HistoryProofs.Disjoint.{holding_here, holding_there}
 use Rattle.sc_law_entries.proofs.HistoryProofs.Elsewhere.{elsewhere, held_by, held_some, here, own_group, tables_from, holds_own}
 use Rattle.sc_law_entries.proofs.HistoryProofs.Finishing.{free_held, watching_held}
 use Rattle.sc_law_entries.proofs.HistoryProofs.Requests.{TakesEffect, request_cases}
 use Rattle.sc_law_entries.proofs.HistoryProofs.Staying.{Goes, idles}
-use Rattle.sc_meaning.proofs.EntriesProofs.Lemmas.{draw_cases}
+use Rattle.sc_meaning.proofs.EntriesProofs.EntryLemmas.{draw_cases}
 
 -- an open group holds what its own log says
 open_held : (lock : Lock) (transactions : List Transaction) (group : Group) → group.core.lock ≡ lock → is_open lock ≡ true → held_by transactions group ≡ holding_of group

@@ -10,17 +10,17 @@ use Rattle.sc_base.specs.declared.names.Draw.{Draw}
 use Rattle.sc_base.specs.declared.ops.Noted.{Noted}
 use Rattle.sc_base.specs.declared.ops.Op.{Op}
 use Rattle.sc_base.specs.declared.ops.Reply.{Reply}
-use Rattle.sc_words.specs.ideal.Definitions.{AreApart, HasEntry, contents_after, Contents, key_of, reply_of, after, holds_key, part_of}
+use Rattle.sc_words.specs.ideal.IdealDefinitions.{AreApart, HasEntry, contents_after, Contents, key_of, reply_of, after, holds_key, part_of}
 use Rattle.sc_words.specs.declared.ideal.Entry.{Entry}
-use Rattle.sc_words.proofs.IdealProofs.Lemmas.{apart, get-part}
+use Rattle.sc_words.proofs.IdealProofs.IdealLemmas.{apart, get-part}
 use Rattle.sc_paxos_law.proofs.Lemmas.{Among-right, Among-either}
-use Rattle.sc_law_entries.specs.history.Definitions.{Holding, Holdings, RequestOf, MayServe, MatchesHoldings, IsReportedOf, IsNotedIn, with_request, with_holding, holdings_after, entries_by, AreDisjoint, ServedBy, request_entry}
+use Rattle.sc_law_entries.specs.history.HistoryDefinitions.{Holding, Holdings, RequestOf, MayServe, MatchesHoldings, IsReportedOf, IsNotedIn, with_request, with_holding, holdings_after, entries_by, AreDisjoint, ServedBy, request_entry}
 use Rattle.sc_law_entries.proofs.HistoryProofs.Disjoint.{holding_here, holding_there}
 use Rattle.sc_law_entries.proofs.HistoryProofs.Holdings.{IsOnRing}
 use Rattle.sc_law_entries.proofs.HistoryProofs.Kept.{IsApart, all_pairs, apart_push}
 use Rattle.sc_law_entries.proofs.HistoryProofs.StoreAdditions.{replay_push, after_push, entry_later}
-use Rattle.sc_meaning.proofs.EntriesProofs.Lemmas.{draw_cases}
-use Rattle.sc_words.proofs.PaxosProofs.Lemmas.{Each-from_All}
+use Rattle.sc_meaning.proofs.EntriesProofs.EntryLemmas.{draw_cases}
+use Rattle.sc_words.proofs.PaxosProofs.PaxosLemmas.{Each-from_All}
 use Rattle.sc_base.proofs.Lemmas.{AllPairs-head, AllPairs-tail}
 
 -- entries that are apart, one by one

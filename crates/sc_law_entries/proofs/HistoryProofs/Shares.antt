@@ -4,7 +4,7 @@ use Rattle.std.specs.Option.{option_map}
 use Rattle.sc_base.specs.Definitions.{before, from, holds}
 use Rattle.sc_base.specs.declared.names.Draw.{Draw}
 use Rattle.sc_words.specs.declared.ideal.Entry.{Entry}
-use Rattle.sc_law_entries.specs.history.Definitions.{Holding, Holdings, AreDisjoint, IsReportedOf, IsBetween, MayDivide, CanFollow, CanGive, CanTake, part_before, part_from, with_next, with_previous, both_holdings}
+use Rattle.sc_law_entries.specs.history.HistoryDefinitions.{Holding, Holdings, AreDisjoint, IsReportedOf, IsBetween, MayDivide, CanFollow, CanGive, CanTake, part_before, part_from, with_next, with_previous, both_holdings}
 use Rattle.sc_law_entries.proofs.HistoryProofs.Holdings.{IsOnRing, before_arc, from_arc, parts_apart, before_told, from_told, joined_from, joined_arc, next_told, previous_told}
 use Rattle.sc_law_entries.proofs.HistoryProofs.Disjoint.{HoldsAt, IsGood, SharesOut, owner}
 use Rattle.std.proofs.lemmas.Option.{none-some, same_Some}

@@ -17,15 +17,15 @@ use Rattle.sc_words.specs.declared.commands.orders.OrderRefusal.{OrderRefusal}
 use Rattle.sc_words.specs.declared.commands.orders.OrderRefusal.TheVariants.{NotLeader}
 use Rattle.sc_words.specs.declared.commands.votes.No.{No}
 use Rattle.sc_words.specs.declared.commands.votes.Outcome.{Outcome}
-use Rattle.sc_group_table.specs.machine.Definitions.{Group, entry_of, applied, ordered, refusal_of, with_node, without_node, has_named, aborted, begun_group, is_coordinating, bound_by, has_voted, offer_no, past_of, vote_of, voted_on, watch_no, watch_vote_of}
-use Rattle.sc_meaning.specs.entries.Definitions.{birth_of, begun_transaction, decision, is_commit, arc_in, ring_after, StoreWorld, named_group, with_result}
+use Rattle.sc_group_table.specs.machine.MachineDefinitions.{Group, entry_of, applied, ordered, refusal_of, with_node, without_node, has_named, aborted, begun_group, is_coordinating, bound_by, has_voted, offer_no, past_of, vote_of, voted_on, watch_no, watch_vote_of}
+use Rattle.sc_meaning.specs.entries.EntryDefinitions.{birth_of, begun_transaction, decision, is_commit, arc_in, ring_after, StoreWorld, named_group, with_result}
 use Rattle.sc_meaning.specs.declared.entries.Transaction.{Transaction}
-use Rattle.sc_law_entries.specs.history.Definitions.{RequestOf, Unmoved, holding_of, HasKnownTable, IsMoveTo, IsUncommitted}
+use Rattle.sc_law_entries.specs.history.HistoryDefinitions.{RequestOf, Unmoved, holding_of, HasKnownTable, IsMoveTo, IsUncommitted}
 use Rattle.sc_law_entries.proofs.HistoryProofs.Elsewhere.{elsewhere, held_by, itself, same_table, tables_from}
 use Rattle.sc_law_entries.proofs.HistoryProofs.Finishing.{coordinator_held, free_held, promised_held, votes_held, watching_held, with_votes}
 use Rattle.sc_law_entries.proofs.HistoryProofs.Outcomes.{abort_concluded, commit_in, one_begun, same_party}
-use Rattle.sc_meaning.proofs.EntriesProofs.Lemmas.{draw_cases}
-pub use Rattle.sc_law_walks.proofs.Lemmas.{free_by, yes_free as free_by_no}
+use Rattle.sc_meaning.proofs.EntriesProofs.EntryLemmas.{draw_cases}
+pub use Rattle.sc_law_walks.proofs.WalkLemmas.{free_by, yes_free as free_by_no}
 
 -- ---- what is decided, by commits
 

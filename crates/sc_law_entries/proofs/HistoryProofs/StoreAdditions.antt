@@ -8,7 +8,7 @@ use Rattle.sc_base.specs.declared.names.Draw.{Draw}
 use Rattle.sc_base.specs.declared.ops.Op.{Op}
 use Rattle.sc_base.specs.declared.ops.Reply.{Reply}
 use Rattle.sc_base.specs.declared.ops.Noted.{Noted}
-use Rattle.sc_words.specs.ideal.Definitions.{Contents, key_of, reply_of, after, holds_key, HasEntry, HasStoreReplies, contents_after}
+use Rattle.sc_words.specs.ideal.IdealDefinitions.{Contents, key_of, reply_of, after, holds_key, HasEntry, HasStoreReplies, contents_after}
 use Rattle.sc_words.specs.declared.ideal.Entry.{Entry}
 use Rattle.sc_words.specs.declared.commands.links.Route.{Route}
 use Rattle.sc_words.specs.declared.commands.cores.Lock.{Lock}
@@ -17,11 +17,11 @@ use Rattle.sc_words.specs.declared.commands.commands.Command.{Command}
 use Rattle.sc_words.specs.declared.commands.commands.Command.TheVariants.{Noop, Call, Join, Leave}
 use Rattle.sc_words.specs.declared.commands.effects.Effect.{Effect}
 use Rattle.sc_words.specs.declared.commands.effects.Effect.TheVariants.{Done, Again, Stale, NotMine, Gone, NoEffect}
-use Rattle.sc_group_table.specs.machine.Definitions.{Group, applied, done, served_by_note, served, called, refusal_of, with_node, without_node, state_after, entry_by, entry_of, done_by}
+use Rattle.sc_group_table.specs.machine.MachineDefinitions.{Group, applied, done, served_by_note, served, called, refusal_of, with_node, without_node, state_after, entry_by, entry_of, done_by}
 use Rattle.sc_base.specs.Definitions.{Among, Each}
-use Rattle.sc_words.proofs.PaxosProofs.Lemmas.{Each-among}
+use Rattle.sc_words.proofs.PaxosProofs.PaxosLemmas.{Each-among}
 use Rattle.sc_paxos_law.proofs.Lemmas.{Among-left, Among-right, Among-either}
-use Rattle.sc_law_entries.specs.history.Definitions.{HoldsNothing, IsNoted, IsReplied, IsDone, LeavesWhole, LogsMakeHistories}
+use Rattle.sc_law_entries.specs.history.HistoryDefinitions.{HoldsNothing, IsNoted, IsReplied, IsDone, LeavesWhole, LogsMakeHistories}
 use Rattle.sc_group_table.proofs.MachineProofs.Lemmas.{done_push}
 use Rattle.sc_law_entries.proofs.HistoryProofs.Logs.{ordered_either}
 use Rattle.sc_law_entries.proofs.HistoryProofs.Kept.{IsApart, all_pairs, apart_push, apart_right}

@@ -4,10 +4,10 @@ use Rattle.std.proofs.Common.{◌≡◌, ℕ, ◌≤◌, List, Option, Some, Non
 use Rattle.std.proofs.lemmas.Bool.{cases_Bool, cond-true, cond-false, ltb-true, ltb-false}
 use Rattle.std.specs.FinMap.{get, entries}
 use Rattle.sc_base.specs.declared.ops.Noted.{Noted}
-use Rattle.sc_words.specs.ideal.Definitions.{ClientTable, joined_with, later}
+use Rattle.sc_words.specs.ideal.IdealDefinitions.{ClientTable, joined_with, later}
 use Rattle.sc_words.specs.declared.ideal.Entry.{Entry}
-use Rattle.sc_words.proofs.IdealProofs.Lemmas.{joined_by_number}
-use Rattle.sc_law_entries.specs.history.Definitions.{IsNotedIn, HasNotes}
+use Rattle.sc_words.proofs.IdealProofs.IdealLemmas.{joined_by_number}
+use Rattle.sc_law_entries.specs.history.HistoryDefinitions.{IsNotedIn, HasNotes}
 use Rattle.std.proofs.lemmas.Option.{none-some, same_Some}
 
 -- of two notes the later one is at no lower number than either

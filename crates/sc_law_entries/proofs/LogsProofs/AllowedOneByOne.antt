@@ -4,11 +4,11 @@ use Rattle.sc_base.specs.Definitions.{Each}
 use Rattle.sc_base.specs.declared.names.Draw.{Draw}
 use Rattle.sc_words.specs.declared.commands.commands.Command.{Command}
 use Rattle.sc_words.specs.declared.commands.cores.Base.{Base}
-use Rattle.sc_words.proofs.PaxosProofs.Lemmas.{Each-weaker}
+use Rattle.sc_words.proofs.PaxosProofs.PaxosLemmas.{Each-weaker}
 use Rattle.sc_meaning.specs.declared.entries.LogEntry.{LogEntry}
-use Rattle.sc_law_entries.specs.ring.Definitions.{Sources, IsAllowed, AreAllowed, StoryWorld, first_recorded, recorded_next, recorded_after, BeginInPlace, stories_of}
-use Rattle.sc_law_entries.proofs.RingProofs.Lemmas.{allowed_entries_stay_allowed, allowed_lists_append}
-use Rattle.sc_meaning.specs.sound.Definitions.{entries_from}
+use Rattle.sc_law_entries.specs.ring.RingDefinitions.{Sources, IsAllowed, AreAllowed, StoryWorld, first_recorded, recorded_next, recorded_after, BeginInPlace, stories_of}
+use Rattle.sc_law_entries.proofs.RingProofs.RingLemmas.{allowed_entries_stay_allowed, allowed_lists_append}
+use Rattle.sc_meaning.specs.sound.SoundDefinitions.{entries_from}
 use Rattle.sc_law_entries.proofs.LogsProofs.BirthsInLogs.{recorded_append}
 
 -- commands of one log that are allowed by the stories before the first of them may come one after another

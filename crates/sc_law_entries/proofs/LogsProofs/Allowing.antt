@@ -3,16 +3,16 @@ use Rattle.std.proofs.Common.{◌≡◌, List, [], ◌∷◌, ◌++◌, Some, in
 use Rattle.sc_base.specs.declared.names.Draw.{Draw}
 use Rattle.sc_words.specs.declared.commands.commands.Command.{Command}
 use Rattle.sc_words.specs.declared.commands.cores.Base.{Base}
-use Rattle.sc_group_table.specs.machine.Definitions.{Group, group_of, state_after, applied}
+use Rattle.sc_group_table.specs.machine.MachineDefinitions.{Group, group_of, state_after, applied}
 use Rattle.sc_meaning.specs.declared.entries.LogEntry.{LogEntry}
-use Rattle.sc_meaning.specs.entries.Definitions.{StoreWorld, first_world, named_group, world_of}
-use Rattle.sc_meaning.proofs.EntriesProofs.Lemmas.{world_append, draw_cases}
-use Rattle.sc_law_entries.specs.history.Definitions.{log_in}
-use Rattle.sc_law_entries.proofs.HistoryProofs.Lemmas.{heads, logs_make_states, other_first, own_first, parts_at}
-use Rattle.sc_law_entries.specs.ring.Definitions.{Sources, IsAllowed, AreAllowed, StoryWorld, first_recorded, recorded_stories, recorded_next, recorded_after, BeginInPlace, stories_of, stories_after}
-use Rattle.sc_law_entries.proofs.RingProofs.Lemmas.{allowed_entries_stay_allowed, entries_keep_the_promises, store_after}
-use Rattle.sc_meaning.specs.sound.Definitions.{entries_by_rows, entries_at}
-use Rattle.sc_law_entries.specs.logs.Definitions.{MakesAllowed, AllowedStaysAllowed, PrefixesAllow, StatesAllow}
+use Rattle.sc_meaning.specs.entries.EntryDefinitions.{StoreWorld, first_world, named_group, world_of}
+use Rattle.sc_meaning.proofs.EntriesProofs.EntryLemmas.{world_append, draw_cases}
+use Rattle.sc_law_entries.specs.history.HistoryDefinitions.{log_in}
+use Rattle.sc_law_entries.proofs.HistoryProofs.HistoryLemmas.{heads, logs_make_states, other_first, own_first, parts_at}
+use Rattle.sc_law_entries.specs.ring.RingDefinitions.{Sources, IsAllowed, AreAllowed, StoryWorld, first_recorded, recorded_stories, recorded_next, recorded_after, BeginInPlace, stories_of, stories_after}
+use Rattle.sc_law_entries.proofs.RingProofs.RingLemmas.{allowed_entries_stay_allowed, entries_keep_the_promises, store_after}
+use Rattle.sc_meaning.specs.sound.SoundDefinitions.{entries_by_rows, entries_at}
+use Rattle.sc_law_entries.specs.logs.LogDefinitions.{MakesAllowed, AllowedStaysAllowed, PrefixesAllow, StatesAllow}
 use Rattle.sc_law_entries.proofs.LogsProofs.BirthsInLogs.{recorded_append}
 use Rattle.sc_law_entries.proofs.LogsProofs.Generations.{group_found}
 use Rattle.sc_law_entries.proofs.LogsProofs.RowsInTwoParts.{entries_parts}

@@ -16,11 +16,11 @@ use Rattle.sc_words.specs.declared.commands.votes.Heard.{Heard}
 use Rattle.sc_words.specs.declared.commands.votes.Outcome.{Outcome}
 use Rattle.sc_words.specs.declared.commands.votes.Past.{Past}
 use Rattle.sc_words.specs.declared.commands.votes.Vote.{Vote}
-use Rattle.sc_words.specs.commands.Definitions.{decided_in}
-use Rattle.sc_group_table.specs.machine.Definitions.{Group, applied, asks_watcher, participant_answered, vote_recorded, watch_answered, watch_recorded, is_coordinating, aborted}
-use Rattle.sc_law_entries.specs.ring.Definitions.{Sources, Groups, Facts, IsCoordinating, IsPromised, LockOk, Story, Stories, with_story, with_answer, with_decision, with_watch_vote, watch_vote_in}
-use Rattle.sc_law_entries.proofs.RingProofs.Lemmas.{at-same}
-use Rattle.sc_law_entries.specs.logs.Definitions.{GroupAllows, EndsBy, GroupsAllowOthers}
+use Rattle.sc_words.specs.commands.CommandDefinitions.{decided_in}
+use Rattle.sc_group_table.specs.machine.MachineDefinitions.{Group, applied, asks_watcher, participant_answered, vote_recorded, watch_answered, watch_recorded, is_coordinating, aborted}
+use Rattle.sc_law_entries.specs.ring.RingDefinitions.{Sources, Groups, Facts, IsCoordinating, IsPromised, LockOk, Story, Stories, with_story, with_answer, with_decision, with_watch_vote, watch_vote_in}
+use Rattle.sc_law_entries.proofs.RingProofs.RingLemmas.{at-same}
+use Rattle.sc_law_entries.specs.logs.LogDefinitions.{GroupAllows, EndsBy, GroupsAllowOthers}
 
 -- who decides a transaction coordinates it
 abbrev Coordinates : Lock → Draw → Type 0

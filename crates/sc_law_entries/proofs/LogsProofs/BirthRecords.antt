@@ -7,10 +7,10 @@ use Rattle.sc_base.specs.declared.names.Draw.{Draw}
 use Rattle.sc_base.proofs.Lemmas.{same_name, draw_is}
 use Rattle.sc_words.specs.declared.commands.cores.Base.{Base}
 use Rattle.sc_paxos_law.proofs.Lemmas.{Among-left, Among-right, Among-either}
-use Rattle.sc_words.proofs.PaxosProofs.Lemmas.{Each-append, Each-among}
-use Rattle.sc_meaning.proofs.EntriesProofs.Lemmas.{other_name}
-use Rattle.sc_law_entries.proofs.RingProofs.Lemmas.{Pairwise}
-use Rattle.sc_meaning.specs.sound.Definitions.{is_birth_of, with_birth}
+use Rattle.sc_words.proofs.PaxosProofs.PaxosLemmas.{Each-append, Each-among}
+use Rattle.sc_meaning.proofs.EntriesProofs.EntryLemmas.{other_name}
+use Rattle.sc_law_entries.proofs.RingProofs.RingLemmas.{Pairwise}
+use Rattle.sc_meaning.specs.sound.SoundDefinitions.{is_birth_of, with_birth}
 
 -- ---- lists
 

@@ -7,15 +7,15 @@ use Rattle.sc_words.specs.declared.commands.commands.Command.{Command}
 use Rattle.sc_words.specs.declared.commands.cores.Base.{Base}
 use Rattle.sc_words.specs.declared.commands.effects.Effect.{Effect}
 use Rattle.sc_paxos_law.proofs.Lemmas.{Among-right}
-use Rattle.sc_group_table.specs.machine.Definitions.{Group, group_of, state_after, entry_of, done_by, applied, child_of}
-use Rattle.sc_meaning.specs.entries.Definitions.{birth_of, division_of, StoreWorld, after_command, named_group, recorded, world_after}
+use Rattle.sc_group_table.specs.machine.MachineDefinitions.{Group, group_of, state_after, entry_of, done_by, applied, child_of}
+use Rattle.sc_meaning.specs.entries.EntryDefinitions.{birth_of, division_of, StoreWorld, after_command, named_group, recorded, world_after}
 use Rattle.sc_meaning.specs.declared.entries.Division.{Division}
 use Rattle.sc_meaning.specs.declared.entries.LogEntry.{LogEntry}
-use Rattle.sc_law_entries.proofs.HistoryProofs.Lemmas.{logs_make_states, applied_same}
-use Rattle.sc_law_entries.specs.ring.Definitions.{Sources, IsAllowed, AreAllowed, StoryWorld, recorded_next, recorded_after, put, Groups}
-use Rattle.sc_law_entries.proofs.RingProofs.Lemmas.{at-same, at-other, arcs_in, groups_in, with_child, groups_are, KeptWorld, kept_on, fits, some_none}
-use Rattle.sc_meaning.proofs.EntriesProofs.Lemmas.{draw_cases, found_name}
-use Rattle.sc_meaning.specs.sound.Definitions.{children_of, entries_from}
+use Rattle.sc_law_entries.proofs.HistoryProofs.HistoryLemmas.{logs_make_states, applied_same}
+use Rattle.sc_law_entries.specs.ring.RingDefinitions.{Sources, IsAllowed, AreAllowed, StoryWorld, recorded_next, recorded_after, put, Groups}
+use Rattle.sc_law_entries.proofs.RingProofs.RingLemmas.{at-same, at-other, arcs_in, groups_in, with_child, groups_are, KeptWorld, kept_on, fits, some_none}
+use Rattle.sc_meaning.proofs.EntriesProofs.EntryLemmas.{draw_cases, found_name}
+use Rattle.sc_meaning.specs.sound.SoundDefinitions.{children_of, entries_from}
 use Rattle.sc_law_entries.proofs.LogsProofs.ChildrenInLogs.{log_of_own}
 use Rattle.std.proofs.lemmas.Option.{none-some, same_Some}
 

@@ -4,13 +4,13 @@ use Rattle.std.specs.Option.{option_to_list}
 use Rattle.sc_base.specs.Definitions.{Among}
 use Rattle.sc_base.specs.declared.names.Draw.{Draw}
 use Rattle.sc_words.specs.declared.commands.commands.Command.{Command}
-use Rattle.sc_group_table.specs.machine.Definitions.{Group, state_after, applied}
-use Rattle.sc_meaning.specs.entries.Definitions.{birth_of}
+use Rattle.sc_group_table.specs.machine.MachineDefinitions.{Group, state_after, applied}
+use Rattle.sc_meaning.specs.entries.EntryDefinitions.{birth_of}
 use Rattle.sc_meaning.specs.declared.entries.LogEntry.{LogEntry}
-use Rattle.sc_law_entries.specs.history.Definitions.{log_in}
-use Rattle.sc_law_entries.proofs.HistoryProofs.Lemmas.{other_first, own_first}
-use Rattle.sc_meaning.specs.sound.Definitions.{children_of, entries_from}
-use Rattle.sc_meaning.proofs.EntriesProofs.Lemmas.{draw_cases}
+use Rattle.sc_law_entries.specs.history.HistoryDefinitions.{log_in}
+use Rattle.sc_law_entries.proofs.HistoryProofs.HistoryLemmas.{other_first, own_first}
+use Rattle.sc_meaning.specs.sound.SoundDefinitions.{children_of, entries_from}
+use Rattle.sc_meaning.proofs.EntriesProofs.EntryLemmas.{draw_cases}
 
 -- the children of two parts of a log
 pub children_append : (group : Group) (log more : List Command) → children_of group (log ++ more) ≡ children_of group log ++ children_of (state_after group log) more

@@ -6,7 +6,7 @@ use Rattle.std.proofs.lemmas.Bool.{cases_Bool, or_parts}
 use Rattle.sc_base.specs.declared.names.Draw.{Draw}
 use Rattle.sc_base.specs.declared.ops.Op.{Op}
 use Rattle.sc_base.proofs.Lemmas.{draw_is}
-use Rattle.sc_words.specs.ideal.Definitions.{key_of}
+use Rattle.sc_words.specs.ideal.IdealDefinitions.{key_of}
 use Rattle.sc_words.specs.declared.commands.bodies.Body.{Body}
 use Rattle.sc_words.specs.declared.commands.bodies.Body.TheVariants as At
 use Rattle.sc_words.specs.declared.commands.bodies.Offer.{Offer}
@@ -23,15 +23,15 @@ use Rattle.sc_words.specs.declared.commands.votes.Outcome.TheVariants.{Abort, Mo
 use Rattle.sc_words.specs.declared.commands.votes.Past.{Past}
 use Rattle.sc_words.specs.declared.commands.votes.Vote.{Vote}
 use Rattle.sc_words.specs.declared.commands.votes.Vote.TheVariants as Ballot
-use Rattle.sc_group_table.specs.machine.Definitions.{Group, can_gain, gained_group, settled_in, party_freed, watcher_after, locked_in, has_key_of, is_locked_in, is_coordinating, has_voted}
+use Rattle.sc_group_table.specs.machine.MachineDefinitions.{Group, can_gain, gained_group, settled_in, party_freed, watcher_after, locked_in, has_key_of, is_locked_in, is_coordinating, has_voted}
 use Rattle.sc_meaning.specs.declared.entries.LogEntry.{LogEntry}
 use Rattle.sc_meaning.specs.declared.entries.Transaction.{Transaction}
-use Rattle.sc_meaning.specs.entries.Definitions.{decision, transaction_in, after_outcome, is_commit, arc_in, is_named, named_group}
-use Rattle.sc_law_entries.specs.ring.Definitions.{Sources, IsVoteCast, IsAllowed, AreAllowed, StoryWorld, recorded_next, Story, Stories, unsigned, offer_for, offer_with, Groups, has_born, has_decided, IsCoordinating, LockOk}
-use Rattle.sc_law_entries.proofs.RingProofs.Lemmas.{IsDeciding, own_is, mine_old, part_eff, promise_settled, apart_of, arcs_in, arc_of_cut, decisions, outcome_of, living, eff, arc_of, succ_of, view_of, Old, eff_by, eff_free, living_is, own_story, group_none, room_of, IsPair, pair_meets, Ends, unheard, sound_world, lock_free, watch_settled, groups_in, brief, story_brief, decision_is, KeptWorld, kept_on, some_none}
-use Rattle.sc_words.proofs.PaxosProofs.Lemmas.{find_found}
-use Rattle.sc_meaning.proofs.EntriesProofs.Lemmas.{found_name}
-use Rattle.sc_law_entries.specs.history.Definitions.{HasCut, IsUncommitted, MayCall, MaySplit, IsItsOwn, IsParty, MayHear, MayHearWatcher, MayFinish, MayExecute, AllMayBeApplied}
+use Rattle.sc_meaning.specs.entries.EntryDefinitions.{decision, transaction_in, after_outcome, is_commit, arc_in, is_named, named_group}
+use Rattle.sc_law_entries.specs.ring.RingDefinitions.{Sources, IsVoteCast, IsAllowed, AreAllowed, StoryWorld, recorded_next, Story, Stories, unsigned, offer_for, offer_with, Groups, has_born, has_decided, IsCoordinating, LockOk}
+use Rattle.sc_law_entries.proofs.RingProofs.RingLemmas.{IsDeciding, own_is, mine_old, part_eff, promise_settled, apart_of, arcs_in, arc_of_cut, decisions, outcome_of, living, eff, arc_of, succ_of, view_of, Old, eff_by, eff_free, living_is, own_story, group_none, room_of, IsPair, pair_meets, Ends, unheard, sound_world, lock_free, watch_settled, groups_in, brief, story_brief, decision_is, KeptWorld, kept_on, some_none}
+use Rattle.sc_words.proofs.PaxosProofs.PaxosLemmas.{find_found}
+use Rattle.sc_meaning.proofs.EntriesProofs.EntryLemmas.{found_name}
+use Rattle.sc_law_entries.specs.history.HistoryDefinitions.{HasCut, IsUncommitted, MayCall, MaySplit, IsItsOwn, IsParty, MayHear, MayHearWatcher, MayFinish, MayExecute, AllMayBeApplied}
 use Rattle.std.proofs.lemmas.Option.{none-some, same_Some}
 
 -- what a lock that coordinates a transaction is

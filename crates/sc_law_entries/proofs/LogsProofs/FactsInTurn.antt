@@ -10,19 +10,19 @@ use Rattle.sc_words.specs.declared.commands.orders.OrderLine.{OrderLine}
 use Rattle.sc_mail.specs.declared.bodies.Mail.{Mail}
 use Rattle.sc_actor.specs.declared.rows.Row.{Row}
 use Rattle.sc_words.specs.declared.ideal.Entry.{Entry}
-use Rattle.sc_group_table.specs.machine.Definitions.{Group, group_of, state_after, done_by}
-use Rattle.sc_words.proofs.PaxosProofs.Lemmas.{Each-among, Each-from, find_found}
-use Rattle.sc_meaning.specs.sound.Definitions.{Ahead, children_of, birth_at, entries_from, entries_at, world_at, decided_log, decided_state}
+use Rattle.sc_group_table.specs.machine.MachineDefinitions.{Group, group_of, state_after, done_by}
+use Rattle.sc_words.proofs.PaxosProofs.PaxosLemmas.{Each-among, Each-from, find_found}
+use Rattle.sc_meaning.specs.sound.SoundDefinitions.{Ahead, children_of, birth_at, entries_from, entries_at, world_at, decided_log, decided_state}
 use Rattle.sc_meaning.specs.declared.entries.Cut.{Cut}
 use Rattle.sc_meaning.specs.declared.entries.LogEntry.{LogEntry}
-use Rattle.sc_meaning.specs.entries.Definitions.{first_cut, StoreWorld, first_world, is_named, named_group, world_after, world_of}
-use Rattle.sc_meaning.proofs.EntriesProofs.Lemmas.{world_append, found_name, draw_cases}
-use Rattle.sc_law_entries.specs.history.Definitions.{log_in}
-use Rattle.sc_law_entries.proofs.HistoryProofs.Lemmas.{logs_make_states, calls_of}
+use Rattle.sc_meaning.specs.entries.EntryDefinitions.{first_cut, StoreWorld, first_world, is_named, named_group, world_after, world_of}
+use Rattle.sc_meaning.proofs.EntriesProofs.EntryLemmas.{world_append, found_name, draw_cases}
+use Rattle.sc_law_entries.specs.history.HistoryDefinitions.{log_in}
+use Rattle.sc_law_entries.proofs.HistoryProofs.HistoryLemmas.{logs_make_states, calls_of}
 use Rattle.sc_paxos_law.proofs.Lemmas.{from_map}
-use Rattle.sc_law_entries.proofs.RingProofs.Lemmas.{store_after, Pairwise, map_among, some_none, at_start, KeptWorld, kept_after}
-use Rattle.sc_law_entries.specs.ring.Definitions.{Sources, IsAllowed, AreAllowed, StoryWorld, first_recorded, recorded_after, BeginInPlace}
-use Rattle.sc_law_entries.specs.logs.Definitions.{Rows, Descends, IsFound, added_by, newborn_by}
+use Rattle.sc_law_entries.proofs.RingProofs.RingLemmas.{store_after, Pairwise, map_among, some_none, at_start, KeptWorld, kept_after}
+use Rattle.sc_law_entries.specs.ring.RingDefinitions.{Sources, IsAllowed, AreAllowed, StoryWorld, first_recorded, recorded_after, BeginInPlace}
+use Rattle.sc_law_entries.specs.logs.LogDefinitions.{Rows, Descends, IsFound, added_by, newborn_by}
 use Rattle.sc_law_entries.proofs.LogsProofs.BirthRecords.{HaveTwoNames}
 use Rattle.sc_law_entries.proofs.LogsProofs.Generations.{FoundInTurn, AreOne, AreNear, IsNamedNow, known_by_name, birth_found}
 use Rattle.sc_law_entries.proofs.LogsProofs.BirthsInLogs.{IsBornAmong, BornBy, born_by}

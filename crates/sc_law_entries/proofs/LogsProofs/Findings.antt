@@ -7,21 +7,21 @@ use Rattle.sc_words.specs.declared.commands.cores.Base.{Base}
 use Rattle.sc_words.specs.declared.commands.orders.OrderLine.{OrderLine}
 use Rattle.sc_mail.specs.declared.bodies.Mail.{Mail}
 use Rattle.sc_actor.specs.declared.rows.Row.{Row}
-use Rattle.sc_meaning.specs.sound.Definitions.{Ahead, children_of, birth_at, log_by, log_at, state_at, entries_at, world_at, decided_state}
-use Rattle.sc_group_table.specs.machine.Definitions.{group_of, state_after}
+use Rattle.sc_meaning.specs.sound.SoundDefinitions.{Ahead, children_of, birth_at, log_by, log_at, state_at, entries_at, world_at, decided_state}
+use Rattle.sc_group_table.specs.machine.MachineDefinitions.{group_of, state_after}
 use Rattle.sc_paxos_law.proofs.Lemmas.{Among-left}
-use Rattle.sc_meaning.specs.entries.Definitions.{named_group}
-use Rattle.sc_law_entries.specs.history.Definitions.{log_in, BeginBare}
-use Rattle.sc_law_entries.proofs.HistoryProofs.Lemmas.{prefixes_answer}
-use Rattle.sc_law_entries.specs.ring.Definitions.{Sources, BeginInPlace}
-use Rattle.sc_law_entries.specs.logs.Definitions.{AllowedEntriesMakeOneMap, Rows, IsFound, DecidesInTurn, DecideInTurn, AreFound, AreOldOrNew, AreItsLogs, MakeOneMapWithNotes, GroupsAreFound, GroupsAreOldOrNew, EntriesAreLogs, EntriesAreAllowed, EntriesMakeOneMap}
+use Rattle.sc_meaning.specs.entries.EntryDefinitions.{named_group}
+use Rattle.sc_law_entries.specs.history.HistoryDefinitions.{log_in, BeginBare}
+use Rattle.sc_law_entries.proofs.HistoryProofs.HistoryLemmas.{prefixes_answer}
+use Rattle.sc_law_entries.specs.ring.RingDefinitions.{Sources, BeginInPlace}
+use Rattle.sc_law_entries.specs.logs.LogDefinitions.{AllowedEntriesMakeOneMap, Rows, IsFound, DecidesInTurn, DecideInTurn, AreFound, AreOldOrNew, AreItsLogs, MakeOneMapWithNotes, GroupsAreFound, GroupsAreOldOrNew, EntriesAreLogs, EntriesAreAllowed, EntriesMakeOneMap}
 use Rattle.sc_law_entries.proofs.LogsProofs.OneGroup.{for_one}
 use Rattle.sc_law_entries.proofs.LogsProofs.ChildrenInLogs.{children_append, log_append, log_of_others}
 use Rattle.sc_law_entries.proofs.LogsProofs.Generations.{FoundInTurn, group_found, found_group, known_by_name, no_birth_at, no_log_at, no_state_at, birth_found}
 use Rattle.sc_law_entries.proofs.LogsProofs.BirthsInLogs.{none_there}
 use Rattle.sc_law_entries.proofs.LogsProofs.FactsInTurn.{Told, first_rows, state_there}
 use Rattle.sc_law_entries.proofs.LogsProofs.Pushes.{found_next, new_name, push_told}
-use Rattle.sc_law_entries.proofs.RingProofs.Lemmas.{some_none}
+use Rattle.sc_law_entries.proofs.RingProofs.RingLemmas.{some_none}
 
 -- ---- the entries
 

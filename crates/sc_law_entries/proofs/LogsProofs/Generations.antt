@@ -14,12 +14,12 @@ use Rattle.sc_words.specs.declared.commands.orders.OrderLine.{OrderLine}
 use Rattle.sc_mail.specs.declared.bodies.Mail.{Mail}
 use Rattle.sc_actor.specs.declared.rows.Row.{Row}
 use Rattle.sc_paxos_law.proofs.Lemmas.{Among-left, Among-right, Among-either, Among-flat_map, from_flat_map}
-use Rattle.sc_words.proofs.PaxosProofs.Lemmas.{find_found}
-use Rattle.sc_meaning.specs.sound.Definitions.{Ahead, children_of, children_by, is_birth_of, with_descendants, groups_at, birth_at, log_by, log_at, state_at, entries_at, decided_log, decided_state, Continues}
-use Rattle.sc_group_table.specs.machine.Definitions.{group_of}
-use Rattle.sc_law_entries.specs.ring.Definitions.{Sources, IsAllowed, stories_of}
-use Rattle.sc_law_entries.proofs.RingProofs.Lemmas.{Pairwise}
-use Rattle.sc_law_entries.specs.logs.Definitions.{Rows, Descends, IsFound, added_by, newborn_by, IsFoundByName}
+use Rattle.sc_words.proofs.PaxosProofs.PaxosLemmas.{find_found}
+use Rattle.sc_meaning.specs.sound.SoundDefinitions.{Ahead, children_of, children_by, is_birth_of, with_descendants, groups_at, birth_at, log_by, log_at, state_at, entries_at, decided_log, decided_state, Continues}
+use Rattle.sc_group_table.specs.machine.MachineDefinitions.{group_of}
+use Rattle.sc_law_entries.specs.ring.RingDefinitions.{Sources, IsAllowed, stories_of}
+use Rattle.sc_law_entries.proofs.RingProofs.RingLemmas.{Pairwise}
+use Rattle.sc_law_entries.specs.logs.LogDefinitions.{Rows, Descends, IsFound, added_by, newborn_by, IsFoundByName}
 use Rattle.sc_law_entries.proofs.LogsProofs.BirthRecords.{HaveTwoNames, find_base, find_no_base, births_from, births_still, births_named, births_apart}
 use Rattle.sc_law_entries.proofs.LogsProofs.ChildrenInLogs.{children_append}
 

@@ -10,10 +10,10 @@ use Rattle.sc_words.specs.declared.commands.orders.OrderLine.{OrderLine}
 use Rattle.sc_mail.specs.declared.bodies.Mail.{Mail}
 use Rattle.sc_actor.specs.declared.rows.Row.{Row}
 use Rattle.sc_words.specs.declared.ideal.Entry.{Entry}
-use Rattle.sc_meaning.specs.sound.Definitions.{Ahead, groups_at, entries_by_rows, history_at, decided_log, Continues, row_of_entry_from}
-use Rattle.sc_meaning.specs.entries.Definitions.{StoreWorld}
-use Rattle.sc_law_entries.specs.ring.Definitions.{Sources, BeginInPlace}
-use Rattle.sc_law_entries.specs.logs.Definitions.{Rows, IsFound, added_by, DecidesInTurn, DecideInTurn, HistoryIsDecided, DecidingRowsStay}
+use Rattle.sc_meaning.specs.sound.SoundDefinitions.{Ahead, groups_at, entries_by_rows, history_at, decided_log, Continues, row_of_entry_from}
+use Rattle.sc_meaning.specs.entries.EntryDefinitions.{StoreWorld}
+use Rattle.sc_law_entries.specs.ring.RingDefinitions.{Sources, BeginInPlace}
+use Rattle.sc_law_entries.specs.logs.LogDefinitions.{Rows, IsFound, added_by, DecidesInTurn, DecideInTurn, HistoryIsDecided, DecidingRowsStay}
 use Rattle.sc_law_entries.proofs.LogsProofs.Generations.{log_on, still_descends, group_found, found_group, known_by_name}
 use Rattle.sc_law_entries.proofs.LogsProofs.FactsInTurn.{Told, first_rows, Decides}
 use Rattle.sc_law_entries.proofs.LogsProofs.Pushes.{d, world_next}

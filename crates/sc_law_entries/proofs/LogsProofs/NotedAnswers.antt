@@ -11,9 +11,9 @@ use Rattle.sc_words.specs.declared.commands.cores.Lock.{Lock}
 use Rattle.sc_words.specs.declared.commands.cores.Lock.TheVariants.{Free, Coordinating, Promised, Watching}
 use Rattle.sc_words.specs.declared.commands.effects.Effect.{Effect}
 use Rattle.sc_words.specs.declared.commands.links.Route.{Route}
-use Rattle.sc_words.specs.ideal.Definitions.{key_of, holds_key, reply_of}
-use Rattle.sc_group_table.specs.machine.Definitions.{Group, applied, called, done, served, served_by_note}
-use Rattle.sc_law_entries.specs.history.Definitions.{IsReplied}
+use Rattle.sc_words.specs.ideal.IdealDefinitions.{key_of, holds_key, reply_of}
+use Rattle.sc_group_table.specs.machine.MachineDefinitions.{Group, applied, called, done, served, served_by_note}
+use Rattle.sc_law_entries.specs.history.HistoryDefinitions.{IsReplied}
 
 -- a reply to a request is noted of the client
 pub record IsNotedAs (group : Group) (client seq : ℕ) (reply : Reply) : Type 0 where

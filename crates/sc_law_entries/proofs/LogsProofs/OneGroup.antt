@@ -11,10 +11,10 @@ use Rattle.sc_actor.specs.declared.rows.Row.{Row}
 use Rattle.sc_actor.specs.declared.rows.Event.{Event}
 use Rattle.sc_actor.specs.declared.rows.Event.TheVariants.{Deliver}
 use Rattle.sc_actor.specs.Definitions.{numbered}
-use Rattle.sc_paxos_law.specs.Definitions.{Step, Accepted, log_of}
-use Rattle.sc_meaning.specs.sound.Definitions.{is_accepted, accepts_of, accepts_got, accepts_at, accepts_from, accepts, rule_of}
-use Rattle.sc_law_entries.specs.logs.Definitions.{Rows, RowsDecideForOne}
-use Rattle.sc_meaning.proofs.EntriesProofs.Lemmas.{other_name}
+use Rattle.sc_paxos_law.specs.PaxosLawDefinitions.{Step, Accepted, log_of}
+use Rattle.sc_meaning.specs.sound.SoundDefinitions.{is_accepted, accepts_of, accepts_got, accepts_at, accepts_from, accepts, rule_of}
+use Rattle.sc_law_entries.specs.logs.LogDefinitions.{Rows, RowsDecideForOne}
+use Rattle.sc_meaning.proofs.EntriesProofs.EntryLemmas.{other_name}
 
 -- all that was sent
 abbrev sent_by : List Mail → Rows → List Mail

@@ -1,12 +1,12 @@
 -- The ring, the history and the map of allowed entries.
 use Rattle.std.proofs.Common.{sym, ◌∙◌, ap}
 use Rattle.std.proofs.lemmas.Option.{same_Some}
-use Rattle.sc_group_table.specs.machine.Definitions.{Group}
-use Rattle.sc_law_entries.specs.ring.Definitions.{first_recorded}
-use Rattle.sc_law_entries.proofs.RingProofs.Lemmas.{entries_keep_the_ring, at_start}
-use Rattle.sc_law_entries.specs.history.Definitions.{AppliedEntriesMakeHistory}
-use Rattle.sc_law_entries.proofs.HistoryProofs.Lemmas.{entries_report}
-use Rattle.sc_law_entries.specs.logs.Definitions.{AllowedEntriesMakeOneMap}
+use Rattle.sc_group_table.specs.machine.MachineDefinitions.{Group}
+use Rattle.sc_law_entries.specs.ring.RingDefinitions.{first_recorded}
+use Rattle.sc_law_entries.proofs.RingProofs.RingLemmas.{entries_keep_the_ring, at_start}
+use Rattle.sc_law_entries.specs.history.HistoryDefinitions.{AppliedEntriesMakeHistory}
+use Rattle.sc_law_entries.proofs.HistoryProofs.HistoryLemmas.{entries_report}
+use Rattle.sc_law_entries.specs.logs.LogDefinitions.{AllowedEntriesMakeOneMap}
 use Rattle.sc_law_entries.proofs.LogsProofs.Executes.{all_may_be_applied}
 
 pub one_map : AppliedEntriesMakeHistory → AllowedEntriesMakeOneMap

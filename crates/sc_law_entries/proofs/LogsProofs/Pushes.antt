@@ -7,17 +7,17 @@ use Rattle.sc_words.specs.declared.commands.cores.Base.{Base}
 use Rattle.sc_words.specs.declared.commands.orders.OrderLine.{OrderLine}
 use Rattle.sc_mail.specs.declared.bodies.Mail.{Mail}
 use Rattle.sc_actor.specs.declared.rows.Row.{Row}
-use Rattle.sc_group_table.specs.machine.Definitions.{Group}
+use Rattle.sc_group_table.specs.machine.MachineDefinitions.{Group}
 use Rattle.sc_paxos_law.proofs.Lemmas.{Among-left, Among-right, Among-either}
-use Rattle.sc_meaning.specs.sound.Definitions.{Ahead, groups_at, log_at, entries_from, entries_after, entries_gained, entries_by_row, entries_at, world_at, decided_log, decided_state}
+use Rattle.sc_meaning.specs.sound.SoundDefinitions.{Ahead, groups_at, log_at, entries_from, entries_after, entries_gained, entries_by_row, entries_at, world_at, decided_log, decided_state}
 use Rattle.sc_meaning.specs.declared.entries.LogEntry.{LogEntry}
-use Rattle.sc_meaning.specs.entries.Definitions.{StoreWorld, first_world, named_group, world_after}
-use Rattle.sc_meaning.proofs.EntriesProofs.Lemmas.{world_append, draw_cases}
-use Rattle.sc_law_entries.specs.history.Definitions.{log_in}
-use Rattle.sc_law_entries.specs.ring.Definitions.{Sources, AreAllowed, first_recorded, BeginInPlace}
-use Rattle.sc_law_entries.proofs.RingProofs.Lemmas.{allowed_lists_append, some_none}
-use Rattle.sc_meaning.proofs.SoundProofs.Lemmas.{entries-push, world-push}
-use Rattle.sc_law_entries.specs.logs.Definitions.{Rows, IsFound, added_by}
+use Rattle.sc_meaning.specs.entries.EntryDefinitions.{StoreWorld, first_world, named_group, world_after}
+use Rattle.sc_meaning.proofs.EntriesProofs.EntryLemmas.{world_append, draw_cases}
+use Rattle.sc_law_entries.specs.history.HistoryDefinitions.{log_in}
+use Rattle.sc_law_entries.specs.ring.RingDefinitions.{Sources, AreAllowed, first_recorded, BeginInPlace}
+use Rattle.sc_law_entries.proofs.RingProofs.RingLemmas.{allowed_lists_append, some_none}
+use Rattle.sc_meaning.proofs.SoundProofs.SoundLemmas.{entries-push, world-push}
+use Rattle.sc_law_entries.specs.logs.LogDefinitions.{Rows, IsFound, added_by}
 use Rattle.sc_law_entries.proofs.LogsProofs.BirthRecords.{flat_map_none, flat_map_one}
 use Rattle.sc_law_entries.proofs.LogsProofs.ChildrenInLogs.{log_append, log_of_others, log_of_own, entries_of}
 use Rattle.sc_law_entries.proofs.LogsProofs.Generations.{FoundInTurn, AreOne, AreNear, log_on, still_descends, IsNamedNow, now_descends, old_or_new, near_on, group_found, groups_apart, found_group, known_by_name, no_birth_at, no_log_at}

@@ -7,9 +7,9 @@ use Rattle.sc_words.specs.declared.commands.cores.Base.{Base}
 use Rattle.sc_words.specs.declared.commands.orders.OrderLine.{OrderLine}
 use Rattle.sc_mail.specs.declared.bodies.Mail.{Mail}
 use Rattle.sc_actor.specs.declared.rows.Row.{Row}
-use Rattle.sc_meaning.specs.sound.Definitions.{Ahead, entries_by_row, entries_by_rows, history_at, row_of_entry_from}
-use Rattle.sc_law_entries.specs.ring.Definitions.{Sources}
-use Rattle.sc_law_entries.specs.logs.Definitions.{Rows, DecidesInTurn, DecideInTurn, RowsGoOn}
+use Rattle.sc_meaning.specs.sound.SoundDefinitions.{Ahead, entries_by_row, entries_by_rows, history_at, row_of_entry_from}
+use Rattle.sc_law_entries.specs.ring.RingDefinitions.{Sources}
+use Rattle.sc_law_entries.specs.logs.LogDefinitions.{Rows, DecidesInTurn, DecideInTurn, RowsGoOn}
 
 -- ---- rows in two parts
 

@@ -12,18 +12,18 @@ use Rattle.sc_words.specs.declared.commands.orders.OrderLine.{OrderLine}
 use Rattle.sc_mail.specs.declared.bodies.Mail.{Mail}
 use Rattle.sc_actor.specs.declared.rows.Row.{Row}
 use Rattle.sc_actor.proofs.Lemmas.{get_left}
-use Rattle.sc_words.specs.ideal.Definitions.{HasEntry}
+use Rattle.sc_words.specs.ideal.IdealDefinitions.{HasEntry}
 use Rattle.sc_words.specs.declared.ideal.Entry.{Entry}
-use Rattle.sc_group_table.specs.machine.Definitions.{Group, group_of, state_after}
+use Rattle.sc_group_table.specs.machine.MachineDefinitions.{Group, group_of, state_after}
 use Rattle.sc_paxos_law.proofs.Lemmas.{Among-left}
-use Rattle.sc_meaning.specs.sound.Definitions.{Ahead, entries_at, history_at, IsRequest, issue_row, AnswersRequests, row_of_entry, IsTimely, KeepsRealTime, IsSound}
+use Rattle.sc_meaning.specs.sound.SoundDefinitions.{Ahead, entries_at, history_at, IsRequest, issue_row, AnswersRequests, row_of_entry, IsTimely, KeepsRealTime, IsSound}
 use Rattle.sc_scenario.specs.declared.scenario.scenarios.Scenario.{Scenario}
-use Rattle.sc_law_entries.specs.history.Definitions.{BeginBare}
-use Rattle.sc_meaning.specs.entries.Definitions.{CoverThroughout}
-use Rattle.sc_law_entries.specs.ring.Definitions.{Sources, AreAllowed, first_recorded, BeginInPlace}
-use Rattle.sc_law_entries.proofs.RingProofs.Lemmas.{entries_keep_the_ring}
+use Rattle.sc_law_entries.specs.history.HistoryDefinitions.{BeginBare}
+use Rattle.sc_meaning.specs.entries.EntryDefinitions.{CoverThroughout}
+use Rattle.sc_law_entries.specs.ring.RingDefinitions.{Sources, AreAllowed, first_recorded, BeginInPlace}
+use Rattle.sc_law_entries.proofs.RingProofs.RingLemmas.{entries_keep_the_ring}
 use Rattle.sc_law_entries.proofs.LogsProofs.Allowing.{allowed_parts}
-use Rattle.sc_law_entries.specs.logs.Definitions.{AllowedEntriesMakeOneMap, Rows, DecideInTurn, MakeOneMapWithNotes, IsDecidedAt, StayRecorded, IsIssuedIn, IsDecidedBefore, HoldsBeside, JournalsInTurnAreSound}
+use Rattle.sc_law_entries.specs.logs.LogDefinitions.{AllowedEntriesMakeOneMap, Rows, DecideInTurn, MakeOneMapWithNotes, IsDecidedAt, StayRecorded, IsIssuedIn, IsDecidedBefore, HoldsBeside, JournalsInTurnAreSound}
 use Rattle.sc_law_entries.proofs.LogsProofs.ChildrenInLogs.{state_append}
 use Rattle.sc_law_entries.proofs.LogsProofs.RowsInTwoParts.{in_turn_parts}
 use Rattle.sc_law_entries.proofs.LogsProofs.Findings.{entries_make_one_map, entries_are_logs, entries_are_allowed}

@@ -7,10 +7,10 @@ use Rattle.std.proofs.lemmas.List.{length_push}
 use Rattle.std.proofs.lemmas.Option.{slice_get_within, get_or_from_slice_get}
 use Rattle.sc_base.specs.Definitions.{Among}
 use Rattle.sc_words.specs.declared.commands.cores.Base.{Base}
-use Rattle.sc_words.specs.ideal.Definitions.{AreApart}
+use Rattle.sc_words.specs.ideal.IdealDefinitions.{AreApart}
 use Rattle.sc_words.specs.declared.ideal.Entry.{Entry}
-use Rattle.sc_meaning.specs.sound.Definitions.{Ahead, history_at, issues, issued_from, issue_row, row_of_entry_from}
-use Rattle.sc_law_entries.specs.logs.Definitions.{Rows}
+use Rattle.sc_meaning.specs.sound.SoundDefinitions.{Ahead, history_at, issues, issued_from, issue_row, row_of_entry_from}
+use Rattle.sc_law_entries.specs.logs.LogDefinitions.{Rows}
 
 -- an element of a list has a place in it
 pub among_place : {X : Type 0} (xs : List X) (x : X) → Among x xs → (place : ℕ) × (slice_get xs place ≡ Some x)

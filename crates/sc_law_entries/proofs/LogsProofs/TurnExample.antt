@@ -5,12 +5,12 @@ use Rattle.sc_words.specs.declared.commands.cores.Base.{Base}
 use Rattle.sc_words.specs.declared.commands.orders.OrderLine.{OrderLine}
 use Rattle.sc_mail.specs.declared.bodies.Mail.{Mail}
 use Rattle.sc_actor.specs.declared.rows.Row.{Row}
-use Rattle.sc_group_table.specs.machine.Definitions.{group_of, child_of}
-use Rattle.sc_law_entries.specs.history.Definitions.{offspring, lone_base}
-use Rattle.sc_law_entries.proofs.HistoryProofs.Lemmas.{example_of_entries}
-use Rattle.sc_law_entries.specs.ring.Definitions.{BeginInPlace, BeginsInPlace}
-use Rattle.sc_meaning.specs.sound.Definitions.{four, children_by, decided_log}
-use Rattle.sc_law_entries.specs.logs.Definitions.{Rows, IsFound, DecidesInTurn, split_sources, lone_bases, journal_split, put_a_call, offers_split, accepts_split, decides_split, asks_child, offers_put, decides_put, ExampleInTurn}
+use Rattle.sc_group_table.specs.machine.MachineDefinitions.{group_of, child_of}
+use Rattle.sc_law_entries.specs.history.HistoryDefinitions.{offspring, lone_base}
+use Rattle.sc_law_entries.proofs.HistoryProofs.HistoryLemmas.{example_of_entries}
+use Rattle.sc_law_entries.specs.ring.RingDefinitions.{BeginInPlace, BeginsInPlace}
+use Rattle.sc_meaning.specs.sound.SoundDefinitions.{four, children_by, decided_log}
+use Rattle.sc_law_entries.specs.logs.LogDefinitions.{Rows, IsFound, DecidesInTurn, split_sources, lone_bases, journal_split, put_a_call, offers_split, accepts_split, decides_split, asks_child, offers_put, decides_put, ExampleInTurn}
 use Rattle.sc_law_entries.proofs.LogsProofs.Turns.{TurnFor, in_turn, rests, found_within}
 
 -- the child

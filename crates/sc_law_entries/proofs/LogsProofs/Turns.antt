@@ -6,9 +6,9 @@ use Rattle.sc_words.specs.declared.commands.cores.Base.{Base}
 use Rattle.sc_words.specs.declared.commands.orders.OrderLine.{OrderLine}
 use Rattle.sc_mail.specs.declared.bodies.Mail.{Mail}
 use Rattle.sc_actor.specs.declared.rows.Row.{Row}
-use Rattle.sc_meaning.specs.sound.Definitions.{Ahead, children_of, children_by, entries_at, decided_log, decided_state, Continues}
-use Rattle.sc_law_entries.specs.ring.Definitions.{Sources, IsAllowed, stories_of}
-use Rattle.sc_law_entries.specs.logs.Definitions.{Rows, IsFound, added_by, newborn_by, DecidesInTurn}
+use Rattle.sc_meaning.specs.sound.SoundDefinitions.{Ahead, children_of, children_by, entries_at, decided_log, decided_state, Continues}
+use Rattle.sc_law_entries.specs.ring.RingDefinitions.{Sources, IsAllowed, stories_of}
+use Rattle.sc_law_entries.specs.logs.LogDefinitions.{Rows, IsFound, added_by, newborn_by, DecidesInTurn}
 use Rattle.sc_law_entries.proofs.LogsProofs.Generations.{group_found}
 
 module _ (sources : Sources) (ahead : Ahead) (bases : List Base) (before : Rows) (row : Row Mail OrderLine) where

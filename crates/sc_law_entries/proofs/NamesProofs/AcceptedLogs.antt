@@ -3,13 +3,13 @@ use Rattle.std.proofs.Common.{ℕ, zero, suc, ◌+◌, ◌&&◌, eqb, List, [], 
 use Rattle.sc_base.specs.Definitions.{Each, is_majority}
 use Rattle.sc_node_table.specs.Values.{Draw, Row, Event, Deliver, Base, Command, OrderLine, Mail, Report}
 use Rattle.sc_actor.specs.Definitions.{mails, numbered}
-use Rattle.sc_paxos_law.specs.Definitions.{Rule, members_of, voters_of, lesser_of, found_in, chosen_at, top_slot, with_next_entries, Step, Prepared, Promised, Offered, Accepted, Cut}
-use Rattle.sc_words.proofs.PaxosProofs.Lemmas.{Each-append, Each-split}
-use Rattle.sc_words.specs.paxos.Definitions.{below}
-use Rattle.sc_meaning.specs.sound.Definitions.{Ahead, accepts_of, accepts_got, accepts_at, accepts_from, accepts, rule_of, decided_log}
-use Rattle.sc_law_entries.specs.names.Definitions.{Rows, Opt}
+use Rattle.sc_paxos_law.specs.PaxosLawDefinitions.{Rule, members_of, voters_of, lesser_of, found_in, chosen_at, top_slot, with_next_entries, Step, Prepared, Promised, Offered, Accepted, Cut}
+use Rattle.sc_words.proofs.PaxosProofs.PaxosLemmas.{Each-append, Each-split}
+use Rattle.sc_words.specs.paxos.PaxosDefinitions.{below}
+use Rattle.sc_meaning.specs.sound.SoundDefinitions.{Ahead, accepts_of, accepts_got, accepts_at, accepts_from, accepts, rule_of, decided_log}
+use Rattle.sc_law_entries.specs.names.NameDefinitions.{Rows, Opt}
 use Rattle.sc_law_entries.proofs.NamesProofs.EachFound.{opt_map, opt_get}
-use Rattle.sc_law_walks.proofs.Lemmas.{either_way}
+use Rattle.sc_law_walks.proofs.WalkLemmas.{either_way}
 
 -- a command that is accepted in a step of a group is such a one
 abbrev pub IsAcceptedAs : (Command → Type 0) → Step Command → Type 0

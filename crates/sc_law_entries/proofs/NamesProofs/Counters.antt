@@ -9,10 +9,10 @@ use Rattle.sc_node_table.specs.Values.{Draw, Base, OrderLine, Mail, MailBody, In
 use Rattle.sc_actor.specs.declared.rows.Event.TheVariants.{Told}
 use Rattle.sc_actor.specs.Definitions.{mails, numbered, value, acted, input_of}
 use Rattle.sc_actor.proofs.Lemmas.{value-snoc}
-use Rattle.sc_node_table.specs.Definitions.{NodeState, replica_of, with_replica, with_new, group_of_mail, with_made, unknown, may_come, with_born, with_children, taken_by, routed, on_mail, group_of_order, ordered_of, on_order, on_tick, names_after_ticks, born_node, names_after_tick, ReplicaState, born_replica, last_slot, either, made_by, mailed, slots_ahead}
-use Rattle.sc_meaning.specs.sound.Definitions.{Ahead, node_seat, player_table, Player}
+use Rattle.sc_node_table.specs.NodeDefinitions.{NodeState, replica_of, with_replica, with_new, group_of_mail, with_made, unknown, may_come, with_born, with_children, taken_by, routed, on_mail, group_of_order, ordered_of, on_order, on_tick, names_after_ticks, born_node, names_after_tick, ReplicaState, born_replica, last_slot, either, made_by, mailed, slots_ahead}
+use Rattle.sc_meaning.specs.sound.SoundDefinitions.{Ahead, node_seat, player_table, Player}
 use Rattle.sc_scenario.specs.declared.scenario.scenarios.Scenario.{Scenario}
-use Rattle.sc_law_entries.specs.names.Definitions.{Rows, Owned, owned_by, drawn_for, waited, wished_at, drawn_wishing, drawn_ticking, names_drawn, is_node_of, drawn_at, owner_by, owner_in, HasNames, NodesHaveNames, DrawnNamesAreOwned, RowsDrawOnce, OwnedNamesAreOfNodes, OtherNamesAreFree}
+use Rattle.sc_law_entries.specs.names.NameDefinitions.{Rows, Owned, owned_by, drawn_for, waited, wished_at, drawn_wishing, drawn_ticking, names_drawn, is_node_of, drawn_at, owner_by, owner_in, HasNames, NodesHaveNames, DrawnNamesAreOwned, RowsDrawOnce, OwnedNamesAreOfNodes, OtherNamesAreFree}
 use Rattle.sc_law_entries.proofs.NamesProofs.Drawn.{Draws, Differ, draws_both, draws_up, drawn_between, drawn_not_past, drawn_from, drawn_once, line_draws, tick_draws}
 use Rattle.sc_law_entries.proofs.NamesProofs.Owned.{owner_was_drawn, owner-push, owned_later, drawn_in}
 

@@ -2,10 +2,10 @@
 use Rattle.std.proofs.Common.{◌≡◌, Some, None, refl}
 use Rattle.sc_actor.specs.Definitions.{no_words}
 use Rattle.sc_base.specs.Definitions.{Each}
-use Rattle.sc_node_table.specs.Definitions.{sent_all, ordered_row, next_queued, from_backlog, from_queues, found_for, offered, pumped_from, pumped}
-use Rattle.sc_meaning.specs.sound.Definitions.{Lawful, four}
+use Rattle.sc_node_table.specs.NodeDefinitions.{sent_all, ordered_row, next_queued, from_backlog, from_queues, found_for, offered, pumped_from, pumped}
+use Rattle.sc_meaning.specs.sound.SoundDefinitions.{Lawful, four}
 use Rattle.sc_scenario.specs.scenario.Definitions.{lone_name}
-use Rattle.sc_law_entries.specs.names.Definitions.{example_name, second_name, third_name, drawing_scenario, drawing_rows, BeginsUndrawn, owner_in}
+use Rattle.sc_law_entries.specs.names.NameDefinitions.{example_name, second_name, third_name, drawing_scenario, drawing_rows, BeginsUndrawn, owner_in}
 
 pub begins : Each BeginsUndrawn drawing_scenario.groups
 begins = (record { id = refl; succ = refl; pred = refl; free = refl; decided = refl; voted = refl; born = refl; here = refl }, tt)

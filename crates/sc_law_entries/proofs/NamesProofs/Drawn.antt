@@ -8,8 +8,8 @@ use Rattle.std.proofs.lemmas.List.Kept.{AllPairs-cons}
 use Rattle.sc_base.specs.Definitions.{Among, Drawer, next_name, drawn_on, is_member}
 use Rattle.sc_node_table.specs.Values.{Draw, OrderLine}
 use Rattle.sc_base.proofs.Lemmas.{draw_is}
-use Rattle.sc_node_table.specs.Definitions.{group_of_order, takes_name, untaken, names_after, wished_line, names_with, names_after_tick, ReplicaState, members, settled}
-use Rattle.sc_law_entries.specs.names.Definitions.{Owned, owned_by, drawn_for, waited, wished_at, drawn_wishing, owner_by}
+use Rattle.sc_node_table.specs.NodeDefinitions.{group_of_order, takes_name, untaken, names_after, wished_line, names_with, names_after_tick, ReplicaState, members, settled}
+use Rattle.sc_law_entries.specs.names.NameDefinitions.{Owned, owned_by, drawn_for, waited, wished_at, drawn_wishing, owner_by}
 use Rattle.sc_law_entries.proofs.NamesProofs.Owned.{owner_of_drawn, owner_of_other}
 
 -- what a node draws: its next names, one after another

@@ -4,12 +4,12 @@ use Rattle.std.specs.Prelude.{slice_get}
 use Rattle.std.specs.List.{fold}
 use Rattle.std.specs.Option.{option_map}
 use Rattle.sc_base.specs.Definitions.{Each}
-use Rattle.sc_words.proofs.PaxosProofs.Lemmas.{Each-append, Each-filter}
+use Rattle.sc_words.proofs.PaxosProofs.PaxosLemmas.{Each-append, Each-filter}
 use Rattle.sc_node_table.specs.Values.{Flight, Report}
-use Rattle.sc_words.specs.paxos.Definitions.{with_report, is_better, better_of, choice, without_flight, with_voters}
-use Rattle.sc_node_table.specs.Definitions.{either, at_slot, with_slot, without_slot}
-use Rattle.sc_law_entries.specs.names.Definitions.{Opt}
-use Rattle.sc_law_walks.proofs.Lemmas.{either_way}
+use Rattle.sc_words.specs.paxos.PaxosDefinitions.{with_report, is_better, better_of, choice, without_flight, with_voters}
+use Rattle.sc_node_table.specs.NodeDefinitions.{either, at_slot, with_slot, without_slot}
+use Rattle.sc_law_entries.specs.names.NameDefinitions.{Opt}
+use Rattle.sc_law_walks.proofs.WalkLemmas.{either_way}
 pub use Rattle.sc_law_walks.proofs.Lists.{Each-drop}
 
 pub opt_find : {X : Type 0} (P : X → Type 0) (p : X → Bool) (xs : List X) → Each P xs → Opt P (find p xs)

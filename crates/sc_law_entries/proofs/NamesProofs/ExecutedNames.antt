@@ -2,15 +2,15 @@
 use Rattle.std.proofs.Common.{ℕ, ◌-◌, nat_lt, eqb, Bool, List, [], ◌∷◌, Option, subst}
 use Rattle.sc_node_table.specs.Values.{Draw, Command, Join, Leave, Effect, OrderResult, AnswerBody, Mail, Answer, Prepare, Learn, Install, Learnt}
 use Rattle.sc_words.specs.declared.commands.effects.Effect.TheVariants as Was
-use Rattle.sc_words.specs.commands.Definitions.{result_of}
-use Rattle.sc_group_table.specs.machine.Definitions.{base_of, applied}
-use Rattle.sc_words.proofs.PaxosProofs.Lemmas.{Each-append}
-use Rattle.sc_words.specs.paxos.Definitions.{without_flight_at, LogState, next_of}
-use Rattle.sc_node_table.specs.Definitions.{without_slot, ReplicaState, name_of, next, order_number, with_entry, entered, answer_of, order_result, before_of}
-use Rattle.sc_law_entries.specs.names.Definitions.{Opt, CommandNames, EffectNames, AnswerNames, ResultNames}
+use Rattle.sc_words.specs.commands.CommandDefinitions.{result_of}
+use Rattle.sc_group_table.specs.machine.MachineDefinitions.{base_of, applied}
+use Rattle.sc_words.proofs.PaxosProofs.PaxosLemmas.{Each-append}
+use Rattle.sc_words.specs.paxos.PaxosDefinitions.{without_flight_at, LogState, next_of}
+use Rattle.sc_node_table.specs.NodeDefinitions.{without_slot, ReplicaState, name_of, next, order_number, with_entry, entered, answer_of, order_result, before_of}
+use Rattle.sc_law_entries.specs.names.NameDefinitions.{Opt, CommandNames, EffectNames, AnswerNames, ResultNames}
 use Rattle.sc_law_entries.proofs.NamesProofs.EachFound.{slot_without, flight_without}
 use Rattle.sc_law_entries.proofs.NamesProofs.Machine.{applied_names}
-use Rattle.sc_law_walks.proofs.Lemmas.{either_way, entered_place, TableEntry, entry_holds}
+use Rattle.sc_law_walks.proofs.WalkLemmas.{either_way, entered_place, TableEntry, entry_holds}
 use Rattle.sc_law_entries.proofs.NamesProofs.Sent.{sent_names, reported_names, before_names, spoken_names}
 use Rattle.sc_law_entries.proofs.NamesProofs.HeldNames.{Fine, Cmds, Cmd, R, back_names, flying_names, forgotten_names}
 

@@ -8,13 +8,13 @@ use Rattle.sc_actor.specs.declared.rows.Event.TheVariants.{Told}
 use Rattle.sc_actor.specs.declared.rows.Input.TheVariants.{Tick as TickInput, Go as GoInput, Told as ToldInput}
 use Rattle.sc_actor.specs.Definitions.{mails, numbered, value, replay, acted, input_of, IsStep}
 use Rattle.sc_actor.proofs.Lemmas.{lawful-induction, value-snoc, mails-snoc}
-use Rattle.sc_client_table.specs.table.Definitions.{Client as ClientState}
-use Rattle.sc_node_table.specs.Definitions.{NodeState, born_node, born_replica, numbers_from}
-use Rattle.sc_words.proofs.PaxosProofs.Lemmas.{Each-among, Each-from, Each-append, Each-filter, find_found}
-use Rattle.sc_meaning.specs.sound.Definitions.{Ahead, Player, Lawful, player_table, node_seat, client_seat, client_seats, route_of, births, schedule, system_of}
+use Rattle.sc_client_table.specs.table.TableDefinitions.{Client as ClientState}
+use Rattle.sc_node_table.specs.NodeDefinitions.{NodeState, born_node, born_replica, numbers_from}
+use Rattle.sc_words.proofs.PaxosProofs.PaxosLemmas.{Each-among, Each-from, Each-append, Each-filter, find_found}
+use Rattle.sc_meaning.specs.sound.SoundDefinitions.{Ahead, Player, Lawful, player_table, node_seat, client_seat, client_seats, route_of, births, schedule, system_of}
 use Rattle.sc_scenario.specs.declared.scenario.scenarios.Asks.{Asks}
 use Rattle.sc_scenario.specs.declared.scenario.scenarios.Scenario.{Scenario}
-use Rattle.sc_law_entries.specs.names.Definitions.{Rows, Owned, drawn_ticking, drawn_at, owner_in, IsUsed, BeginsUndrawn, AllNames, AllDecided, NamesAreDrawn, DrawnNamesAreNew, Opt, LockNames, OutcomeNames, PastNames, CoreNames, MailNames, ReplicaNames, NodeNames, ClientNames, PlayerNames}
+use Rattle.sc_law_entries.specs.names.NameDefinitions.{Rows, Owned, drawn_ticking, drawn_at, owner_in, IsUsed, BeginsUndrawn, AllNames, AllDecided, NamesAreDrawn, DrawnNamesAreNew, Opt, LockNames, OutcomeNames, PastNames, CoreNames, MailNames, ReplicaNames, NodeNames, ClientNames, PlayerNames}
 use Rattle.sc_law_entries.proofs.NamesProofs.Counters.{drawn_are_owned, fresh_at}
 use Rattle.sc_law_entries.proofs.NamesProofs.EachFound.{opt_get}
 use Rattle.sc_law_entries.proofs.NamesProofs.Machine.{Each-map}

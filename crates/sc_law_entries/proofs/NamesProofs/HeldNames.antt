@@ -2,14 +2,14 @@
 use Rattle.std.proofs.Common.{ℕ, ◌-◌, nat_lt, eqb, Bool, List, [], ◌∷◌, Option, Some, None}
 use Rattle.sc_base.specs.Definitions.{Each}
 use Rattle.sc_node_table.specs.Values.{Draw, Op, Command, Noop, Call, Join, Leave, Split, Begin, Prepared, RecordVote, GiveUp, Finish, Watched, RecordWatch, Base, Core, Route, AnswerBody, Accept, Must, Gap, Flight, Report}
-use Rattle.sc_words.specs.ideal.Definitions.{key_of, holds_key}
-use Rattle.sc_words.proofs.PaxosProofs.Lemmas.{Each-append, Each-filter}
+use Rattle.sc_words.specs.ideal.IdealDefinitions.{key_of, holds_key}
+use Rattle.sc_words.proofs.PaxosProofs.PaxosLemmas.{Each-append, Each-filter}
 use Rattle.sc_words.specs.declared.paxos.answers.Must.TheVariants.{Value, Free as Open}
-use Rattle.sc_words.specs.paxos.Definitions.{choice, chosen_value, names_above, flight_at, must, must_without}
-use Rattle.sc_node_table.specs.Definitions.{ReplicaState, Place, name_of, flying, under_way, born_replica, installed_replica, floor_of, forgotten, answered_all, queued_number, is_request_of, without_request, request_before, put_back, ended, named, jumped, refused_by, turned_down, offered}
-use Rattle.sc_law_entries.specs.names.Definitions.{Opt, CoreNames, CommandNames, AnswerNames, ReplicaNames}
+use Rattle.sc_words.specs.paxos.PaxosDefinitions.{choice, chosen_value, names_above, flight_at, must, must_without}
+use Rattle.sc_node_table.specs.NodeDefinitions.{ReplicaState, Place, name_of, flying, under_way, born_replica, installed_replica, floor_of, forgotten, answered_all, queued_number, is_request_of, without_request, request_before, put_back, ended, named, jumped, refused_by, turned_down, offered}
+use Rattle.sc_law_entries.specs.names.NameDefinitions.{Opt, CoreNames, CommandNames, AnswerNames, ReplicaNames}
 use Rattle.sc_law_entries.proofs.NamesProofs.EachFound.{opt_find, opt_map, opt_choice, Each-drop}
-use Rattle.sc_law_walks.proofs.Lemmas.{either_way}
+use Rattle.sc_law_walks.proofs.WalkLemmas.{either_way}
 use Rattle.sc_law_entries.proofs.NamesProofs.Sent.{Sent, sent_all_names, answered_all_names, dismissed_all_names}
 
 module _ (K : Draw → Type 0) where

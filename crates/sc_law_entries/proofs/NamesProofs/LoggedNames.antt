@@ -4,21 +4,21 @@ use Rattle.std.specs.List.{flat_map, list_any}
 use Rattle.std.specs.Option.{option_to_list}
 use Rattle.sc_base.specs.Definitions.{Each, same_draw}
 use Rattle.sc_node_table.specs.Values.{Draw, Row, Body, Command, Split, RecordWatch, Base, Core, Lock, Free, Coordinating, Promised, Watching, Effect, OrderLine, Mail, MailBody, Accept}
-use Rattle.sc_words.specs.commands.Definitions.{is_changed, is_divided, is_alone}
+use Rattle.sc_words.specs.commands.CommandDefinitions.{is_changed, is_divided, is_alone}
 use Rattle.sc_actor.specs.Definitions.{mails}
 use Rattle.sc_words.specs.declared.commands.bodies.Body.TheVariants as At
 use Rattle.sc_meaning.specs.declared.entries.Division.{Division}
-use Rattle.sc_meaning.specs.entries.Definitions.{division_by, division_in, division_of, birth_of}
-use Rattle.sc_group_table.specs.machine.Definitions.{Group, group_of, applied, child_of}
-use Rattle.sc_paxos_law.specs.Definitions.{Step, Promised, Accepted}
-use Rattle.sc_words.proofs.PaxosProofs.Lemmas.{Each-append}
-use Rattle.sc_meaning.specs.sound.Definitions.{Ahead, is_accepted, accepts_of, children_of, children_by, is_birth_of, with_birth, with_descendants, decided_log}
+use Rattle.sc_meaning.specs.entries.EntryDefinitions.{division_by, division_in, division_of, birth_of}
+use Rattle.sc_group_table.specs.machine.MachineDefinitions.{Group, group_of, applied, child_of}
+use Rattle.sc_paxos_law.specs.PaxosLawDefinitions.{Step, Promised, Accepted}
+use Rattle.sc_words.proofs.PaxosProofs.PaxosLemmas.{Each-append}
+use Rattle.sc_meaning.specs.sound.SoundDefinitions.{Ahead, is_accepted, accepts_of, children_of, children_by, is_birth_of, with_birth, with_descendants, decided_log}
 use Rattle.sc_scenario.specs.declared.scenario.scenarios.Scenario.{Scenario}
-use Rattle.sc_law_entries.specs.names.Definitions.{AllDecided, Rows, Opt, BodyNames, LockNames, CoreNames, CommandNames, MailNames, BodiesNames}
+use Rattle.sc_law_entries.specs.names.NameDefinitions.{AllDecided, Rows, Opt, BodyNames, LockNames, CoreNames, CommandNames, MailNames, BodiesNames}
 use Rattle.sc_law_entries.proofs.NamesProofs.EachFound.{opt_map}
 use Rattle.sc_law_entries.proofs.NamesProofs.AcceptedLogs.{IsAcceptedAs, decided_hold}
 use Rattle.sc_law_entries.proofs.NamesProofs.Machine.{applied_names, child_names}
-use Rattle.sc_law_walks.proofs.Lemmas.{either_way}
+use Rattle.sc_law_walks.proofs.WalkLemmas.{either_way}
 
 module _ (K : Draw → Type 0) where
   abbrev Ms : List Mail → Type 0

@@ -2,15 +2,15 @@
 use Rattle.std.proofs.Common.{ℕ, ◌&&◌, ◌||◌, not, nat_le, nat_lt, eqb, List, [], ◌∷◌, length, map, Option, Some, None, inl, inr, sym, subst}
 use Rattle.sc_base.specs.Definitions.{Each, holds, end_of, same_draw, is_member, united}
 use Rattle.sc_node_table.specs.Values.{Draw, Body, Offer, Watch, Command, Join, Leave, Split, Begin, Prepared, RecordVote, GiveUp, Finish, Watched, RecordWatch, Base, Core, Lock, Free, Coordinating, Promised, Watching, Effect, Link, Route, OrderRefusal, Frozen, No, Outcome, Past}
-use Rattle.sc_words.specs.commands.Definitions.{is_alone}
+use Rattle.sc_words.specs.commands.CommandDefinitions.{is_alone}
 use Rattle.sc_words.specs.declared.commands.bodies.Body.TheVariants as At
 use Rattle.sc_words.specs.declared.commands.effects.Effect.TheVariants as Was
 use Rattle.sc_words.specs.declared.commands.votes.Outcome.TheVariants as Is
 use Rattle.sc_words.specs.declared.commands.votes.Past.TheVariants as Cast
-use Rattle.sc_words.proofs.PaxosProofs.Lemmas.{Each-append}
-use Rattle.sc_group_table.specs.machine.Definitions.{gone_group, gained_group, lost_group, welcomed_group, closing_group, merged_group, giving_group, taking_group, migrated_group, ordered_child, released_child, answered_child, watched_child, child_by, Group, applied, locked_in, limit_refused, body_refused, refused_free, refused_in, refusal_of, with_node, without_node, splits_at_once, left_link, right_link, left_group, child_of, has_named, can_split, merged_core, merged_link, begun_group, decided, has_voted, size_no, body_no, offer_no, watch_no, no_of, vote_of, watch_vote_of, past_of, bound_by, pred_after, watcher_after, closed, party_freed}
-use Rattle.sc_law_walks.proofs.Lemmas.{either_way, Names, ChangesNothing, voting_group, MachineWalk, machine_step}
-use Rattle.sc_law_entries.specs.names.Definitions.{Opt, BodyNames, WatchNames, NoNames, PastNames, OutcomeNames, LockNames, CoreNames, CommandNames, RefusalNames, EffectNames}
+use Rattle.sc_words.proofs.PaxosProofs.PaxosLemmas.{Each-append}
+use Rattle.sc_group_table.specs.machine.MachineDefinitions.{gone_group, gained_group, lost_group, welcomed_group, closing_group, merged_group, giving_group, taking_group, migrated_group, ordered_child, released_child, answered_child, watched_child, child_by, Group, applied, locked_in, limit_refused, body_refused, refused_free, refused_in, refusal_of, with_node, without_node, splits_at_once, left_link, right_link, left_group, child_of, has_named, can_split, merged_core, merged_link, begun_group, decided, has_voted, size_no, body_no, offer_no, watch_no, no_of, vote_of, watch_vote_of, past_of, bound_by, pred_after, watcher_after, closed, party_freed}
+use Rattle.sc_law_walks.proofs.WalkLemmas.{either_way, Names, ChangesNothing, voting_group, MachineWalk, machine_step}
+use Rattle.sc_law_entries.specs.names.NameDefinitions.{Opt, BodyNames, WatchNames, NoNames, PastNames, OutcomeNames, LockNames, CoreNames, CommandNames, RefusalNames, EffectNames}
 
 -- of each of a list that is mapped
 pub Each-map : {X Y : Type 0} (P : X → Type 0) (Q : Y → Type 0) (f : X → Y) → ((x : X) → P x → Q (f x)) → (xs : List X) → Each P xs → Each Q (map f xs)

@@ -4,21 +4,21 @@ use Rattle.std.specs.Prelude.{is_some, is_none}
 use Rattle.std.proofs.lemmas.Bool.{and_from, cond-true, cond-false}
 use Rattle.sc_base.specs.Definitions.{Each, same_draw, Drawer, next_name, is_member}
 use Rattle.sc_node_table.specs.Values.{Draw, Op, Command, Noop, Call, GiveUp, Base, Core, Lock, Free, Coordinating, Promised, Watching, Route, Order, OrderLine, OrderRefusal, Outcome, Past, AnswerBody, Mail, MailBody, Answer, Prepare, Promise, Accept, Accepted, Nack, Learn, Ask, Install, TxVote, TxElsewhere, TxWatched, Told, Must, Counted, Report}
-use Rattle.sc_words.specs.ideal.Definitions.{key_of, holds_key}
+use Rattle.sc_words.specs.ideal.IdealDefinitions.{key_of, holds_key}
 use Rattle.sc_words.specs.declared.commands.orders.Order.TheVariants as An
 use Rattle.sc_words.specs.declared.commands.orders.OrderRefusal.TheVariants as Why
 use Rattle.sc_words.specs.declared.commands.orders.OrderResult.TheVariants as Results
 use Rattle.sc_words.specs.declared.commands.votes.Past.TheVariants as Cast
 use Rattle.sc_words.specs.declared.commands.votes.Vote.TheVariants as Says
 use Rattle.sc_mail.specs.declared.bodies.AnswerBody.TheVariants as Answers
-use Rattle.sc_group_table.specs.machine.Definitions.{Group, base_of, locked_in, refusal_of, frozen_of, is_locked_in}
-use Rattle.sc_words.proofs.PaxosProofs.Lemmas.{Each-append, Each-filter}
-use Rattle.sc_words.specs.paxos.Definitions.{below, after_promise, after_accept, promise_counted, counted, reports_from}
-use Rattle.sc_node_table.specs.Definitions.{ReplicaState, Place, name_of, next, members, open_nodes, settled, named, sent, ordered_command, takes_name, has_drawn_all, named_refused, first_of_both, untaken, ordered_row, group_of_order, wished_line, admits_requests, asked_link, question, without_request, reminders, request_refusal, made_by, tick_row, mailed, noted_vote, noted_outcome, gone_vote, standing_by, standing_vote, next_asked, asked_next}
-use Rattle.sc_law_entries.specs.names.Definitions.{Opt, OutcomeNames, PastNames, LockNames, CoreNames, CommandNames, RefusalNames, AnswerNames, BodiesNames, Owned, owned_by, drawn_for, waited, wished_at, drawn_wishing}
+use Rattle.sc_group_table.specs.machine.MachineDefinitions.{Group, base_of, locked_in, refusal_of, frozen_of, is_locked_in}
+use Rattle.sc_words.proofs.PaxosProofs.PaxosLemmas.{Each-append, Each-filter}
+use Rattle.sc_words.specs.paxos.PaxosDefinitions.{below, after_promise, after_accept, promise_counted, counted, reports_from}
+use Rattle.sc_node_table.specs.NodeDefinitions.{ReplicaState, Place, name_of, next, members, open_nodes, settled, named, sent, ordered_command, takes_name, has_drawn_all, named_refused, first_of_both, untaken, ordered_row, group_of_order, wished_line, admits_requests, asked_link, question, without_request, reminders, request_refusal, made_by, tick_row, mailed, noted_vote, noted_outcome, gone_vote, standing_by, standing_vote, next_asked, asked_next}
+use Rattle.sc_law_entries.specs.names.NameDefinitions.{Opt, OutcomeNames, PastNames, LockNames, CoreNames, CommandNames, RefusalNames, AnswerNames, BodiesNames, Owned, owned_by, drawn_for, waited, wished_at, drawn_wishing}
 use Rattle.sc_law_entries.proofs.NamesProofs.EachFound.{opt_find, opt_map, opt_slot, report_with}
 use Rattle.sc_law_entries.proofs.NamesProofs.Machine.{refusal_names, child_by_names}
-use Rattle.sc_law_walks.proofs.Lemmas.{either_way, TableFacts, TableStates, TableSays, TableWalk, TableTicks, MayEnter}
+use Rattle.sc_law_walks.proofs.WalkLemmas.{either_way, TableFacts, TableStates, TableSays, TableWalk, TableTicks, MayEnter}
 use Rattle.sc_law_walks.proofs.TableRows as rows
 use Rattle.sc_law_walks.proofs.TableTicks as tick
 use Rattle.sc_law_entries.proofs.NamesProofs.Sent.{Sent, sent_names, sent_all_names, answered_names, question_names, voted_to_names, watched_to_names, outcome_names}

@@ -2,12 +2,12 @@
 use Rattle.std.proofs.Common.{◌≡◌, ◌++◌, Some, inl, inr, sym, ◌∙◌, subst, arith}
 use Rattle.std.proofs.lemmas.Option.{same_Some}
 use Rattle.sc_node_table.specs.Values.{Draw, Command, Noop, Join, Leave, Split, Begin, GiveUp}
-use Rattle.sc_words.proofs.PaxosProofs.Lemmas.{Each-among}
-use Rattle.sc_meaning.specs.sound.Definitions.{Ahead, decided_log}
-use Rattle.sc_law_entries.specs.ring.Definitions.{draw_of}
+use Rattle.sc_words.proofs.PaxosProofs.PaxosLemmas.{Each-among}
+use Rattle.sc_meaning.specs.sound.SoundDefinitions.{Ahead, decided_log}
+use Rattle.sc_law_entries.specs.ring.RingDefinitions.{draw_of}
 use Rattle.sc_scenario.specs.declared.scenario.scenarios.Scenario.{Scenario}
-use Rattle.sc_law_entries.specs.names.Definitions.{IsUsed, AllowedNamesAreDrawn, LoggedNamesAreDrawn, MoreOwnersAllow, CommandNames, Rows, owner_in}
-use Rattle.sc_law_entries.proofs.RingProofs.Lemmas.{owned}
+use Rattle.sc_law_entries.specs.names.NameDefinitions.{IsUsed, AllowedNamesAreDrawn, LoggedNamesAreDrawn, MoreOwnersAllow, CommandNames, Rows, owner_in}
+use Rattle.sc_law_entries.proofs.RingProofs.RingLemmas.{owned}
 use Rattle.sc_law_entries.proofs.NamesProofs.Counters.{owned_are_of_nodes}
 use Rattle.sc_law_entries.proofs.NamesProofs.Fresh.{names_are_drawn}
 use Rattle.sc_law_entries.proofs.NamesProofs.Owned.{owned_are_drawn, owned_later}

@@ -6,12 +6,12 @@ use Rattle.sc_base.specs.Definitions.{Among, Drawer, next_name}
 use Rattle.sc_node_table.specs.Values.{Draw, Command, Order, OrderLine, OrderRefusal, Mail, Tick, Row, Node}
 use Rattle.sc_words.specs.declared.commands.orders.Order.TheVariants as An
 use Rattle.sc_actor.specs.Definitions.{value}
-use Rattle.sc_node_table.specs.Definitions.{NodeState, group_of_order, names_after_ticks, ordered_command, takes_name, untaken, queued_or_refused, ordered_row, names_after_tick, pumped, ReplicaState}
+use Rattle.sc_node_table.specs.NodeDefinitions.{NodeState, group_of_order, names_after_ticks, ordered_command, takes_name, untaken, queued_or_refused, ordered_row, names_after_tick, pumped, ReplicaState}
 use Rattle.sc_paxos_law.proofs.Lemmas.{Among-left, Among-right}
-use Rattle.sc_meaning.specs.sound.Definitions.{Ahead, Player, player_table, node_seat}
+use Rattle.sc_meaning.specs.sound.SoundDefinitions.{Ahead, Player, player_table, node_seat}
 use Rattle.sc_scenario.specs.declared.scenario.scenarios.Scenario.{Scenario}
-use Rattle.sc_law_entries.specs.ring.Definitions.{Sources, IsAllowed, Stories}
-use Rattle.sc_law_entries.specs.names.Definitions.{Rows, Owned, drawn_for, waited, wished_at, drawn_wishing, drawn_ticking, names_drawn, drawn_at, is_node_of, owner_in, IsAtPosition, TakesOrder, TakenOrdersAreAllowed, TakesWish, TakenWishesAreAllowed, OrdersAreQueued}
+use Rattle.sc_law_entries.specs.ring.RingDefinitions.{Sources, IsAllowed, Stories}
+use Rattle.sc_law_entries.specs.names.NameDefinitions.{Rows, Owned, drawn_for, waited, wished_at, drawn_wishing, drawn_ticking, names_drawn, drawn_at, is_node_of, owner_in, IsAtPosition, TakesOrder, TakenOrdersAreAllowed, TakesWish, TakenWishesAreAllowed, OrdersAreQueued}
 use Rattle.sc_law_entries.proofs.NamesProofs.Counters.{drawn_are_owned}
 use Rattle.sc_law_entries.proofs.NamesProofs.Wished.{wished_of}
 

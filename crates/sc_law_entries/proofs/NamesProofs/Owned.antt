@@ -4,11 +4,11 @@ use Rattle.std.proofs.lemmas.Bool.{cases_Bool, cond-true, cond-false}
 use Rattle.sc_base.specs.Definitions.{Among, same_draw}
 use Rattle.sc_node_table.specs.Values.{Draw, OrderLine, Mail, Row}
 use Rattle.sc_base.proofs.Lemmas.{draw_is, same_name}
-use Rattle.sc_node_table.specs.Definitions.{either}
-use Rattle.sc_meaning.specs.sound.Definitions.{Ahead}
+use Rattle.sc_node_table.specs.NodeDefinitions.{either}
+use Rattle.sc_meaning.specs.sound.SoundDefinitions.{Ahead}
 use Rattle.sc_scenario.specs.declared.scenario.scenarios.Scenario.{Scenario}
-use Rattle.sc_law_entries.specs.names.Definitions.{Rows, Owned, owned_by, drawn_at, owner_by, owner_from, owner_in, IsDrawn, OwnersStay, OwnedNamesAreDrawn}
-use Rattle.sc_law_walks.proofs.Lemmas.{either_assoc, either_none}
+use Rattle.sc_law_entries.specs.names.NameDefinitions.{Rows, Owned, owned_by, drawn_at, owner_by, owner_from, owner_in, IsDrawn, OwnersStay, OwnedNamesAreDrawn}
+use Rattle.sc_law_walks.proofs.WalkLemmas.{either_assoc, either_none}
 
 -- the first of drawn names is owned by its group
 pub owner_of_drawn : (owned : Owned) (more : List Owned) → owner_by (owned ∷ more) owned.name ≡ Some owned.group

@@ -6,21 +6,21 @@ use Rattle.std.specs.Map.{set_value, remove_entry}
 use Rattle.sc_base.specs.Definitions.{Each, end_of, key_of, same_draw, pos_of, Drawer, next_name}
 use Rattle.sc_node_table.specs.Values.{Draw, Op, Input, Got, Base, OrderLine, AnswerBody, Mail, MailBody, Request, Answer, Prepare, Accept, Learn, Ask, Install, TxPrepare, TxElsewhere, TxWatch, Told as ToldMail}
 use Rattle.sc_actor.specs.declared.rows.Input.TheVariants.{Tick, Go, Told}
-use Rattle.sc_client_table.specs.table.Definitions.{Client as ClientState, waiting_request, ClientStep, asked_of, sent_to, sent_where, chosen_for, request_sent, started, turned_on, client_ticked, waits_for, was_asked, redirected, answer_taken, got, table}
+use Rattle.sc_client_table.specs.table.TableDefinitions.{Client as ClientState, waiting_request, ClientStep, asked_of, sent_to, sent_where, chosen_for, request_sent, started, turned_on, client_ticked, waits_for, was_asked, redirected, answer_taken, got, table}
 use Rattle.sc_words.specs.declared.commands.orders.OrderRefusal.TheVariants as Why
 use Rattle.sc_words.specs.declared.commands.orders.OrderResult.TheVariants as Results
 use Rattle.sc_client_table.specs.declared.lookup.ways.Way.{Way}
-use Rattle.sc_client_table.specs.lookup.Definitions.{KnownGroups, way_to, better, chosen, target_in, changed, preferring, passed_on, starting, group_learnt, learnt_from_not_mine, learnt_from_gone, far, new_way, next_target}
+use Rattle.sc_client_table.specs.lookup.LookupDefinitions.{KnownGroups, way_to, better, chosen, target_in, changed, preferring, passed_on, starting, group_learnt, learnt_from_not_mine, learnt_from_gone, far, new_way, next_target}
 use Rattle.sc_mail.specs.declared.bodies.AnswerBody.TheVariants as Answers
-use Rattle.sc_node_table.specs.Definitions.{NodeState, replica_of, with_replica, with_new, group_of_mail, absent, with_made, unknown, may_come, with_born, with_children, taken_by, routed, on_mail, group_of_order, ordered_of, ticked, node_table, takes_name, untaken, ordered_row, names_after_tick, ReplicaState, Place, Executed, name_of, born_replica, last_slot, tick_row, made_by, mailed, slots_ahead}
-use Rattle.sc_words.proofs.PaxosProofs.Lemmas.{Each-append}
-use Rattle.sc_law_entries.specs.names.Definitions.{Opt, CoreNames, AnswerNames, BodiesNames, MailNames, ReplicaNames, NodeNames, ClientNames, Owned, waited, wished_at, drawn_wishing, drawn_ticking}
+use Rattle.sc_node_table.specs.NodeDefinitions.{NodeState, replica_of, with_replica, with_new, group_of_mail, absent, with_made, unknown, may_come, with_born, with_children, taken_by, routed, on_mail, group_of_order, ordered_of, ticked, node_table, takes_name, untaken, ordered_row, names_after_tick, ReplicaState, Place, Executed, name_of, born_replica, last_slot, tick_row, made_by, mailed, slots_ahead}
+use Rattle.sc_words.proofs.PaxosProofs.PaxosLemmas.{Each-append}
+use Rattle.sc_law_entries.specs.names.NameDefinitions.{Opt, CoreNames, AnswerNames, BodiesNames, MailNames, ReplicaNames, NodeNames, ClientNames, Owned, waited, wished_at, drawn_wishing, drawn_ticking}
 use Rattle.sc_law_entries.proofs.NamesProofs.EachFound.{opt_find, opt_map}
-use Rattle.sc_law_walks.proofs.Lemmas.{either_way}
+use Rattle.sc_law_walks.proofs.WalkLemmas.{either_way}
 use Rattle.sc_law_entries.proofs.NamesProofs.Sent.{Sent, sent_names}
 use Rattle.sc_law_entries.proofs.NamesProofs.HeldNames.{Fine, born_names}
 use Rattle.sc_law_entries.proofs.NamesProofs.NamesInRows.{Kids, made_names, tick_names, mailed_names, mailed_kids, ordered_row_names, order_names}
-use Rattle.sc_law_walks.proofs.Lemmas.{replaced_each, added_each}
+use Rattle.sc_law_walks.proofs.WalkLemmas.{replaced_each, added_each}
 
 module _ (K : Draw → Type 0) where
   abbrev Rs : List ReplicaState → Type 0

@@ -9,13 +9,13 @@ use Rattle.sc_words.specs.declared.commands.orders.OrderResult.TheVariants as Re
 use Rattle.sc_words.specs.declared.commands.votes.Outcome.TheVariants as Is
 use Rattle.sc_words.specs.declared.commands.votes.Past.TheVariants as Cast
 use Rattle.sc_words.specs.declared.commands.votes.Vote.TheVariants as Says
-use Rattle.sc_words.specs.commands.Definitions.{refused_result, result_of, decided_in, cast_in}
-use Rattle.sc_group_table.specs.machine.Definitions.{Group, can_split, frozen_of, merged_link, right_link}
-use Rattle.sc_words.proofs.PaxosProofs.Lemmas.{Each-append}
+use Rattle.sc_words.specs.commands.CommandDefinitions.{refused_result, result_of, decided_in, cast_in}
+use Rattle.sc_group_table.specs.machine.MachineDefinitions.{Group, can_split, frozen_of, merged_link, right_link}
+use Rattle.sc_words.proofs.PaxosProofs.PaxosLemmas.{Each-append}
 use Rattle.sc_node_table.specs.declared.Before.{Before}
-use Rattle.sc_node_table.specs.Definitions.{sent, sent_all, sent_others, answered, answered_all, order_reported, dismissed, dismissed_all, offer_of, heard_question, question, asked_first, voted_to, watched_to, outcome_sent, heard_from, before_in, before_of, outcome_result, decided_result, begun_result, spoken_number, result_reported, begun_reported, asked_on, begun_asks, vote_sent, watch_sent, aborted_to, aborted_watcher, given_up_by, vote_answered, released_to, watch_answered_by, went_on, spoken_mails}
-use Rattle.sc_law_entries.specs.names.Definitions.{Opt, BodyNames, OfferNames, WatchNames, PastNames, OutcomeNames, HeardNames, LockNames, CoreNames, CommandNames, EffectNames, ResultNames, AnswerNames, BodiesNames, MailNames}
-use Rattle.sc_law_walks.proofs.Lemmas.{either_way}
+use Rattle.sc_node_table.specs.NodeDefinitions.{sent, sent_all, sent_others, answered, answered_all, order_reported, dismissed, dismissed_all, offer_of, heard_question, question, asked_first, voted_to, watched_to, outcome_sent, heard_from, before_in, before_of, outcome_result, decided_result, begun_result, spoken_number, result_reported, begun_reported, asked_on, begun_asks, vote_sent, watch_sent, aborted_to, aborted_watcher, given_up_by, vote_answered, released_to, watch_answered_by, went_on, spoken_mails}
+use Rattle.sc_law_entries.specs.names.NameDefinitions.{Opt, BodyNames, OfferNames, WatchNames, PastNames, OutcomeNames, HeardNames, LockNames, CoreNames, CommandNames, EffectNames, ResultNames, AnswerNames, BodiesNames, MailNames}
+use Rattle.sc_law_walks.proofs.WalkLemmas.{either_way}
 
 module _ (K : Draw → Type 0) where
   abbrev pub Sent : List Mail → Type 0

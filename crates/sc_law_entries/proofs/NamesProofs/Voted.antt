@@ -2,12 +2,12 @@
 use Rattle.std.proofs.Common.{ℕ, ◌-◌, ◌&&◌, not, nat_lt, eqb, Bool, List, Option, Some, None}
 use Rattle.sc_base.specs.Definitions.{same_ballot, is_member, is_majority}
 use Rattle.sc_node_table.specs.Values.{Ballot, Draw, Command, Report, Flight, Counted, Chosen, NotYet}
-use Rattle.sc_words.proofs.PaxosProofs.Lemmas.{Each-append}
-use Rattle.sc_words.specs.paxos.Definitions.{AcceptorState, LeaderState, flight_at, promise_counted, entry_at, kept_voters, voters_after, tallied, vote_at, counted}
-use Rattle.sc_node_table.specs.Definitions.{with_slot, ReplicaState}
-use Rattle.sc_law_entries.specs.names.Definitions.{Opt, CommandNames, ReportsNames}
+use Rattle.sc_words.proofs.PaxosProofs.PaxosLemmas.{Each-append}
+use Rattle.sc_words.specs.paxos.PaxosDefinitions.{AcceptorState, LeaderState, flight_at, promise_counted, entry_at, kept_voters, voters_after, tallied, vote_at, counted}
+use Rattle.sc_node_table.specs.NodeDefinitions.{with_slot, ReplicaState}
+use Rattle.sc_law_entries.specs.names.NameDefinitions.{Opt, CommandNames, ReportsNames}
 use Rattle.sc_law_entries.proofs.NamesProofs.EachFound.{Flights, opt_find, opt_get, slot_with, flight_without, voters_with}
-use Rattle.sc_law_walks.proofs.Lemmas.{either_way}
+use Rattle.sc_law_walks.proofs.WalkLemmas.{either_way}
 use Rattle.sc_law_entries.proofs.NamesProofs.HeldNames.{Cmd, R}
 
 module _ (K : Draw → Type 0) where

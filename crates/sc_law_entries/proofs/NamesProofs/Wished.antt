@@ -6,13 +6,13 @@ use Rattle.std.specs.Option.{option_map}
 use Rattle.std.proofs.lemmas.Bool.{cond_both}
 use Rattle.std.proofs.lemmas.Nat.{mod_below}
 use Rattle.sc_node_table.specs.Values.{Draw, GiveUp, Core, Lock, Free, Coordinating, Promised, Watching, OrderLine}
-use Rattle.sc_group_table.specs.machine.Definitions.{Group}
+use Rattle.sc_group_table.specs.machine.MachineDefinitions.{Group}
 use Rattle.sc_base.specs.Definitions.{is_member}
 use Rattle.sc_group_table.specs.declared.policy.bodies.Body0.{Body0}
 use Rattle.sc_group_table.specs.declared.policy.bodies.Body0.TheVariants.{Split, Merge, Repart}
-use Rattle.sc_group_table.specs.policy.Definitions.{has_neighbour, is_small, middle_of, positions_from, middle_key, wants_split, wants_repart, wished, wished_of_two, order_of, wished_order}
-use Rattle.sc_node_table.specs.Definitions.{has_act, with_act, group_of_order, is_at_rest, policy_line, wished_line, patience, one_tick_more, waited_in, ReplicaState, name_of, members, settled}
-use Rattle.sc_law_entries.specs.names.Definitions.{IsAtPosition, WishesAreAtPositions, waited, wished_at}
+use Rattle.sc_group_table.specs.policy.PolicyDefinitions.{has_neighbour, is_small, middle_of, positions_from, middle_key, wants_split, wants_repart, wished, wished_of_two, order_of, wished_order}
+use Rattle.sc_node_table.specs.NodeDefinitions.{has_act, with_act, group_of_order, is_at_rest, policy_line, wished_line, patience, one_tick_more, waited_in, ReplicaState, name_of, members, settled}
+use Rattle.sc_law_entries.specs.names.NameDefinitions.{IsAtPosition, WishesAreAtPositions, waited, wished_at}
 
 -- ---- waiting leaves the group
 

@@ -19,11 +19,11 @@ use Rattle.sc_words.specs.declared.commands.votes.Frozen.{Frozen}
 use Rattle.sc_words.specs.declared.commands.votes.Heard.{Heard}
 use Rattle.sc_words.specs.declared.commands.votes.Outcome.{Outcome}
 use Rattle.sc_words.specs.declared.commands.votes.Outcome.TheVariants.{Abort, Merged, Moved, Migrated, Divided}
-use Rattle.sc_group_table.specs.machine.Definitions.{Group, participant_after, settled_in, finished, party_freed, watcher_after, applied}
-use Rattle.sc_meaning.specs.entries.Definitions.{division_of, after_outcome, is_commit, both_arcs, decided_by}
+use Rattle.sc_group_table.specs.machine.MachineDefinitions.{Group, participant_after, settled_in, finished, party_freed, watcher_after, applied}
+use Rattle.sc_meaning.specs.entries.EntryDefinitions.{division_of, after_outcome, is_commit, both_arcs, decided_by}
 use Rattle.sc_meaning.specs.declared.entries.Division.{Division}
-use Rattle.sc_law_entries.specs.ring.Definitions.{Story, Stories, put, unsigned, unsigned_watch, offer_for, watch_for, Groups, LockOk, IsOwnBody, IsFrozen, IsAgreed, Facts}
-use Rattle.sc_meaning.proofs.EntriesProofs.Lemmas.{draw_cases}
+use Rattle.sc_law_entries.specs.ring.RingDefinitions.{Story, Stories, put, unsigned, unsigned_watch, offer_for, watch_for, Groups, LockOk, IsOwnBody, IsFrozen, IsAgreed, Facts}
+use Rattle.sc_meaning.proofs.EntriesProofs.EntryLemmas.{draw_cases}
 use Rattle.sc_law_entries.proofs.RingProofs.View.{Ring, HeldBy, Holds, merge_view, move_view, split_view, IsOnRing}
 use Rattle.sc_law_entries.proofs.RingProofs.Cover.{at-same, at-is, at-other}
 use Rattle.sc_law_entries.proofs.RingProofs.Links.{IsPair, pair_meets}

@@ -4,8 +4,8 @@ use Rattle.std.proofs.lemmas.Bool.{cond-true, cond-false}
 use Rattle.sc_base.specs.Definitions.{same_draw, Arc}
 use Rattle.sc_base.specs.declared.names.Draw.{Draw}
 use Rattle.sc_base.proofs.Lemmas.{same_name}
-use Rattle.sc_law_entries.specs.ring.Definitions.{put}
-use Rattle.sc_meaning.proofs.EntriesProofs.Lemmas.{draw_cases, other_name}
+use Rattle.sc_law_entries.specs.ring.RingDefinitions.{put}
+use Rattle.sc_meaning.proofs.EntriesProofs.EntryLemmas.{draw_cases, other_name}
 use Rattle.sc_law_entries.proofs.RingProofs.View.{IsOnRing, HeldBy, Ring, CoversBy}
 
 pub at-same : {X : Type 0} (f : Draw → X) (g : Draw) (x : X) → put f g x g ≡ x

@@ -9,12 +9,12 @@ use Rattle.sc_base.specs.declared.names.Draw.{Draw}
 use Rattle.sc_base.proofs.Lemmas.{draw_is, same_name}
 use Rattle.sc_meaning.specs.declared.entries.Cut.{Cut}
 use Rattle.sc_meaning.specs.declared.entries.Division.{Division}
-use Rattle.sc_meaning.specs.entries.Definitions.{is_cut_of, arc_in, recut, parts_of}
-use Rattle.sc_law_entries.specs.ring.Definitions.{put}
-use Rattle.sc_meaning.proofs.EntriesProofs.Lemmas.{draw_cases, other_name}
+use Rattle.sc_meaning.specs.entries.EntryDefinitions.{is_cut_of, arc_in, recut, parts_of}
+use Rattle.sc_law_entries.specs.ring.RingDefinitions.{put}
+use Rattle.sc_meaning.proofs.EntriesProofs.EntryLemmas.{draw_cases, other_name}
 use Rattle.sc_law_entries.proofs.RingProofs.Cover.{at-is, at-other}
 use Rattle.sc_law_entries.proofs.RingProofs.View.{Ring}
-use Rattle.sc_words.proofs.PaxosProofs.Lemmas.{Each-among, find_found}
+use Rattle.sc_words.proofs.PaxosProofs.PaxosLemmas.{Each-among, find_found}
 use Rattle.sc_law_entries.proofs.RingProofs.Finds.{find_map, find_first, find_skips, each_map, Pairwise, some_none}
 use Rattle.std.proofs.lemmas.Option.{none-some, same_Some}
 

@@ -21,13 +21,13 @@ use Rattle.sc_words.specs.declared.commands.votes.Past.{Past}
 use Rattle.sc_words.specs.declared.commands.votes.Past.TheVariants as Cast
 use Rattle.sc_words.specs.declared.commands.votes.Vote.{Vote}
 use Rattle.sc_words.specs.declared.commands.votes.Vote.TheVariants as Ballot
-use Rattle.sc_words.specs.commands.Definitions.{is_divided, decided_in}
-use Rattle.sc_group_table.specs.machine.Definitions.{decided, Group, group_of, can_cut, can_join, can_split, can_repart, can_migrate, has_key_of, merged_route, merged_group, closing_group, part_gift, giving_group, taken, taking_group, migrated_group, left_group, child_of, decided_group, aborted, heard_group, vote_recorded, watch_recorded, is_coordinating}
-use Rattle.sc_meaning.specs.entries.Definitions.{division_in}
+use Rattle.sc_words.specs.commands.CommandDefinitions.{is_divided, decided_in}
+use Rattle.sc_group_table.specs.machine.MachineDefinitions.{decided, Group, group_of, can_cut, can_join, can_split, can_repart, can_migrate, has_key_of, merged_route, merged_group, closing_group, part_gift, giving_group, taken, taking_group, migrated_group, left_group, child_of, decided_group, aborted, heard_group, vote_recorded, watch_recorded, is_coordinating}
+use Rattle.sc_meaning.specs.entries.EntryDefinitions.{division_in}
 use Rattle.sc_meaning.specs.declared.entries.Division.{Division}
-use Rattle.sc_law_walks.proofs.Lemmas.{vote_step, watch_step}
-use Rattle.sc_law_entries.specs.ring.Definitions.{IsVoteCast, IsWatchVoteCast, Story, Stories, put, with_story, merge_watch, with_decision, with_answer, Groups, IsEarned, Facts}
-use Rattle.sc_meaning.proofs.EntriesProofs.Lemmas.{names_differ}
+use Rattle.sc_law_walks.proofs.WalkLemmas.{vote_step, watch_step}
+use Rattle.sc_law_entries.specs.ring.RingDefinitions.{IsVoteCast, IsWatchVoteCast, Story, Stories, put, with_story, merge_watch, with_decision, with_answer, Groups, IsEarned, Facts}
+use Rattle.sc_meaning.proofs.EntriesProofs.EntryLemmas.{names_differ}
 use Rattle.sc_law_entries.proofs.RingProofs.Notes.{any_keeps, any_drops, any_new, is_vote_on}
 use Rattle.sc_law_entries.proofs.RingProofs.View.{Ring}
 use Rattle.sc_law_entries.proofs.RingProofs.Cover.{at-same, at-other}

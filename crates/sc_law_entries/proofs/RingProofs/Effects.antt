@@ -3,7 +3,7 @@ use Rattle.std.proofs.Common.{◌≡◌, ℕ, false, List, ◌⊎◌, inl, inr, 
 use Rattle.std.specs.FinMap.{get, empty}
 use Rattle.sc_base.specs.Definitions.{Arc}
 use Rattle.sc_base.specs.declared.names.Draw.{Draw}
-use Rattle.sc_words.specs.ideal.Definitions.{Contents, holds_key}
+use Rattle.sc_words.specs.ideal.IdealDefinitions.{Contents, holds_key}
 use Rattle.sc_words.specs.declared.commands.bodies.Offer.{Offer}
 use Rattle.sc_words.specs.declared.commands.bodies.Watch.{Watch}
 use Rattle.sc_words.specs.declared.commands.cores.Lock.{Lock}
@@ -11,11 +11,11 @@ use Rattle.sc_words.specs.declared.commands.cores.Lock.TheVariants.{Free, Coordi
 use Rattle.sc_words.specs.declared.commands.links.Route.{Route}
 use Rattle.sc_words.specs.declared.commands.votes.Outcome.{Outcome}
 use Rattle.sc_words.specs.declared.commands.votes.Outcome.TheVariants.{Abort, Merged, Moved, Migrated, Divided}
-use Rattle.sc_group_table.specs.machine.Definitions.{Group}
-use Rattle.sc_meaning.specs.entries.Definitions.{after_outcome}
-use Rattle.sc_law_entries.specs.ring.Definitions.{Story, Stories, put, unsigned, unsigned_watch, Groups, LockOk}
+use Rattle.sc_group_table.specs.machine.MachineDefinitions.{Group}
+use Rattle.sc_meaning.specs.entries.EntryDefinitions.{after_outcome}
+use Rattle.sc_law_entries.specs.ring.RingDefinitions.{Story, Stories, put, unsigned, unsigned_watch, Groups, LockOk}
 use Rattle.sc_law_entries.proofs.RingProofs.View.{View, Ring, HeldBy}
-use Rattle.sc_meaning.proofs.EntriesProofs.Lemmas.{draw_cases}
+use Rattle.sc_meaning.proofs.EntriesProofs.EntryLemmas.{draw_cases}
 use Rattle.sc_law_entries.proofs.RingProofs.Cover.{at-is, at-other}
 use Rattle.sc_law_entries.proofs.RingProofs.Facts.{IsOf}
 use Rattle.sc_law_entries.proofs.RingProofs.Recut.{IsWhole}

@@ -14,9 +14,9 @@ use Rattle.sc_words.specs.declared.commands.votes.Heard.{Heard}
 use Rattle.sc_words.specs.declared.commands.votes.Outcome.{Outcome}
 use Rattle.sc_words.specs.declared.commands.votes.Outcome.TheVariants.{Abort}
 use Rattle.sc_words.specs.declared.commands.votes.Vote.TheVariants as Ballot
-use Rattle.sc_group_table.specs.machine.Definitions.{Group, heard_group}
-use Rattle.sc_law_entries.specs.ring.Definitions.{Story, Stories, put, merge_watch, unsigned_watch, Groups, has_decided, has_born, IsCoordinating, LockOk, IsEarned, Origin, Facts}
-use Rattle.sc_meaning.proofs.EntriesProofs.Lemmas.{draw_cases}
+use Rattle.sc_group_table.specs.machine.MachineDefinitions.{Group, heard_group}
+use Rattle.sc_law_entries.specs.ring.RingDefinitions.{Story, Stories, put, merge_watch, unsigned_watch, Groups, has_decided, has_born, IsCoordinating, LockOk, IsEarned, Origin, Facts}
+use Rattle.sc_meaning.proofs.EntriesProofs.EntryLemmas.{draw_cases}
 use Rattle.sc_law_entries.proofs.RingProofs.Cover.{at-same, at-is, at-other, from_at}
 use Rattle.sc_law_entries.proofs.RingProofs.Facts.{IsOf, keep_known, keep_there, keep_voter, keep_watcher, keep_frozen, keep_none, facts_quiet, facts_told, StayBorn, StayVoted, SameDecided}
 use Rattle.sc_law_entries.proofs.RingProofs.EntryKinds.{other_calm, no_coord}

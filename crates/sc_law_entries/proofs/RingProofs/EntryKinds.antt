@@ -18,9 +18,9 @@ use Rattle.sc_words.specs.declared.commands.votes.Past.{Past}
 use Rattle.sc_words.specs.declared.commands.votes.Past.TheVariants as Cast
 use Rattle.sc_words.specs.declared.commands.votes.Vote.{Vote}
 use Rattle.sc_words.specs.declared.commands.votes.Vote.TheVariants as Ballot
-use Rattle.sc_group_table.specs.machine.Definitions.{Group, frozen_of, begun_group, has_voted}
-use Rattle.sc_law_entries.specs.ring.Definitions.{Story, Stories, put, unsigned, unsigned_watch, offer_for, watch_for, new_story, Groups, has_decided, IsOwnBody, LockOk, IsWatcher, StoryOk, Facts}
-use Rattle.sc_meaning.proofs.EntriesProofs.Lemmas.{draw_cases}
+use Rattle.sc_group_table.specs.machine.MachineDefinitions.{Group, frozen_of, begun_group, has_voted}
+use Rattle.sc_law_entries.specs.ring.RingDefinitions.{Story, Stories, put, unsigned, unsigned_watch, offer_for, watch_for, new_story, Groups, has_decided, IsOwnBody, LockOk, IsWatcher, StoryOk, Facts}
+use Rattle.sc_meaning.proofs.EntriesProofs.EntryLemmas.{draw_cases}
 use Rattle.sc_law_entries.proofs.RingProofs.Notes.{any_keeps, any_new, is_vote_on}
 use Rattle.sc_law_entries.proofs.RingProofs.Cover.{at-same, at-is, at-other, from_at}
 use Rattle.sc_law_entries.proofs.RingProofs.Facts.{same_frozen, IsOf, IsCalm, keep_known, keep_there, keep_voter, keep_watcher, keep_frozen, keep_agreed, keep_none, story_keep, IsGrown, group_new, facts_change, facts_quiet, facts_told, StayBorn, SameDecided}

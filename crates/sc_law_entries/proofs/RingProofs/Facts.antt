@@ -10,9 +10,9 @@ use Rattle.sc_words.specs.declared.commands.cores.Lock.TheVariants.{Free, Coordi
 use Rattle.sc_words.specs.declared.commands.votes.Frozen.{Frozen}
 use Rattle.sc_words.specs.declared.commands.votes.Heard.{Heard}
 use Rattle.sc_words.specs.declared.commands.votes.Vote.TheVariants.{Yes}
-use Rattle.sc_group_table.specs.machine.Definitions.{Group, frozen_of, has_voted}
-use Rattle.sc_law_entries.specs.ring.Definitions.{Story, Stories, put, unsigned_watch, Groups, has_decided, has_born, LockOk, GroupOk, IsFrozen, IsAgreed, IsVoter, IsWatcher, StoryOk, Origin, Facts}
-use Rattle.sc_meaning.proofs.EntriesProofs.Lemmas.{draw_cases}
+use Rattle.sc_group_table.specs.machine.MachineDefinitions.{Group, frozen_of, has_voted}
+use Rattle.sc_law_entries.specs.ring.RingDefinitions.{Story, Stories, put, unsigned_watch, Groups, has_decided, has_born, LockOk, GroupOk, IsFrozen, IsAgreed, IsVoter, IsWatcher, StoryOk, Origin, Facts}
+use Rattle.sc_meaning.proofs.EntriesProofs.EntryLemmas.{draw_cases}
 use Rattle.sc_law_entries.proofs.RingProofs.Cover.{at-same, at-is, at-other, from_at}
 use Rattle.sc_law_entries.proofs.RingProofs.Finds.{some_none}
 

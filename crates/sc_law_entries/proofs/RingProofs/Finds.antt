@@ -5,7 +5,7 @@ use Rattle.std.specs.Option.{option_map}
 use Rattle.std.proofs.Common.{◌≡◌, ℕ, zero, suc, ◌<◌, Bool, true, false, cond, List, [], ◌∷◌, inl, inr, Option, Some, None, refl, ◌∙◌, ap, arith, length, AllPairs, get_or}
 use Rattle.std.proofs.lemmas.Bool.{cond-true, cond-false}
 use Rattle.sc_base.specs.Definitions.{Among, Each}
-use Rattle.sc_words.proofs.PaxosProofs.Lemmas.{Each-among, Each-filter, Each-from_All}
+use Rattle.sc_words.proofs.PaxosProofs.PaxosLemmas.{Each-among, Each-filter, Each-from_All}
 use Rattle.sc_base.proofs.Lemmas.{AllPairs-head, AllPairs-tail}
 pub use Rattle.sc_law_walks.proofs.Lists.{map_among}
 

@@ -9,15 +9,15 @@ use Rattle.sc_base.specs.declared.names.Draw.{Draw}
 use Rattle.sc_base.proofs.Lemmas.{draw_is, same_name}
 use Rattle.sc_words.specs.declared.commands.cores.Base.{Base}
 use Rattle.sc_words.specs.declared.commands.votes.Outcome.{Outcome}
-use Rattle.sc_group_table.specs.machine.Definitions.{Group, group_of}
+use Rattle.sc_group_table.specs.machine.MachineDefinitions.{Group, group_of}
 use Rattle.sc_meaning.specs.declared.entries.Transaction.{Transaction}
-use Rattle.sc_meaning.specs.entries.Definitions.{is_of, amended, concluded, with_outcome as concludes, with_watcher, transaction_in, decision, is_named, named_group, with_group, groups_after}
-use Rattle.sc_law_entries.specs.ring.Definitions.{Story, Stories, put, with_story, with_decision, Groups}
-use Rattle.sc_meaning.proofs.EntriesProofs.Lemmas.{draw_cases, other_name, found_name}
+use Rattle.sc_meaning.specs.entries.EntryDefinitions.{is_of, amended, concluded, with_outcome as concludes, with_watcher, transaction_in, decision, is_named, named_group, with_group, groups_after}
+use Rattle.sc_law_entries.specs.ring.RingDefinitions.{Story, Stories, put, with_story, with_decision, Groups}
+use Rattle.sc_meaning.proofs.EntriesProofs.EntryLemmas.{draw_cases, other_name, found_name}
 use Rattle.sc_law_entries.proofs.RingProofs.Cover.{at-same, at-is, at-other}
 use Rattle.sc_law_entries.proofs.RingProofs.Effects.{outcome_of}
 use Rattle.sc_paxos_law.proofs.Lemmas.{Among-either, from_map}
-use Rattle.sc_words.proofs.PaxosProofs.Lemmas.{find_found}
+use Rattle.sc_words.proofs.PaxosProofs.PaxosLemmas.{find_found}
 use Rattle.sc_law_entries.proofs.RingProofs.Finds.{find_map, some_none}
 use Rattle.std.proofs.lemmas.Option.{none-some, same_Some}
 

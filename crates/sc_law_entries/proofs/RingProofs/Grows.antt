@@ -23,14 +23,14 @@ use Rattle.sc_words.specs.declared.commands.votes.Past.{Past}
 use Rattle.sc_words.specs.declared.commands.votes.Past.TheVariants as Cast
 use Rattle.sc_words.specs.declared.commands.votes.Vote.{Vote}
 use Rattle.sc_words.specs.declared.commands.votes.Vote.TheVariants as Ballot
-use Rattle.sc_words.specs.commands.Definitions.{decided_in, is_alone}
-use Rattle.sc_group_table.specs.machine.Definitions.{Group, applied, split_group, begun_group, vote_recorded, watch_recorded, is_coordinating, aborted, has_voted, vote_of, watch_vote_of, past_of}
-use Rattle.sc_meaning.specs.entries.Definitions.{named_group}
+use Rattle.sc_words.specs.commands.CommandDefinitions.{decided_in, is_alone}
+use Rattle.sc_group_table.specs.machine.MachineDefinitions.{Group, applied, split_group, begun_group, vote_recorded, watch_recorded, is_coordinating, aborted, has_voted, vote_of, watch_vote_of, past_of}
+use Rattle.sc_meaning.specs.entries.EntryDefinitions.{named_group}
 use Rattle.sc_meaning.specs.declared.entries.LogEntry.{LogEntry}
 use Rattle.sc_words.specs.declared.commands.votes.Outcome.TheVariants as Is
-use Rattle.sc_law_walks.proofs.Lemmas.{vote_step, decided_walk, watch_step}
-use Rattle.sc_law_entries.specs.ring.Definitions.{Sources, IsVoteCast, IsWatchVoteCast, IsAllowed, AreAllowed, StoryWorld, first_recorded, recorded_stories, recorded_next, recorded_after, Story, Stories, put, with_story, new_story, unsigned, unsigned_watch, watch_for, vote_in, watch_vote_in, with_vote, with_watch_vote, with_decision, with_asked, with_answer, stories_after, Groups, AllowedEntriesStayAllowed}
-use Rattle.sc_meaning.proofs.EntriesProofs.Lemmas.{draw_cases}
+use Rattle.sc_law_walks.proofs.WalkLemmas.{vote_step, decided_walk, watch_step}
+use Rattle.sc_law_entries.specs.ring.RingDefinitions.{Sources, IsVoteCast, IsWatchVoteCast, IsAllowed, AreAllowed, StoryWorld, first_recorded, recorded_stories, recorded_next, recorded_after, Story, Stories, put, with_story, new_story, unsigned, unsigned_watch, watch_for, vote_in, watch_vote_in, with_vote, with_watch_vote, with_decision, with_asked, with_answer, stories_after, Groups, AllowedEntriesStayAllowed}
+use Rattle.sc_meaning.proofs.EntriesProofs.EntryLemmas.{draw_cases}
 use Rattle.sc_law_entries.proofs.RingProofs.View.{Ring}
 use Rattle.sc_law_entries.proofs.RingProofs.Cover.{at-is, at-other}
 use Rattle.sc_law_entries.proofs.RingProofs.EntryKinds.{unheard, not_passed}

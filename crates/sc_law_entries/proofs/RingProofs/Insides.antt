@@ -9,9 +9,9 @@ use Rattle.std.specs.Cmp.Lexicographic.{slice_cmp, nat_list_cmp_total}
 use Rattle.std.specs.FinMap.{find, is_sorted, get, empty, entries, get-entries, entries_sorted, get-empty}
 use Rattle.sc_base.specs.Definitions.{Arc, before, from, joined, offset, end_of, pos_of}
 use Rattle.sc_base.proofs.Lemmas.{joins_hold}
-use Rattle.sc_words.specs.ideal.Definitions.{Contents, holds_key, part_of, with_pairs}
-use Rattle.sc_words.proofs.IdealProofs.Lemmas.{get-part, or_else, get-with_pairs, none_past, sorted_rest}
-use Rattle.sc_group_table.specs.machine.Definitions.{has_key_of}
+use Rattle.sc_words.specs.ideal.IdealDefinitions.{Contents, holds_key, part_of, with_pairs}
+use Rattle.sc_words.proofs.IdealProofs.IdealLemmas.{get-part, or_else, get-with_pairs, none_past, sorted_rest}
+use Rattle.sc_group_table.specs.machine.MachineDefinitions.{has_key_of}
 use Rattle.sc_law_entries.proofs.RingProofs.View.{IsOnRing, Holds}
 use lib.Dec.{T}
 use Rattle.std.proofs.lemmas.Option.{none-some}

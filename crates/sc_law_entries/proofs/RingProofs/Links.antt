@@ -2,8 +2,8 @@
 use Rattle.std.proofs.Common.{◌≡◌, ℕ, ◌^◌, ◌<◌, inl, inr, Some, None, refl, sym, ◌∙◌, ap}
 use Rattle.std.proofs.lemmas.Option.{same_Some}
 use Rattle.sc_base.specs.declared.names.Draw.{Draw}
-use Rattle.sc_law_entries.specs.ring.Definitions.{put}
-use Rattle.sc_meaning.proofs.EntriesProofs.Lemmas.{draw_cases}
+use Rattle.sc_law_entries.specs.ring.RingDefinitions.{put}
+use Rattle.sc_meaning.proofs.EntriesProofs.EntryLemmas.{draw_cases}
 use Rattle.sc_base.specs.Definitions.{Arc, end_of, before, from, joined}
 use Rattle.sc_law_entries.proofs.RingProofs.View.{IsOnRing, Holds, Ring, View, IsLinked, split_view, merge_view, move_view}
 use Rattle.sc_law_entries.proofs.RingProofs.Arcs.{end_left, end_right, end_joined}

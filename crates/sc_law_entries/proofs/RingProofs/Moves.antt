@@ -5,15 +5,15 @@ use Rattle.std.proofs.lemmas.Bool.{cond-true, cond-false, and_from, and_parts, n
 use Rattle.std.specs.FinMap.{entries, empty}
 use Rattle.sc_base.specs.Definitions.{Arc, before, from, joined, offset, end_of, holds, united}
 use Rattle.sc_base.specs.declared.names.Draw.{Draw}
-use Rattle.sc_words.specs.ideal.Definitions.{part_of, with_pairs}
+use Rattle.sc_words.specs.ideal.IdealDefinitions.{part_of, with_pairs}
 use Rattle.sc_words.specs.declared.commands.bodies.Body.TheVariants as At
 use Rattle.sc_words.specs.declared.commands.votes.Frozen.{Frozen}
 use Rattle.sc_words.specs.declared.commands.votes.Outcome.{Outcome}
 use Rattle.sc_words.specs.declared.commands.votes.Outcome.TheVariants.{Moved, Migrated}
 use Rattle.sc_words.specs.declared.commands.votes.Vote.TheVariants as Ballot
-use Rattle.sc_group_table.specs.machine.Definitions.{Group, can_gain, gained_group, lost_group, welcomed_group, participant_after, party_freed, can_cut, can_join, has_key_of, part_gift, giving_group, taking_group, migrated_group, decided_group}
-use Rattle.sc_law_entries.specs.ring.Definitions.{Story, Stories, put, Groups}
-use Rattle.sc_meaning.proofs.EntriesProofs.Lemmas.{draw_cases}
+use Rattle.sc_group_table.specs.machine.MachineDefinitions.{Group, can_gain, gained_group, lost_group, welcomed_group, participant_after, party_freed, can_cut, can_join, has_key_of, part_gift, giving_group, taking_group, migrated_group, decided_group}
+use Rattle.sc_law_entries.specs.ring.RingDefinitions.{Story, Stories, put, Groups}
+use Rattle.sc_meaning.proofs.EntriesProofs.EntryLemmas.{draw_cases}
 use Rattle.sc_law_entries.proofs.RingProofs.View.{Ring, Holds, move_view}
 use Rattle.sc_law_entries.proofs.RingProofs.Arcs.{end_right, right_is, left_is}
 use Rattle.sc_law_entries.proofs.RingProofs.Links.{IsPair, pair_meets}

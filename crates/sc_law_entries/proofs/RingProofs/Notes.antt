@@ -9,7 +9,7 @@ use Rattle.sc_base.specs.declared.names.Draw.{Draw}
 use Rattle.sc_words.specs.declared.commands.cores.Core.{Core}
 use Rattle.sc_words.specs.declared.commands.votes.Past.{Past}
 use Rattle.sc_words.specs.declared.commands.votes.Past.TheVariants.{Ended}
-use Rattle.sc_group_table.specs.machine.Definitions.{closed, voted_after, has_voted}
+use Rattle.sc_group_table.specs.machine.MachineDefinitions.{closed, voted_after, has_voted}
 
 pub any_keeps : {X : Type 0} (p : X → Bool) (xs ys : List X) → list_any p xs ≡ true → list_any p (xs ++ ys) ≡ true
 any_keeps p xs ys e = list_any-append p xs ys ∙ or_left (list_any p xs) (list_any p ys) e

@@ -3,7 +3,7 @@ use Rattle.std.proofs.Common.{◌≡◌, ℕ, ◌+◌, ◌^◌, ◌<◌, ◌≤�
 use Rattle.sc_base.specs.Definitions.{Arc, end_of, before, from, joined}
 use Rattle.sc_law_entries.proofs.RingProofs.View.{IsOnRing, Holds, HeldBy, Ring, CoversBy, View, IsLinked, split_view, merge_view, move_view}
 use Rattle.sc_base.specs.declared.names.Draw.{Draw}
-use Rattle.sc_law_entries.specs.ring.Definitions.{put}
+use Rattle.sc_law_entries.specs.ring.RingDefinitions.{put}
 use Rattle.sc_law_entries.proofs.RingProofs.Arcs.{to_parts, from_left, from_right, not_both, left_is, right_is, from_joined, to_joined, end_left, end_right, end_joined}
 use Rattle.sc_law_entries.proofs.RingProofs.Cover.{IsRecut, covers_edit}
 use Rattle.sc_law_entries.proofs.RingProofs.Links.{differ, IsPair, pair_meets, linked_split, linked_merge, linked_move}

@@ -9,9 +9,9 @@ use Rattle.sc_base.specs.Definitions.{same_draw, Arc}
 use Rattle.sc_base.specs.declared.names.Draw.{Draw}
 use Rattle.sc_base.specs.declared.ops.Op.{Op}
 use Rattle.sc_base.specs.declared.ops.Noted.{Noted}
-use Rattle.sc_words.specs.commands.Definitions.{is_changed, is_alone}
-use Rattle.sc_words.specs.ideal.Definitions.{Contents, key_of, after, holds_key}
-use Rattle.sc_words.proofs.IdealProofs.Lemmas.{apart, get-part}
+use Rattle.sc_words.specs.commands.CommandDefinitions.{is_changed, is_alone}
+use Rattle.sc_words.specs.ideal.IdealDefinitions.{Contents, key_of, after, holds_key}
+use Rattle.sc_words.proofs.IdealProofs.IdealLemmas.{apart, get-part}
 use Rattle.sc_words.specs.declared.commands.bodies.Body.{Body}
 use Rattle.sc_words.specs.declared.commands.bodies.Body.TheVariants as At
 use Rattle.sc_words.specs.declared.commands.bodies.Watch.{Watch}
@@ -28,10 +28,10 @@ use Rattle.sc_words.specs.declared.commands.orders.OrderRefusal.{OrderRefusal}
 use Rattle.sc_words.specs.declared.commands.orders.OrderRefusal.TheVariants.{NotLeader, InTransaction, NoNeighbour}
 use Rattle.sc_words.specs.declared.commands.votes.Outcome.{Outcome}
 use Rattle.sc_words.specs.declared.commands.votes.Outcome.TheVariants.{Abort, Merged, Moved, Migrated, Divided}
-use Rattle.sc_group_table.specs.machine.Definitions.{Group, finished, party_freed, pred_after, watcher_after, watch_ended, done, served_by_note, served, called, applied, ordered_by, locked_in, refused_free, refused_in, refusal_of, begin_refused, body_refused, ordered, with_node, without_node, has_named, is_locked_in, begun_group}
-use Rattle.sc_meaning.specs.entries.Definitions.{after_outcome, is_commit}
-use Rattle.sc_law_entries.specs.ring.Definitions.{IsShared, Story, Stories, put, with_story, new_story, stories_after, Groups, has_decided, has_born, IsOwnBody, Facts}
-use Rattle.sc_meaning.proofs.EntriesProofs.Lemmas.{draw_cases, names_differ}
+use Rattle.sc_group_table.specs.machine.MachineDefinitions.{Group, finished, party_freed, pred_after, watcher_after, watch_ended, done, served_by_note, served, called, applied, ordered_by, locked_in, refused_free, refused_in, refusal_of, begin_refused, body_refused, ordered, with_node, without_node, has_named, is_locked_in, begun_group}
+use Rattle.sc_meaning.specs.entries.EntryDefinitions.{after_outcome, is_commit}
+use Rattle.sc_law_entries.specs.ring.RingDefinitions.{IsShared, Story, Stories, put, with_story, new_story, stories_after, Groups, has_decided, has_born, IsOwnBody, Facts}
+use Rattle.sc_meaning.proofs.EntriesProofs.EntryLemmas.{draw_cases, names_differ}
 use Rattle.sc_law_entries.proofs.RingProofs.View.{Ring}
 use Rattle.sc_law_entries.proofs.RingProofs.Cover.{at-same, at-is, at-other}
 use Rattle.sc_base.proofs.Lemmas.{same_name}

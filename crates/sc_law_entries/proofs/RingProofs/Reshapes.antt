@@ -3,7 +3,7 @@ use Rattle.std.proofs.Common.{◌≡◌, true, cond, Option, Some, None, refl, s
 use Rattle.std.proofs.lemmas.Option.{same_Some}
 use Rattle.sc_base.specs.Definitions.{joined, same_draw}
 use Rattle.sc_base.specs.declared.names.Draw.{Draw}
-use Rattle.sc_words.specs.ideal.Definitions.{with_pairs}
+use Rattle.sc_words.specs.ideal.IdealDefinitions.{with_pairs}
 use Rattle.sc_words.specs.declared.commands.bodies.Body.{Body}
 use Rattle.sc_words.specs.declared.commands.bodies.Body.TheVariants as At
 use Rattle.sc_words.specs.declared.commands.bodies.Offer.{Offer}
@@ -14,12 +14,12 @@ use Rattle.sc_words.specs.declared.commands.votes.Outcome.{Outcome}
 use Rattle.sc_words.specs.declared.commands.votes.Outcome.TheVariants.{Merged}
 use Rattle.sc_words.specs.declared.commands.votes.Past.TheVariants as Cast
 use Rattle.sc_words.specs.declared.commands.votes.Vote.TheVariants as Ballot
-use Rattle.sc_group_table.specs.machine.Definitions.{Group, participant_after, settled_in, party_freed, watcher_after, merged_link, merged_route, merged_group, closing_group, decided_group}
+use Rattle.sc_group_table.specs.machine.MachineDefinitions.{Group, participant_after, settled_in, party_freed, watcher_after, merged_link, merged_route, merged_group, closing_group, decided_group}
 use Rattle.sc_words.specs.declared.commands.cores.Lock.TheVariants.{Free}
-use Rattle.sc_meaning.specs.entries.Definitions.{is_commit}
+use Rattle.sc_meaning.specs.entries.EntryDefinitions.{is_commit}
 use Rattle.sc_base.proofs.Lemmas.{draw_is}
-use Rattle.sc_law_entries.specs.ring.Definitions.{Story, Stories, unsigned, unsigned_watch, offer_for, offer_with, watch_for, watch_with, Groups, IsFrozen}
-use Rattle.sc_meaning.proofs.EntriesProofs.Lemmas.{other_name}
+use Rattle.sc_law_entries.specs.ring.RingDefinitions.{Story, Stories, unsigned, unsigned_watch, offer_for, offer_with, watch_for, watch_with, Groups, IsFrozen}
+use Rattle.sc_meaning.proofs.EntriesProofs.EntryLemmas.{other_name}
 use Rattle.sc_law_entries.proofs.RingProofs.View.{Ring}
 use Rattle.sc_law_entries.proofs.RingProofs.Links.{not_back}
 use Rattle.sc_law_entries.proofs.RingProofs.Effects.{living, arc_of, succ_of, view_of, Good, Old, living_is}

@@ -13,11 +13,11 @@ use Rattle.sc_words.specs.declared.commands.commands.Command.TheVariants.{Call, 
 use Rattle.sc_words.specs.declared.commands.effects.Effect.{Effect}
 use Rattle.sc_words.specs.declared.commands.votes.Past.TheVariants as Cast
 use Rattle.sc_words.specs.declared.commands.votes.Vote.TheVariants as Ballot
-use Rattle.sc_group_table.specs.machine.Definitions.{Group, group_of, served_by_note, has_key_of, merged_group, begun_group, heard_group, committed, watched}
+use Rattle.sc_group_table.specs.machine.MachineDefinitions.{Group, group_of, served_by_note, has_key_of, merged_group, begun_group, heard_group, committed, watched}
 use Rattle.sc_meaning.specs.declared.entries.Cut.{Cut}
 use Rattle.sc_meaning.specs.declared.entries.LogEntry.{LogEntry}
-use Rattle.sc_meaning.specs.entries.Definitions.{Covers, first_cut, with_result, first_world, world_of, world_after}
-use Rattle.sc_law_entries.specs.ring.Definitions.{AreAllowed, StoryWorld, first_recorded, recorded_next, recorded_after, no_stories, stories_after, BeginInPlace, BeginsInPlace, drawn, example_entry, ring_cut_of, sources, merge_put, watcher_put, merge_get, group_one, group_two, group_three, merge_bases, two_called, two_frozen, merge_offer, merge_watch_asked, merge_outcome, merge_entries, split_left, split_right, split_bases, split_entries, MergeIsAllowed, SplitIsAllowed}
+use Rattle.sc_meaning.specs.entries.EntryDefinitions.{Covers, first_cut, with_result, first_world, world_of, world_after}
+use Rattle.sc_law_entries.specs.ring.RingDefinitions.{AreAllowed, StoryWorld, first_recorded, recorded_next, recorded_after, no_stories, stories_after, BeginInPlace, BeginsInPlace, drawn, example_entry, ring_cut_of, sources, merge_put, watcher_put, merge_get, group_one, group_two, group_three, merge_bases, two_called, two_frozen, merge_offer, merge_watch_asked, merge_outcome, merge_entries, split_left, split_right, split_bases, split_entries, MergeIsAllowed, SplitIsAllowed}
 use Rattle.sc_law_entries.proofs.RingProofs.Finds.{all_pairs}
 use Rattle.sc_law_entries.proofs.RingProofs.Insides.{clear_of}
 use Rattle.sc_law_entries.proofs.RingProofs.Rings.{AreApart}

@@ -11,11 +11,11 @@ use Rattle.sc_words.specs.declared.commands.effects.Effect.{Effect}
 use Rattle.sc_words.specs.declared.commands.effects.Effect.TheVariants as Was
 use Rattle.sc_words.specs.declared.commands.votes.Outcome.{Outcome}
 use Rattle.sc_words.specs.declared.commands.votes.Outcome.TheVariants.{Abort, Merged, Moved, Migrated, Divided}
-use Rattle.sc_words.specs.commands.Definitions.{is_divided, decided_in}
-use Rattle.sc_meaning.specs.entries.Definitions.{division_in, division_of, is_cut_of, arc_in, recut, parts_of, ring_divided, both_arcs, ring_merged, ring_moved, ring_decided, decided_by, ring_after}
+use Rattle.sc_words.specs.commands.CommandDefinitions.{is_divided, decided_in}
+use Rattle.sc_meaning.specs.entries.EntryDefinitions.{division_in, division_of, is_cut_of, arc_in, recut, parts_of, ring_divided, both_arcs, ring_merged, ring_moved, ring_decided, decided_by, ring_after}
 use Rattle.sc_meaning.specs.declared.entries.Cut.{Cut}
 use Rattle.sc_meaning.specs.declared.entries.Division.{Division}
-use Rattle.sc_law_entries.specs.ring.Definitions.{put}
+use Rattle.sc_law_entries.specs.ring.RingDefinitions.{put}
 use Rattle.sc_law_entries.proofs.RingProofs.View.{Ring}
 use Rattle.sc_law_entries.proofs.RingProofs.Cover.{at-other}
 use Rattle.sc_law_entries.proofs.RingProofs.Finds.{Pairwise, pairwise_filter}

@@ -5,8 +5,8 @@ use Rattle.std.proofs.lemmas.Option.{same_Some}
 use Rattle.sc_base.specs.Definitions.{before, from}
 use Rattle.sc_base.specs.declared.names.Draw.{Draw}
 use Rattle.sc_base.proofs.Lemmas.{draw_is}
-use Rattle.sc_words.specs.commands.Definitions.{is_alone}
-use Rattle.sc_words.specs.ideal.Definitions.{part_of}
+use Rattle.sc_words.specs.commands.CommandDefinitions.{is_alone}
+use Rattle.sc_words.specs.ideal.IdealDefinitions.{part_of}
 use Rattle.sc_words.specs.declared.commands.bodies.Body.TheVariants as At
 use Rattle.sc_words.specs.declared.commands.bodies.Watch.{Watch}
 use Rattle.sc_words.specs.declared.commands.cores.Lock.TheVariants.{Free}
@@ -14,9 +14,9 @@ use Rattle.sc_words.specs.declared.commands.links.Link.{Link}
 use Rattle.sc_words.specs.declared.commands.votes.Heard.{Heard}
 use Rattle.sc_words.specs.declared.commands.votes.Outcome.TheVariants.{Divided}
 use Rattle.sc_words.specs.declared.commands.votes.Past.TheVariants as Cast
-use Rattle.sc_group_table.specs.machine.Definitions.{Group, group_of, party_freed, watcher_after, locked_in, splits_at_once, left_group, child_of, left_link, right_link, decided_group}
-use Rattle.sc_law_entries.specs.ring.Definitions.{Story, Stories, put, unsigned, unsigned_watch, watch_with, Groups}
-use Rattle.sc_meaning.proofs.EntriesProofs.Lemmas.{draw_cases}
+use Rattle.sc_group_table.specs.machine.MachineDefinitions.{Group, group_of, party_freed, watcher_after, locked_in, splits_at_once, left_group, child_of, left_link, right_link, decided_group}
+use Rattle.sc_law_entries.specs.ring.RingDefinitions.{Story, Stories, put, unsigned, unsigned_watch, watch_with, Groups}
+use Rattle.sc_meaning.proofs.EntriesProofs.EntryLemmas.{draw_cases}
 use Rattle.sc_law_entries.proofs.RingProofs.View.{Ring, Holds, split_view}
 use Rattle.sc_law_entries.proofs.RingProofs.Cover.{at-same, at-other}
 use Rattle.sc_law_entries.proofs.RingProofs.Recut.{split_whole}

@@ -20,12 +20,12 @@ use Rattle.sc_words.specs.declared.commands.orders.OrderRefusal.TheVariants.{Bad
 use Rattle.sc_words.specs.declared.commands.votes.Heard.{Heard}
 use Rattle.sc_words.specs.declared.commands.votes.Outcome.{Outcome}
 use Rattle.sc_words.specs.declared.commands.votes.Outcome.TheVariants.{Abort, Merged, Moved, Migrated, Divided}
-use Rattle.sc_words.specs.commands.Definitions.{is_alone}
-use Rattle.sc_group_table.specs.machine.Definitions.{Group, group_of, can_gain, gained_group, lost_group, welcomed_group, participant_after, settled_in, party_freed, watcher_after, watch_ended, finished, split_group, ordered_by, refusal_of, split_refused, can_cut, has_key_of, left_group, child_of, begun_group}
-use Rattle.sc_meaning.specs.entries.Definitions.{division_of, after_outcome, is_commit}
+use Rattle.sc_words.specs.commands.CommandDefinitions.{is_alone}
+use Rattle.sc_group_table.specs.machine.MachineDefinitions.{Group, group_of, can_gain, gained_group, lost_group, welcomed_group, participant_after, settled_in, party_freed, watcher_after, watch_ended, finished, split_group, ordered_by, refusal_of, split_refused, can_cut, has_key_of, left_group, child_of, begun_group}
+use Rattle.sc_meaning.specs.entries.EntryDefinitions.{division_of, after_outcome, is_commit}
 use Rattle.sc_meaning.specs.declared.entries.Division.{Division}
-use Rattle.sc_law_entries.specs.ring.Definitions.{Story, Stories, put, new_story, stories_after, Groups, LockOk}
-use Rattle.sc_meaning.proofs.EntriesProofs.Lemmas.{names_differ}
+use Rattle.sc_law_entries.specs.ring.RingDefinitions.{Story, Stories, put, new_story, stories_after, Groups, LockOk}
+use Rattle.sc_meaning.proofs.EntriesProofs.EntryLemmas.{names_differ}
 use Rattle.sc_law_entries.proofs.RingProofs.Notes.{any_keeps, any_new, ended_keeps, is_vote_on}
 use Rattle.sc_law_entries.proofs.RingProofs.View.{Ring}
 use Rattle.sc_law_entries.proofs.RingProofs.Cover.{at-same, at-other}

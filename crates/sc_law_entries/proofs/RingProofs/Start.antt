@@ -9,16 +9,16 @@ use Rattle.std.specs.Cmp.Lexicographic.{slice_cmp}
 use Rattle.sc_base.specs.Definitions.{Among, Arc, end_of, offset, same_draw}
 use Rattle.sc_base.specs.declared.names.Draw.{Draw}
 use Rattle.sc_base.proofs.Lemmas.{same_name}
-use Rattle.sc_words.specs.ideal.Definitions.{with_pairs}
+use Rattle.sc_words.specs.ideal.IdealDefinitions.{with_pairs}
 use Rattle.sc_words.specs.declared.commands.cores.Base.{Base}
-use Rattle.sc_group_table.specs.machine.Definitions.{Group, group_of}
+use Rattle.sc_group_table.specs.machine.MachineDefinitions.{Group, group_of}
 use Rattle.sc_meaning.specs.declared.entries.Cut.{Cut}
-use Rattle.sc_meaning.specs.entries.Definitions.{Covers, is_cut_of, arc_in, first_cut, is_named, named_group}
-use Rattle.sc_law_entries.specs.ring.Definitions.{Sources, first_recorded, no_stories, Groups, LockOk, Facts, BeginInPlace, BeginsInPlace}
-use Rattle.sc_meaning.proofs.EntriesProofs.Lemmas.{other_name, found_name}
+use Rattle.sc_meaning.specs.entries.EntryDefinitions.{Covers, is_cut_of, arc_in, first_cut, is_named, named_group}
+use Rattle.sc_law_entries.specs.ring.RingDefinitions.{Sources, first_recorded, no_stories, Groups, LockOk, Facts, BeginInPlace, BeginsInPlace}
+use Rattle.sc_meaning.proofs.EntriesProofs.EntryLemmas.{other_name, found_name}
 use Rattle.sc_law_entries.proofs.RingProofs.View.{IsOnRing, Holds, HeldBy, Ring, CoversBy, View, IsLinked}
 use Rattle.sc_paxos_law.proofs.Lemmas.{from_map}
-use Rattle.sc_words.proofs.PaxosProofs.Lemmas.{Each-among, Each-from, find_found}
+use Rattle.sc_words.proofs.PaxosProofs.PaxosLemmas.{Each-among, Each-from, find_found}
 use Rattle.sc_law_entries.proofs.RingProofs.Finds.{find_first, find_skips, map_among, Pairwise, pairwise_from}
 use Rattle.sc_law_entries.proofs.RingProofs.CutLookups.{arcs_in, cut_of_arc, arc_of_cut}
 use Rattle.sc_law_entries.proofs.RingProofs.Effects.{decisions, eff, arc_of, succ_of, pred_of, view_of, IsInside, Good, Old, eff_free}

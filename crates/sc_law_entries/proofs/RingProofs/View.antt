@@ -2,7 +2,7 @@
 use Rattle.std.specs.Prelude.{◌≡◌, ℕ, ◌^◌, ◌<◌, ◌≤◌, Option, Some, None}
 use Rattle.sc_base.specs.Definitions.{Arc, offset, end_of, before, from, joined}
 use Rattle.sc_base.specs.declared.names.Draw.{Draw}
-use Rattle.sc_law_entries.specs.ring.Definitions.{put}
+use Rattle.sc_law_entries.specs.ring.RingDefinitions.{put}
 
 -- an arc whose start is a position
 pub record IsOnRing (arc : Arc) : Type 0 where

@@ -19,9 +19,9 @@ use Rattle.sc_words.specs.declared.commands.votes.Outcome.TheVariants.{Abort, Me
 use Rattle.sc_words.specs.declared.commands.votes.Past.{Past}
 use Rattle.sc_words.specs.declared.commands.votes.Past.TheVariants as Cast
 use Rattle.sc_words.specs.declared.commands.votes.Vote.TheVariants as Ballot
-use Rattle.sc_group_table.specs.machine.Definitions.{Group, can_gain, gained_group, lost_group, welcomed_group, participant_after, settled_in, finished, party_freed, watch_ended, applied, locked_in, frozen_of, can_cut, has_key_of, has_voted, no_of, vote_of, offer_no, watch_no, watch_vote_of, past_of, bound_by, offer_voted, watched}
-use Rattle.sc_meaning.specs.entries.Definitions.{after_outcome, is_commit}
-use Rattle.sc_law_entries.specs.ring.Definitions.{Story, Stories, put, with_story, unsigned, unsigned_watch, vote_in, watch_vote_in, with_vote, with_watch_vote, Groups}
+use Rattle.sc_group_table.specs.machine.MachineDefinitions.{Group, can_gain, gained_group, lost_group, welcomed_group, participant_after, settled_in, finished, party_freed, watch_ended, applied, locked_in, frozen_of, can_cut, has_key_of, has_voted, no_of, vote_of, offer_no, watch_no, watch_vote_of, past_of, bound_by, offer_voted, watched}
+use Rattle.sc_meaning.specs.entries.EntryDefinitions.{after_outcome, is_commit}
+use Rattle.sc_law_entries.specs.ring.RingDefinitions.{Story, Stories, put, with_story, unsigned, unsigned_watch, vote_in, watch_vote_in, with_vote, with_watch_vote, Groups}
 use Rattle.sc_law_entries.proofs.RingProofs.View.{Ring}
 use Rattle.sc_law_entries.proofs.RingProofs.Cover.{at-same}
 use Rattle.sc_law_entries.proofs.RingProofs.EntryKinds.{Votes, yes_facts, no_facts, agree_facts, deny_facts, unheard, not_passed}

@@ -20,15 +20,15 @@ use Rattle.sc_words.specs.declared.commands.votes.Outcome.{Outcome}
 use Rattle.sc_words.specs.declared.commands.votes.Past.{Past}
 use Rattle.sc_words.specs.declared.commands.votes.Vote.{Vote}
 use Rattle.sc_words.specs.declared.commands.votes.Vote.TheVariants as Ballot
-use Rattle.sc_words.specs.commands.Definitions.{is_changed, decided_in, is_alone}
-use Rattle.sc_group_table.specs.machine.Definitions.{Group, group_of, applied, split_group, child_of, begun_group, vote_recorded, watch_recorded, is_coordinating, aborted}
-use Rattle.sc_meaning.specs.entries.Definitions.{division_by, division_in, division_of, birth_of, begun_transaction, begun_split, named_watcher, with_watcher, amended, concluded, transactions_after, decided_by, arc_in, named_group, groups_after, after_command}
+use Rattle.sc_words.specs.commands.CommandDefinitions.{is_changed, decided_in, is_alone}
+use Rattle.sc_group_table.specs.machine.MachineDefinitions.{Group, group_of, applied, split_group, child_of, begun_group, vote_recorded, watch_recorded, is_coordinating, aborted}
+use Rattle.sc_meaning.specs.entries.EntryDefinitions.{division_by, division_in, division_of, birth_of, begun_transaction, begun_split, named_watcher, with_watcher, amended, concluded, transactions_after, decided_by, arc_in, named_group, groups_after, after_command}
 use Rattle.sc_meaning.specs.declared.entries.Division.{Division}
 use Rattle.sc_meaning.specs.declared.entries.LogEntry.{LogEntry}
 use Rattle.sc_meaning.specs.declared.entries.Transaction.{Transaction}
 use Rattle.sc_words.specs.declared.commands.votes.Outcome.TheVariants as Is
-use Rattle.sc_law_walks.proofs.Lemmas.{vote_step, decided_walk, watch_step}
-use Rattle.sc_law_entries.specs.ring.Definitions.{Sources, IsAllowed, AreAllowed, StoryWorld, recorded_stories, recorded_next, recorded_after, Story, Stories, put, with_story, new_story, vote_in, watch_vote_in, with_vote, with_watch_vote, with_decision, with_asked, with_answer, stories_after, Groups}
+use Rattle.sc_law_walks.proofs.WalkLemmas.{vote_step, decided_walk, watch_step}
+use Rattle.sc_law_entries.specs.ring.RingDefinitions.{Sources, IsAllowed, AreAllowed, StoryWorld, recorded_stories, recorded_next, recorded_after, Story, Stories, put, with_story, new_story, vote_in, watch_vote_in, with_vote, with_watch_vote, with_decision, with_asked, with_answer, stories_after, Groups}
 use Rattle.sc_law_entries.proofs.RingProofs.View.{Ring}
 use Rattle.sc_law_entries.proofs.RingProofs.Cover.{at-same, at-other}
 use Rattle.sc_law_entries.proofs.RingProofs.Ends.{draw_new, group_none, own_story, same_lock}
@@ -36,7 +36,7 @@ use Rattle.sc_law_entries.proofs.RingProofs.Effects.{decisions, eff, arc_of}
 use Rattle.sc_law_entries.proofs.RingProofs.RequestsAndOrders.{Kept, same_fun, idle, call_kept, join_kept, leave_kept, begin_kept, named_cases}
 use Rattle.sc_law_entries.proofs.RingProofs.VotesOfParties.{prepared_kept, watched_kept}
 use Rattle.sc_law_entries.proofs.RingProofs.CutLookups.{arcs_in}
-use Rattle.sc_meaning.proofs.EntriesProofs.Lemmas.{found_name}
+use Rattle.sc_meaning.proofs.EntriesProofs.EntryLemmas.{found_name}
 use Rattle.sc_law_entries.proofs.RingProofs.GroupsInLists.{groups_in, with_child, groups_are, AreFound, found_after, Agree, story_brief, agree_begun, agree_with_story, agree_watcher, agree_concluded}
 use Rattle.sc_law_entries.proofs.RingProofs.CommittedViews.{ring_told}
 use Rattle.sc_law_entries.proofs.RingProofs.Decisions.{born_too, record_kept, give_up_kept, watch_record_kept}

@@ -17,13 +17,13 @@ use Rattle.sc_words.specs.declared.commands.votes.Past.{Past}
 use Rattle.sc_words.specs.declared.commands.votes.Past.TheVariants as Cast
 use Rattle.sc_words.specs.declared.commands.votes.Vote.{Vote}
 use Rattle.sc_words.specs.declared.commands.votes.Vote.TheVariants as Says
-use Rattle.sc_words.specs.commands.Definitions.{is_alone}
-use Rattle.sc_words.specs.ideal.Definitions.{key_of}
-use Rattle.sc_group_table.specs.machine.Definitions.{Group, locked_in, frozen_of, has_named, is_coordinating, has_voted}
+use Rattle.sc_words.specs.commands.CommandDefinitions.{is_alone}
+use Rattle.sc_words.specs.ideal.IdealDefinitions.{key_of}
+use Rattle.sc_group_table.specs.machine.MachineDefinitions.{Group, locked_in, frozen_of, has_named, is_coordinating, has_voted}
 use Rattle.sc_base.specs.declared.ops.Op.{Op}
 use Rattle.sc_meaning.specs.declared.entries.LogEntry.{LogEntry}
 use Rattle.sc_meaning.specs.declared.entries.Transaction.{Transaction}
-use Rattle.sc_meaning.specs.entries.Definitions.{decision, transaction_in, is_commit, serves, arc_in, StoreWorld, first_world, named_group, recorded}
+use Rattle.sc_meaning.specs.entries.EntryDefinitions.{decision, transaction_in, is_commit, serves, arc_in, StoreWorld, first_world, named_group, recorded}
 use Rattle.sc_law_entries.specs.history.Moves.{RequestOf, MatchesHoldings}
 use Rattle.sc_law_entries.specs.history.Worlds.{BeginBare, MakesMove, MatchByMoves, holdings_in}
 

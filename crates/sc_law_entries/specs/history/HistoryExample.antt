@@ -9,7 +9,7 @@ use Rattle.sc_words.specs.declared.commands.commands.Command.TheVariants.{Call, 
 use Rattle.sc_words.specs.declared.commands.cores.Base.{Base}
 use Rattle.sc_words.specs.declared.commands.cores.Lock.TheVariants.{Free}
 use Rattle.sc_meaning.specs.declared.entries.LogEntry.{LogEntry}
-use Rattle.sc_meaning.specs.entries.Definitions.{first_world, world_of}
+use Rattle.sc_meaning.specs.entries.EntryDefinitions.{first_world, world_of}
 use Rattle.sc_law_entries.specs.history.AppliedEntries.{AllMayBeApplied}
 use Rattle.sc_law_entries.specs.history.Worlds.{BeginBare}
 use Rattle.sc_law_entries.specs.history.Moves.{Holding, Holdings, Move, DividedAt, GivenFrom, ServedBy, RequestOf, AreBare, MayMakeAll, history_by, with_holding}

@@ -5,9 +5,9 @@ use Rattle.sc_base.specs.Definitions.{same_draw}
 use Rattle.sc_base.specs.declared.names.Draw.{Draw}
 use Rattle.sc_words.specs.declared.commands.commands.Command.{Command}
 use Rattle.sc_words.specs.declared.commands.cores.Base.{Base}
-use Rattle.sc_group_table.specs.machine.Definitions.{Group, state_after}
+use Rattle.sc_group_table.specs.machine.MachineDefinitions.{Group, state_after}
 use Rattle.sc_meaning.specs.declared.entries.LogEntry.{LogEntry}
-use Rattle.sc_meaning.specs.entries.Definitions.{StoreWorld, named_group, world_after, world_of}
+use Rattle.sc_meaning.specs.entries.EntryDefinitions.{StoreWorld, named_group, world_after, world_of}
 use Rattle.sc_law_entries.specs.history.Moves.{HasNotes}
 use Rattle.sc_law_entries.specs.history.Worlds.{LogNotesStay}
 

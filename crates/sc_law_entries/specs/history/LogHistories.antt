@@ -8,9 +8,9 @@ use Rattle.sc_words.specs.declared.commands.commands.Command.{Command}
 use Rattle.sc_words.specs.declared.commands.commands.Command.TheVariants.{Noop, Call, Join, Leave, Split, Begin, Prepared, RecordVote, GiveUp, Finish, Watched, RecordWatch}
 use Rattle.sc_words.specs.declared.commands.effects.Effect.{Effect}
 use Rattle.sc_words.specs.declared.commands.effects.Effect.TheVariants.{Done, Again}
-use Rattle.sc_words.specs.ideal.Definitions.{Legal, HasEntry, contents_after}
+use Rattle.sc_words.specs.ideal.IdealDefinitions.{Legal, HasEntry, contents_after}
 use Rattle.sc_words.specs.declared.ideal.Entry.{Entry}
-use Rattle.sc_group_table.specs.machine.Definitions.{Group, applied, state_after, effects_of, done_by}
+use Rattle.sc_group_table.specs.machine.MachineDefinitions.{Group, applied, state_after, effects_of, done_by}
 use Rattle.sc_base.specs.Definitions.{Among, Each}
 
 -- a group that holds no pairs and has noted nothing

@@ -6,9 +6,9 @@ use Rattle.sc_base.specs.Definitions.{Among, Arc, IsArc, CanCut, CanJoin, holds,
 use Rattle.sc_base.specs.declared.names.Draw.{Draw}
 use Rattle.sc_base.specs.declared.ops.Noted.{Noted}
 use Rattle.sc_base.specs.declared.ops.Op.{Op}
-use Rattle.sc_words.specs.ideal.Definitions.{ClientTable, joined_with, Legal, HasEntry, contents_after, Contents, key_of, reply_of, after, holds_key, part_of, with_pairs}
+use Rattle.sc_words.specs.ideal.IdealDefinitions.{ClientTable, joined_with, Legal, HasEntry, contents_after, Contents, key_of, reply_of, after, holds_key, part_of, with_pairs}
 use Rattle.sc_words.specs.declared.ideal.Entry.{Entry}
-use Rattle.sc_group_table.specs.machine.Definitions.{Group}
+use Rattle.sc_group_table.specs.machine.MachineDefinitions.{Group}
 
 -- ---- what groups hold
 

@@ -7,7 +7,7 @@ use Rattle.sc_words.specs.declared.commands.bodies.Offer.{Offer}
 use Rattle.sc_words.specs.declared.commands.bodies.Watch.{Watch}
 use Rattle.sc_words.specs.declared.commands.votes.Frozen.{Frozen}
 use Rattle.sc_words.specs.declared.commands.votes.Outcome.{Outcome}
-use Rattle.sc_group_table.specs.machine.Definitions.{gained_group, lost_group, party_freed, watcher_after, welcomed_group, Group, group_of, done, with_node, without_node, closing_group, frozen_of, giving_group, merged_group, migrated_group, part_gift, taking_group, child_of, left_group, decided_group}
+use Rattle.sc_group_table.specs.machine.MachineDefinitions.{gained_group, lost_group, party_freed, watcher_after, welcomed_group, Group, group_of, done, with_node, without_node, closing_group, frozen_of, giving_group, merged_group, migrated_group, part_gift, taking_group, child_of, left_group, decided_group}
 use Rattle.sc_law_entries.specs.history.Moves.{holding_of, part_before, part_from, with_next, with_previous, with_request}
 
 -- a split: the group keeps the part before the boundary, and its child gets the rest

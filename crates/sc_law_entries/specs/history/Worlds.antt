@@ -7,11 +7,11 @@ use Rattle.sc_base.specs.declared.names.Draw.{Draw}
 use Rattle.sc_words.specs.declared.commands.commands.Command.{Command}
 use Rattle.sc_words.specs.declared.commands.commands.Command.TheVariants.{Noop, Call, Join, Leave, Split, Begin, Prepared, RecordVote, GiveUp, Finish, Watched, RecordWatch}
 use Rattle.sc_words.specs.declared.commands.cores.Base.{Base}
-use Rattle.sc_words.specs.ideal.Definitions.{Legal}
-use Rattle.sc_group_table.specs.machine.Definitions.{Group}
+use Rattle.sc_words.specs.ideal.IdealDefinitions.{Legal}
+use Rattle.sc_group_table.specs.machine.MachineDefinitions.{Group}
 use Rattle.sc_meaning.specs.declared.entries.Cut.{Cut}
 use Rattle.sc_meaning.specs.declared.entries.LogEntry.{LogEntry}
-use Rattle.sc_meaning.specs.entries.Definitions.{effective, HoldsItsPart, Covers, arc_in, first_cut, StoreWorld, first_world, named_group, recorded, world_of}
+use Rattle.sc_meaning.specs.entries.EntryDefinitions.{effective, HoldsItsPart, Covers, arc_in, first_cut, StoreWorld, first_world, named_group, recorded, world_of}
 use Rattle.sc_law_entries.specs.history.LogHistories.{LeavesWhole}
 use Rattle.sc_law_entries.specs.history.Moves.{Holding, Holdings, Move, RequestOf, HasNotes, MayMake, MatchesHoldings, entries_by, holding_of, holdings_after}
 

@@ -14,8 +14,8 @@ use Rattle.sc_words.specs.declared.commands.votes.Past.{Past}
 use Rattle.sc_words.specs.declared.commands.votes.Past.TheVariants as Cast
 use Rattle.sc_words.specs.declared.commands.votes.Vote.{Vote}
 use Rattle.sc_words.specs.declared.commands.votes.Vote.TheVariants as Ballot
-use Rattle.sc_group_table.specs.machine.Definitions.{Group, applied, frozen_of}
-use Rattle.sc_law_entries.specs.ring.Definitions.{Sources, IsAllowed, Groups, Facts, Stories, unsigned, unsigned_watch, offer_for, watch_for, stories_after}
+use Rattle.sc_group_table.specs.machine.MachineDefinitions.{Group, applied, frozen_of}
+use Rattle.sc_law_entries.specs.ring.RingDefinitions.{Sources, IsAllowed, Groups, Facts, Stories, unsigned, unsigned_watch, offer_for, watch_for, stories_after}
 
 -- a group as it stands makes a command allowed at a group, whatever the stories are that agree with it
 abbrev pub AllowsAsItStands : Sources → Draw → Group → Draw → Command → Type 0

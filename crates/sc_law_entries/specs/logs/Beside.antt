@@ -9,12 +9,12 @@ use Rattle.sc_words.specs.declared.commands.cores.Base.{Base}
 use Rattle.sc_words.specs.declared.commands.orders.OrderLine.{OrderLine}
 use Rattle.sc_mail.specs.declared.bodies.Mail.{Mail}
 use Rattle.sc_actor.specs.declared.rows.Row.{Row}
-use Rattle.sc_group_table.specs.machine.Definitions.{group_of, state_after, applied}
-use Rattle.sc_paxos_law.specs.Definitions.{IsLog}
-use Rattle.sc_meaning.specs.sound.Definitions.{Ahead, route_of, accepts, groups_at, rule_of, IsChosenIn, decided_log, issue_row, kept_reply, answer_row, Continues, AllHaveRun}
+use Rattle.sc_group_table.specs.machine.MachineDefinitions.{group_of, state_after, applied}
+use Rattle.sc_paxos_law.specs.PaxosLawDefinitions.{IsLog}
+use Rattle.sc_meaning.specs.sound.SoundDefinitions.{Ahead, route_of, accepts, groups_at, rule_of, IsChosenIn, decided_log, issue_row, kept_reply, answer_row, Continues, AllHaveRun}
 use Rattle.sc_scenario.specs.declared.scenario.scenarios.Asks.{Asks}
 use Rattle.sc_scenario.specs.declared.scenario.scenarios.Scenario.{Scenario}
-use Rattle.sc_law_entries.specs.history.Definitions.{IsReplied}
+use Rattle.sc_law_entries.specs.history.HistoryDefinitions.{IsReplied}
 use Rattle.sc_law_entries.specs.logs.Descent.{Rows, added_by}
 
 -- one value per slot of a group; its decided log is a log, and the longest

@@ -6,7 +6,7 @@ use Rattle.sc_words.specs.declared.commands.cores.Base.{Base}
 use Rattle.sc_words.specs.declared.commands.orders.OrderLine.{OrderLine}
 use Rattle.sc_mail.specs.declared.bodies.Mail.{Mail}
 use Rattle.sc_actor.specs.declared.rows.Row.{Row}
-use Rattle.sc_meaning.specs.sound.Definitions.{Ahead, children_of, children_by, decided_log, decided_state}
+use Rattle.sc_meaning.specs.sound.SoundDefinitions.{Ahead, children_of, children_by, decided_log, decided_state}
 
 -- rows of a journal
 abbrev pub Rows : Type 0

@@ -9,11 +9,11 @@ use Rattle.sc_words.specs.declared.commands.orders.OrderLine.{OrderLine}
 use Rattle.sc_mail.specs.declared.bodies.Mail.{Mail}
 use Rattle.sc_actor.specs.declared.rows.Row.{Row}
 use Rattle.sc_words.specs.declared.ideal.Entry.{Entry}
-use Rattle.sc_group_table.specs.machine.Definitions.{group_of, state_after}
-use Rattle.sc_meaning.specs.sound.Definitions.{Ahead, children_of, children_by, groups_at, birth_at, log_at, state_at, entries_at, world_at, history_at, decided_log, decided_state, Continues, IsOneMap, row_of_entry}
+use Rattle.sc_group_table.specs.machine.MachineDefinitions.{group_of, state_after}
+use Rattle.sc_meaning.specs.sound.SoundDefinitions.{Ahead, children_of, children_by, groups_at, birth_at, log_at, state_at, entries_at, world_at, history_at, decided_log, decided_state, Continues, IsOneMap, row_of_entry}
 use Rattle.sc_meaning.specs.declared.entries.LogEntry.{LogEntry}
-use Rattle.sc_meaning.specs.entries.Definitions.{named_group}
-use Rattle.sc_law_entries.specs.history.Definitions.{log_in, HasNotes}
+use Rattle.sc_meaning.specs.entries.EntryDefinitions.{named_group}
+use Rattle.sc_law_entries.specs.history.HistoryDefinitions.{log_in, HasNotes}
 use Rattle.sc_law_entries.specs.logs.Descent.{Rows, IsFound, added_by, newborn_by}
 
 -- ---- groups

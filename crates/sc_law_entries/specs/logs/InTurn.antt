@@ -6,8 +6,8 @@ use Rattle.sc_words.specs.declared.commands.cores.Base.{Base}
 use Rattle.sc_words.specs.declared.commands.orders.OrderLine.{OrderLine}
 use Rattle.sc_mail.specs.declared.bodies.Mail.{Mail}
 use Rattle.sc_actor.specs.declared.rows.Row.{Row}
-use Rattle.sc_meaning.specs.sound.Definitions.{Ahead, groups_at, entries_at, decided_log, Continues}
-use Rattle.sc_law_entries.specs.ring.Definitions.{Sources, IsAllowed, stories_of}
+use Rattle.sc_meaning.specs.sound.SoundDefinitions.{Ahead, groups_at, entries_at, decided_log, Continues}
+use Rattle.sc_law_entries.specs.ring.RingDefinitions.{Sources, IsAllowed, stories_of}
 use Rattle.sc_law_entries.specs.logs.Descent.{Rows, added_by, newborn_by}
 
 -- A row after these decides what was allowed before it, and nothing yet for a group that it creates.

@@ -12,9 +12,9 @@ use Rattle.sc_mail.specs.declared.bodies.MailBody.{MailBody}
 use Rattle.sc_mail.specs.declared.bodies.MailBody.TheVariants.{Request, Accept, Accepted}
 use Rattle.sc_actor.specs.declared.rows.Row.{Row}
 use Rattle.sc_actor.specs.declared.rows.Event.TheVariants.{Deliver, Told, Go}
-use Rattle.sc_law_entries.specs.history.Definitions.{parent, offspring, put_a, lone_base, BeginBare}
-use Rattle.sc_law_entries.specs.ring.Definitions.{Sources, BeginInPlace}
-use Rattle.sc_meaning.specs.sound.Definitions.{four, mail, row, groups_at, log_at}
+use Rattle.sc_law_entries.specs.history.HistoryDefinitions.{parent, offspring, put_a, lone_base, BeginBare}
+use Rattle.sc_law_entries.specs.ring.RingDefinitions.{Sources, BeginInPlace}
+use Rattle.sc_meaning.specs.sound.SoundDefinitions.{four, mail, row, groups_at, log_at}
 use Rattle.sc_law_entries.specs.logs.Descent.{Rows}
 use Rattle.sc_law_entries.specs.logs.InTurn.{DecideInTurn}
 

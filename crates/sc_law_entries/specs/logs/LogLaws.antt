@@ -8,11 +8,11 @@ use Rattle.sc_words.specs.declared.commands.orders.OrderLine.{OrderLine}
 use Rattle.sc_mail.specs.declared.bodies.Mail.{Mail}
 use Rattle.sc_actor.specs.declared.rows.Row.{Row}
 use Rattle.sc_words.specs.declared.ideal.Entry.{Entry}
-use Rattle.sc_meaning.specs.sound.Definitions.{Ahead, groups_at, entries_at, history_at, decided_log, IsSound}
+use Rattle.sc_meaning.specs.sound.SoundDefinitions.{Ahead, groups_at, entries_at, history_at, decided_log, IsSound}
 use Rattle.sc_scenario.specs.declared.scenario.scenarios.Scenario.{Scenario}
-use Rattle.sc_group_table.specs.machine.Definitions.{Group, group_of, state_after}
-use Rattle.sc_law_entries.specs.ring.Definitions.{Sources, IsAllowed, AreAllowed, first_recorded, BeginInPlace, stories_of}
-use Rattle.sc_law_entries.specs.history.Definitions.{BeginBare}
+use Rattle.sc_group_table.specs.machine.MachineDefinitions.{Group, group_of, state_after}
+use Rattle.sc_law_entries.specs.ring.RingDefinitions.{Sources, IsAllowed, AreAllowed, first_recorded, BeginInPlace, stories_of}
+use Rattle.sc_law_entries.specs.history.HistoryDefinitions.{BeginBare}
 use Rattle.sc_law_entries.specs.logs.Allows.{AllowsAsItStands, MakesAllowed, GroupAllows}
 use Rattle.sc_law_entries.specs.logs.Beside.{HoldsBeside}
 use Rattle.sc_law_entries.specs.logs.Descent.{Rows}

@@ -2,12 +2,12 @@
 use Rattle.std.specs.Prelude.{List}
 use Rattle.sc_base.specs.Definitions.{Among}
 use Rattle.sc_words.specs.declared.commands.cores.Base.{Base}
-use Rattle.sc_words.specs.ideal.Definitions.{Legal}
+use Rattle.sc_words.specs.ideal.IdealDefinitions.{Legal}
 use Rattle.sc_meaning.specs.declared.entries.Cut.{Cut}
 use Rattle.sc_meaning.specs.declared.entries.LogEntry.{LogEntry}
-use Rattle.sc_meaning.specs.entries.Definitions.{HoldsItsPart, world_of}
-use Rattle.sc_law_entries.specs.ring.Definitions.{Sources, AreAllowed, first_recorded, BeginInPlace, IsRingSound}
-use Rattle.sc_law_entries.specs.history.Definitions.{BeginBare, LogNotesStay}
+use Rattle.sc_meaning.specs.entries.EntryDefinitions.{HoldsItsPart, world_of}
+use Rattle.sc_law_entries.specs.ring.RingDefinitions.{Sources, AreAllowed, first_recorded, BeginInPlace, IsRingSound}
+use Rattle.sc_law_entries.specs.history.HistoryDefinitions.{BeginBare, LogNotesStay}
 
 -- the ring is sound, the history is legal, the map after it, on each range, is the pairs of the range's group, and what any log ever made its group note has its entry in the history
 pub record MakeOneMap (bases : List Base) (entries : List LogEntry) : Type 0 where

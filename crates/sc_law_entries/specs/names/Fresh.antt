@@ -3,7 +3,7 @@ use Rattle.std.specs.Prelude.{◌≡◌, ℕ, [], Some, None, ◌⊎◌}
 use Rattle.sc_base.specs.Definitions.{Among, Each}
 use Rattle.sc_node_table.specs.Values.{Draw, Base, Free, OrderLine, Mail, Seat, Row}
 use Rattle.sc_actor.specs.Definitions.{mails, value}
-use Rattle.sc_meaning.specs.sound.Definitions.{Ahead, Player, Lawful, player_table, births, groups_at, decided_log}
+use Rattle.sc_meaning.specs.sound.SoundDefinitions.{Ahead, Player, Lawful, player_table, births, groups_at, decided_log}
 use Rattle.sc_scenario.specs.declared.scenario.scenarios.Scenario.{Scenario}
 use Rattle.sc_law_entries.specs.names.Owners.{Rows, Owned, drawn_at, owner_in}
 use Rattle.sc_law_entries.specs.names.Names.{CoreNames, CommandNames, MailNames, PlayerNames}

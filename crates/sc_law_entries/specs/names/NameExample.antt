@@ -8,7 +8,7 @@ use Rattle.sc_actor.specs.declared.rows.Event.TheVariants.{Told}
 use Rattle.sc_scenario.specs.scenario.Definitions.{lone_group, lone_name}
 use Rattle.sc_scenario.specs.declared.scenario.scenarios.SchedLine.TheVariants as line
 use Rattle.sc_scenario.specs.declared.scenario.scenarios.Scenario.{Scenario}
-use Rattle.sc_meaning.specs.sound.Definitions.{ballot, mail, row}
+use Rattle.sc_meaning.specs.sound.SoundDefinitions.{ballot, mail, row}
 use Rattle.sc_law_entries.specs.names.Owners.{Rows}
 
 -- the first name that node 1 draws

@@ -6,10 +6,10 @@ use Rattle.sc_node_table.specs.Values.{Draw, Op, Order, OrderLine, Mail, Row, Ti
 use Rattle.sc_words.specs.declared.commands.orders.Order.TheVariants as An
 use Rattle.sc_actor.specs.declared.rows.Event.TheVariants.{Told}
 use Rattle.sc_actor.specs.Definitions.{value}
-use Rattle.sc_node_table.specs.Definitions.{NodeState, replica_of, group_of_order, names_after_ticks, ordered_command, untaken, ordered_row, pumped, ReplicaState, name_of}
-use Rattle.sc_meaning.specs.sound.Definitions.{Ahead, player_table, node_seat}
+use Rattle.sc_node_table.specs.NodeDefinitions.{NodeState, replica_of, group_of_order, names_after_ticks, ordered_command, untaken, ordered_row, pumped, ReplicaState, name_of}
+use Rattle.sc_meaning.specs.sound.SoundDefinitions.{Ahead, player_table, node_seat}
 use Rattle.sc_scenario.specs.declared.scenario.scenarios.Scenario.{Scenario}
-use Rattle.sc_law_entries.specs.ring.Definitions.{IsAllowed, Stories}
+use Rattle.sc_law_entries.specs.ring.RingDefinitions.{IsAllowed, Stories}
 use Rattle.sc_law_entries.specs.names.Owners.{Rows, Owned, owned_by, waited, wished_at, drawn_at, owner_in}
 
 -- ---- owners

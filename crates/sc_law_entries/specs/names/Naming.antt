@@ -2,8 +2,8 @@
 use Rattle.std.specs.Prelude.{◌≡◌, ℕ, ◌≤◌, ◌++◌, Some}
 use Rattle.sc_base.specs.Definitions.{Among, Each}
 use Rattle.sc_node_table.specs.Values.{Draw, Op, Command, Base}
-use Rattle.sc_meaning.specs.sound.Definitions.{Ahead, Lawful, decided_log}
-use Rattle.sc_law_entries.specs.ring.Definitions.{IsAllowed, draw_of, Stories}
+use Rattle.sc_meaning.specs.sound.SoundDefinitions.{Ahead, Lawful, decided_log}
+use Rattle.sc_law_entries.specs.ring.RingDefinitions.{IsAllowed, draw_of, Stories}
 use Rattle.sc_scenario.specs.declared.scenario.scenarios.Scenario.{Scenario}
 use Rattle.sc_law_entries.specs.names.Fresh.{BeginsUndrawn}
 use Rattle.sc_law_entries.specs.names.NameLaws.{IsDrawn}

@@ -4,8 +4,8 @@ use Rattle.sc_base.specs.Definitions.{Drawer, next_name, same_draw, is_member}
 use Rattle.sc_node_table.specs.Values.{Draw, OrderLine, Mail, Row, Event, Deliver, Drop, Again, Go, Tick, Crash, Node, Client}
 use Rattle.sc_actor.specs.declared.rows.Event.TheVariants.{Told}
 use Rattle.sc_actor.specs.Definitions.{value}
-use Rattle.sc_node_table.specs.Definitions.{replica_of, group_of_order, takes_name, untaken, wished_line, names_after_tick, waited_in, ReplicaState, members, settled, either}
-use Rattle.sc_meaning.specs.sound.Definitions.{Ahead, Player, player_table, node_seat}
+use Rattle.sc_node_table.specs.NodeDefinitions.{replica_of, group_of_order, takes_name, untaken, wished_line, names_after_tick, waited_in, ReplicaState, members, settled, either}
+use Rattle.sc_meaning.specs.sound.SoundDefinitions.{Ahead, Player, player_table, node_seat}
 use Rattle.sc_scenario.specs.declared.scenario.scenarios.Scenario.{Scenario}
 
 -- rows of a journal

@@ -11,9 +11,9 @@ use Rattle.sc_words.specs.declared.commands.votes.Past.{Past}
 use Rattle.sc_words.specs.declared.commands.votes.Past.TheVariants as Cast
 use Rattle.sc_words.specs.declared.commands.votes.Vote.{Vote}
 use Rattle.sc_words.specs.declared.commands.votes.Vote.TheVariants as Ballot
-use Rattle.sc_group_table.specs.machine.Definitions.{Group, applied}
+use Rattle.sc_group_table.specs.machine.MachineDefinitions.{Group, applied}
 use Rattle.sc_meaning.specs.declared.entries.LogEntry.{LogEntry}
-use Rattle.sc_meaning.specs.entries.Definitions.{StoreWorld, first_world, named_group, recorded}
+use Rattle.sc_meaning.specs.entries.EntryDefinitions.{StoreWorld, first_world, named_group, recorded}
 use Rattle.sc_law_entries.specs.ring.Stories.{Story, Stories, no_stories, unsigned, unsigned_watch, stories_after}
 
 -- two functions that are fixed beside the logs: whose a name is, and what a client asks

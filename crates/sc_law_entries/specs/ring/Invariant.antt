@@ -18,7 +18,7 @@ use Rattle.sc_words.specs.declared.commands.votes.Past.{Past}
 use Rattle.sc_words.specs.declared.commands.votes.Past.TheVariants as Cast
 use Rattle.sc_words.specs.declared.commands.votes.Vote.{Vote}
 use Rattle.sc_words.specs.declared.commands.votes.Vote.TheVariants as Ballot
-use Rattle.sc_group_table.specs.machine.Definitions.{Group, frozen_of, has_voted}
+use Rattle.sc_group_table.specs.machine.MachineDefinitions.{Group, frozen_of, has_voted}
 use Rattle.sc_law_entries.specs.ring.Stories.{Story, Stories, unsigned, unsigned_watch, offer_for, watch_for}
 
 -- all groups by their names

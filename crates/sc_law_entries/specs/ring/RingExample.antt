@@ -15,10 +15,10 @@ use Rattle.sc_words.specs.declared.commands.votes.Outcome.{Outcome}
 use Rattle.sc_words.specs.declared.commands.votes.Outcome.TheVariants.{Abort, Merged, Divided}
 use Rattle.sc_words.specs.declared.commands.votes.Past.TheVariants as Cast
 use Rattle.sc_words.specs.declared.commands.votes.Vote.TheVariants.{Yes}
-use Rattle.sc_group_table.specs.machine.Definitions.{Group, group_of, done, frozen_of}
+use Rattle.sc_group_table.specs.machine.MachineDefinitions.{Group, group_of, done, frozen_of}
 use Rattle.sc_meaning.specs.declared.entries.Cut.{Cut}
 use Rattle.sc_meaning.specs.declared.entries.LogEntry.{LogEntry}
-use Rattle.sc_meaning.specs.entries.Definitions.{world_of}
+use Rattle.sc_meaning.specs.entries.EntryDefinitions.{world_of}
 use Rattle.sc_law_entries.specs.ring.Allowed.{Sources, AreAllowed, first_recorded}
 use Rattle.sc_law_entries.specs.ring.RingLaws.{BeginInPlace}
 

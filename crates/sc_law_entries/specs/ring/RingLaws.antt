@@ -9,7 +9,7 @@ use Rattle.sc_words.specs.declared.commands.cores.Core.{Core}
 use Rattle.sc_words.specs.declared.commands.cores.Lock.TheVariants.{Free}
 use Rattle.sc_meaning.specs.declared.entries.Cut.{Cut}
 use Rattle.sc_meaning.specs.declared.entries.LogEntry.{LogEntry}
-use Rattle.sc_meaning.specs.entries.Definitions.{IsPlaced, ServesItsCut, Covers, first_cut, StoreWorld, named_group, world_of}
+use Rattle.sc_meaning.specs.entries.EntryDefinitions.{IsPlaced, ServesItsCut, Covers, first_cut, StoreWorld, named_group, world_of}
 use Rattle.sc_law_entries.specs.ring.Allowed.{Sources, IsAllowed, AreAllowed, StoryWorld, first_recorded, recorded_after}
 use Rattle.sc_law_entries.specs.ring.Invariant.{Facts}
 use Rattle.sc_law_entries.specs.ring.Stories.{Stories}

@@ -20,8 +20,8 @@ use Rattle.sc_words.specs.declared.commands.votes.Past.{Past}
 use Rattle.sc_words.specs.declared.commands.votes.Past.TheVariants as Cast
 use Rattle.sc_words.specs.declared.commands.votes.Vote.{Vote}
 use Rattle.sc_words.specs.declared.commands.votes.Vote.TheVariants as Ballot
-use Rattle.sc_words.specs.commands.Definitions.{is_changed, decided_in, is_alone}
-use Rattle.sc_group_table.specs.machine.Definitions.{Group, frozen_of, merged_link, right_link}
+use Rattle.sc_words.specs.commands.CommandDefinitions.{is_changed, decided_in, is_alone}
+use Rattle.sc_group_table.specs.machine.MachineDefinitions.{Group, frozen_of, merged_link, right_link}
 
 -- what all logs record of one transaction
 pub record Story : Type 0 where

@@ -5,15 +5,15 @@ use Rattle.sc_base.specs.Definitions.{client_actor, is_member, least_of, Among, 
 use Rattle.sc_node_table.specs.Values.{Op, Reply, Route, Command, Noop, Call, Join, Leave, Split, Begin, Base, Effect, AnswerBody, Mail, MailBody, Answer, Told, OrderResult, Flight}
 use Rattle.sc_words.specs.declared.commands.effects.Effect.TheVariants as Was
 use Rattle.sc_mail.specs.declared.bodies.AnswerBody.TheVariants as Says
-use Rattle.sc_group_table.specs.machine.Definitions.{Group, applied}
-use Rattle.sc_words.specs.paxos.Definitions.{LogState, next_of, flight_at, without_flight_at}
-use Rattle.sc_words.proofs.PaxosProofs.Lemmas.{Each-among, find_found}
-use Rattle.sc_paxos_law.specs.Definitions.{IsLog}
+use Rattle.sc_group_table.specs.machine.MachineDefinitions.{Group, applied}
+use Rattle.sc_words.specs.paxos.PaxosDefinitions.{LogState, next_of, flight_at, without_flight_at}
+use Rattle.sc_words.proofs.PaxosProofs.PaxosLemmas.{Each-among, find_found}
+use Rattle.sc_paxos_law.specs.PaxosLawDefinitions.{IsLog}
 use Rattle.sc_paxos_law.proofs.Lemmas.{earlier}
-use Rattle.sc_node_table.specs.Definitions.{at_slot, without_slot, ReplicaState, Place, Executed, childless, name_of, next, members, flying, sent, order_number, order_reported, queued_number, without_request, request_before, put_back, entered, answer_of, answered_or_put_back, order_result, effect_reported, announced, learnt_to, landed, left_gone, left, is_among, looked_for, looked, executed_one, next_child, has_room, next_ready, ending, executed_ready, executed, before_of, begun_result, spoken_number, result_reported, begun_reported, went_on, spoken_mails, spoken}
+use Rattle.sc_node_table.specs.NodeDefinitions.{at_slot, without_slot, ReplicaState, Place, Executed, childless, name_of, next, members, flying, sent, order_number, order_reported, queued_number, without_request, request_before, put_back, entered, answer_of, answered_or_put_back, order_result, effect_reported, announced, learnt_to, landed, left_gone, left, is_among, looked_for, looked, executed_one, next_child, has_room, next_ready, ending, executed_ready, executed, before_of, begun_result, spoken_number, result_reported, begun_reported, went_on, spoken_mails, spoken}
 use Rattle.sc_node_table.specs.declared.Before.{Before}
-use Rattle.sc_law_entries.specs.history.Definitions.{IsReplied}
-use Rattle.sc_meaning.specs.sound.Definitions.{Ahead}
+use Rattle.sc_law_entries.specs.history.HistoryDefinitions.{IsReplied}
+use Rattle.sc_meaning.specs.sound.SoundDefinitions.{Ahead}
 use Rattle.sc_law_groups.proofs.GroupProofs.Growth.{IsLearnt, by_own_log, learnt_offered}
 use Rattle.sc_law_groups.proofs.GroupProofs.Invariant.{Steps, rule, first, IsTaken, IsReplica, next_after, IsReplyAt, IsTrueAnswer}
 use Rattle.sc_law_groups.proofs.GroupProofs.Speech.{AreSaid, Speaks}
@@ -25,7 +25,7 @@ use Rattle.sc_law_groups.proofs.GroupProofs.WithoutOne.{Each-without_flight, amo
 use Rattle.sc_law_groups.proofs.GroupProofs.Offering.{with_calls, with_acts, fine_pumped}
 use Rattle.sc_law_groups.proofs.GroupProofs.Entering.{entered_has, entered_replica, entered_next, entered_runs}
 use Rattle.sc_law_groups.proofs.GroupProofs.Welcoming.{welcomed_place}
-use Rattle.sc_law_walks.proofs.Lemmas.{landed_place, cleared, entered_group}
+use Rattle.sc_law_walks.proofs.WalkLemmas.{landed_place, cleared, entered_group}
 use Rattle.sc_law_walks.proofs.Queues.{back_runs}
 
 module _ (ahead : Ahead) (base : Base) (made : Command → Type 0) (heard : MailBody → Type 0) (me : ℕ) (older : List Mail) (before : Steps) (speaks : Speaks ahead base made heard before)

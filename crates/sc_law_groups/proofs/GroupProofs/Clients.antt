@@ -7,10 +7,10 @@ use Rattle.std.proofs.lemmas.List.{length_push}
 use Rattle.sc_base.specs.Definitions.{client_actor, Among}
 use Rattle.sc_node_table.specs.Values.{Draw, Op, Reply, Command, Base, OrderLine, Value, Mail, MailBody, Row, Input, Got}
 use Rattle.sc_actor.specs.declared.rows.Input.TheVariants.{Go}
-use Rattle.sc_client_table.specs.table.Definitions.{Client, request_at, request_of, InTurn, Waits, Begins, TakesReply}
+use Rattle.sc_client_table.specs.table.TableDefinitions.{Client, request_at, request_of, InTurn, Waits, Begins, TakesReply}
 use Rattle.sc_scenario.specs.declared.scenario.scenarios.Asks.{Asks}
 use Rattle.sc_scenario.specs.declared.scenario.scenarios.Scenario.{Scenario}
-use Rattle.sc_meaning.specs.sound.Definitions.{Ahead, issues, issued_from, issue_row}
+use Rattle.sc_meaning.specs.sound.SoundDefinitions.{Ahead, issues, issued_from, issue_row}
 use Rattle.sc_law_groups.proofs.GroupProofs.Invariant.{Steps, IsReplyAt, IsTrue, IsTrueAnswer, grown_reply}
 use Rattle.sc_law_groups.proofs.GroupProofs.Names.{IsOneOf, IsNamedIn}
 use Rattle.sc_law_groups.proofs.GroupProofs.FirstRows.{Journal, or_now, issue-push}

@@ -5,11 +5,11 @@ use Rattle.std.specs.List.{flat_map}
 use Rattle.std.proofs.lemmas.Bool.{cases_Bool, eqb-true, eqb-false, ltb-false, and_parts, cond_both}
 use Rattle.sc_node_table.specs.Values.{Ballot, Command, Base, Mail, MailBody, Counted, Chosen, NotYet, Flight, Report}
 use Rattle.sc_base.specs.Definitions.{same_ballot, is_member, is_majority, Among, Each}
-use Rattle.sc_words.specs.paxos.Definitions.{LeaderState, flight_at, without_flight_at, promise_counted, kept_voters, voters_after, with_voters, vote_at, counted}
-use Rattle.sc_words.proofs.PaxosProofs.Lemmas.{Each-among, Each-weaker, Each-append, find_found}
-use Rattle.sc_paxos_law.specs.Definitions.{Prepared, Promised, Accepted, needed, members_of, CountedPromise}
-use Rattle.sc_node_table.specs.Definitions.{with_slot, ReplicaState, Place, Executed, next, set_at, has_room, leads, promise_row, readied, vote_tallied, voted, accepted_row}
-use Rattle.sc_meaning.specs.sound.Definitions.{Ahead}
+use Rattle.sc_words.specs.paxos.PaxosDefinitions.{LeaderState, flight_at, without_flight_at, promise_counted, kept_voters, voters_after, with_voters, vote_at, counted}
+use Rattle.sc_words.proofs.PaxosProofs.PaxosLemmas.{Each-among, Each-weaker, Each-append, find_found}
+use Rattle.sc_paxos_law.specs.PaxosLawDefinitions.{Prepared, Promised, Accepted, needed, members_of, CountedPromise}
+use Rattle.sc_node_table.specs.NodeDefinitions.{with_slot, ReplicaState, Place, Executed, next, set_at, has_room, leads, promise_row, readied, vote_tallied, voted, accepted_row}
+use Rattle.sc_meaning.specs.sound.SoundDefinitions.{Ahead}
 use Rattle.sc_law_groups.proofs.GroupProofs.Growth.{IsLearnt}
 use Rattle.sc_law_groups.proofs.GroupProofs.Invariant.{Steps, rule, IsFlying, IsTaken, IsReplica, next_after}
 use Rattle.sc_law_groups.proofs.GroupProofs.Speech.{Speaks}

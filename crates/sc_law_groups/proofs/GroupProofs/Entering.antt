@@ -2,17 +2,17 @@
 use Rattle.std.proofs.Common.{◌≡◌, ℕ, suc, ◌+◌, ◌<◌, ◌≤◌, List, [], ◌∷◌, ◌++◌, length, inl, inr, sym, ◌∙◌, ap, subst, arith}
 use Rattle.std.proofs.lemmas.List.{length_push, take-append-le, take_all}
 use Rattle.sc_node_table.specs.Values.{Command, Base}
-use Rattle.sc_group_table.specs.machine.Definitions.{Group, applied}
-use Rattle.sc_words.proofs.PaxosProofs.Lemmas.{Each-weaker}
-use Rattle.sc_paxos_law.specs.Definitions.{needed, members_of, IsChosenAfter}
+use Rattle.sc_group_table.specs.machine.MachineDefinitions.{Group, applied}
+use Rattle.sc_words.proofs.PaxosProofs.PaxosLemmas.{Each-weaker}
+use Rattle.sc_paxos_law.specs.PaxosLawDefinitions.{needed, members_of, IsChosenAfter}
 use Rattle.sc_paxos_law.proofs.Lemmas.{longer_log, get_pushed}
-use Rattle.sc_node_table.specs.Definitions.{rest_of, ReplicaState, next, floor_of, forgotten, waits_in, entered}
-use Rattle.sc_meaning.specs.sound.Definitions.{Ahead}
+use Rattle.sc_node_table.specs.NodeDefinitions.{rest_of, ReplicaState, next, floor_of, forgotten, waits_in, entered}
+use Rattle.sc_meaning.specs.sound.SoundDefinitions.{Ahead}
 use Rattle.sc_law_groups.proofs.GroupProofs.ForgottenEntries.{floor_low}
 use Rattle.sc_law_groups.proofs.GroupProofs.Invariant.{Steps, rule, AreSets, HasLog, next_is, pushed_has, cut_has, IsReplica, next_after, forgotten_replica}
 use Rattle.sc_law_groups.proofs.GroupProofs.WithoutOne.{rest_length, rest_count, rest_get}
-use Rattle.sc_law_walks.proofs.Lemmas.{entry_is as with_entry-is}
-pub use Rattle.sc_law_walks.proofs.Lemmas.{entered_running as entered_runs}
+use Rattle.sc_law_walks.proofs.WalkLemmas.{entry_is as with_entry-is}
+pub use Rattle.sc_law_walks.proofs.WalkLemmas.{entered_running as entered_runs}
 
 module _ (ahead : Ahead) (base : Base) where
   -- ---- the log and the open slots with one entry more

@@ -5,15 +5,15 @@ use Rattle.sc_node_table.specs.Values.{Ballot, Reply, Command, Base, Route, Orde
 use Rattle.sc_base.specs.Definitions.{client_actor, Among, Each}
 use Rattle.sc_actor.specs.Definitions.{mails, value, has_started}
 use Rattle.sc_actor.proofs.Lemmas.{mails-snoc}
-use Rattle.sc_client_table.specs.table.Definitions.{Client}
-use Rattle.sc_node_table.specs.Definitions.{NodeState}
-use Rattle.sc_words.proofs.PaxosProofs.Lemmas.{Each-among}
-use Rattle.sc_paxos_law.specs.Definitions.{Offered, members_of, IsChosenAfter, log_of, IsLawfulHistory}
+use Rattle.sc_client_table.specs.table.TableDefinitions.{Client}
+use Rattle.sc_node_table.specs.NodeDefinitions.{NodeState}
+use Rattle.sc_words.proofs.PaxosProofs.PaxosLemmas.{Each-among}
+use Rattle.sc_paxos_law.specs.PaxosLawDefinitions.{Offered, members_of, IsChosenAfter, log_of, IsLawfulHistory}
 use Rattle.sc_paxos_law.proofs.Lemmas.{Among-either, shared_member, was_offered, log_of-longest, log_grows}
 use Rattle.sc_scenario.specs.declared.scenario.scenarios.Asks.{Asks}
 use Rattle.sc_scenario.specs.declared.scenario.scenarios.Scenario.{Scenario}
-use Rattle.sc_meaning.specs.sound.Definitions.{Ahead, node_seat, player_table, client_seat, decided_log, kept_replies}
-use Rattle.sc_law_groups.specs.group.Definitions.{steps}
+use Rattle.sc_meaning.specs.sound.SoundDefinitions.{Ahead, node_seat, player_table, client_seat, decided_log, kept_replies}
+use Rattle.sc_law_groups.specs.group.GroupDefinitions.{steps}
 use Rattle.sc_law_groups.proofs.GroupProofs.EachElement.{each_got}
 use Rattle.sc_law_groups.proofs.GroupProofs.Invariant.{Steps, rule, first, IsTrue, grown_true, OffersMade}
 use Rattle.sc_law_groups.proofs.GroupProofs.Holding.{more_holds}

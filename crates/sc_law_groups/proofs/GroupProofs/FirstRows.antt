@@ -2,7 +2,7 @@
 use Rattle.std.proofs.Common.{◌≡◌, ℕ, ◌+◌, Bool, cond, List, [], ◌∷◌, ◌++◌, length, take, drop, Option, Some, None, inl, inr, sym, ◌∙◌, ap, take-append-drop, arith}
 use Rattle.std.proofs.lemmas.Bool.{cases_Bool, cond-true, cond-false}
 use Rattle.sc_node_table.specs.Values.{Command, OrderLine, Mail, Row}
-use Rattle.sc_meaning.specs.sound.Definitions.{issues, issued_from, issue_row}
+use Rattle.sc_meaning.specs.sound.SoundDefinitions.{issues, issued_from, issue_row}
 
 -- the rows of a scenario
 abbrev pub Journal : Type 0

@@ -5,8 +5,8 @@ use Rattle.std.proofs.Math.Nat.{le-max_left, le-max_right, max-eq_left, max-eq_r
 use Rattle.std.proofs.lemmas.Bool.{cases_Bool, cases_lt, leb-true, lt-ltb, cond-true, cond-false, cond_both}
 use Rattle.std.proofs.lemmas.List.Elements.{filter-append}
 use Rattle.sc_node_table.specs.Values.{Ballot, Report}
-use Rattle.sc_words.specs.paxos.Definitions.{AcceptorState, reports_from, with_report, after_promise, after_accept, after_cut}
-use Rattle.sc_node_table.specs.Definitions.{floor_of}
+use Rattle.sc_words.specs.paxos.PaxosDefinitions.{AcceptorState, reports_from, with_report, after_promise, after_accept, after_cut}
+use Rattle.sc_node_table.specs.NodeDefinitions.{floor_of}
 
 -- ---- lists
 

@@ -4,10 +4,10 @@ use Rattle.std.specs.List.{flat_map, list_any}
 use Rattle.std.proofs.lemmas.Bool.{and_left, cond-false}
 use Rattle.sc_base.specs.Definitions.{Each, same_draw, same_ballot}
 use Rattle.sc_node_table.specs.Values.{Ballot, Draw, Command, Base, OrderLine, Mail, MailBody, Request, Answer, Prepare, Promise, Accept, Accepted as AcceptedMail, Nack, Learn, Ask, Install, TxPrepare, TxVote, TxOutcome, TxElsewhere, TxWatch, TxWatched, Told, Row, Event}
-use Rattle.sc_paxos_law.specs.Definitions.{Prepared, Promised, Offered, Accepted}
-use Rattle.sc_node_table.specs.Definitions.{group_of_mail}
-use Rattle.sc_meaning.specs.sound.Definitions.{is_accepted, accepts_of, Ahead}
-use Rattle.sc_law_groups.specs.group.Definitions.{proposer_steps, asked_in, promised_by, promises_of}
+use Rattle.sc_paxos_law.specs.PaxosLawDefinitions.{Prepared, Promised, Offered, Accepted}
+use Rattle.sc_node_table.specs.NodeDefinitions.{group_of_mail}
+use Rattle.sc_meaning.specs.sound.SoundDefinitions.{is_accepted, accepts_of, Ahead}
+use Rattle.sc_law_groups.specs.group.GroupDefinitions.{proposer_steps, asked_in, promised_by, promises_of}
 use Rattle.sc_law_groups.proofs.GroupProofs.Invariant.{Steps, IsOwn, IsTrue}
 
 -- a row of a node

@@ -4,11 +4,11 @@ use Rattle.std.proofs.lemmas.Bool.{cases_Bool, cond_both}
 use Rattle.sc_node_table.specs.Values.{Draw, Command, Base, OrderLine, Mail, MailBody, Install, OrderResult, Refused, Event}
 use Rattle.sc_base.specs.Definitions.{same_draw, Among, Each, Drawer, next_name}
 use Rattle.sc_words.specs.declared.commands.orders.OrderRefusal.TheVariants.{NotLeader}
-use Rattle.sc_words.proofs.PaxosProofs.Lemmas.{Each-among, Each-from, Each-weaker, find_found}
-use Rattle.sc_paxos_law.specs.Definitions.{IsLawfulHistory}
-use Rattle.sc_node_table.specs.Definitions.{NodeState, replica_of, with_replica, with_new, group_of_mail, absent, with_made, unknown, may_come, with_born, with_children, taken_by, routed, on_mail, group_of_order, ordered_of, on_order, ordered_command, ordered_row, names_after, untaken, slots_ahead, result_sent, ReplicaState, Place, name_of, born_replica, last_slot, made_by, mailed}
-use Rattle.sc_meaning.specs.sound.Definitions.{Ahead}
-use Rattle.sc_law_groups.specs.group.Definitions.{asked_in}
+use Rattle.sc_words.proofs.PaxosProofs.PaxosLemmas.{Each-among, Each-from, Each-weaker, find_found}
+use Rattle.sc_paxos_law.specs.PaxosLawDefinitions.{IsLawfulHistory}
+use Rattle.sc_node_table.specs.NodeDefinitions.{NodeState, replica_of, with_replica, with_new, group_of_mail, absent, with_made, unknown, may_come, with_born, with_children, taken_by, routed, on_mail, group_of_order, ordered_of, on_order, ordered_command, ordered_row, names_after, untaken, slots_ahead, result_sent, ReplicaState, Place, name_of, born_replica, last_slot, made_by, mailed}
+use Rattle.sc_meaning.specs.sound.SoundDefinitions.{Ahead}
+use Rattle.sc_law_groups.specs.group.GroupDefinitions.{asked_in}
 use Rattle.sc_law_groups.proofs.GroupProofs.Invariant.{Steps, rule, first, IsReplica, IsTrue, OffersMade}
 use Rattle.sc_law_groups.proofs.GroupProofs.Speech.{AnyoneHears, Speaks}
 use Rattle.sc_law_groups.proofs.GroupProofs.Installs.{made_place, fine_ordered_row}
@@ -20,7 +20,7 @@ use Rattle.sc_law_groups.proofs.GroupProofs.Offspring.{IsChildOf}
 use Rattle.sc_law_groups.proofs.GroupProofs.Newborn.{born_replica_is}
 use Rattle.sc_law_groups.proofs.GroupProofs.Holding.{each_with, each_new, Holds, held, none_held, with_held, with_far, new_held, new_far}
 use Rattle.sc_base.proofs.Lemmas.{same_name, draw_is}
-use Rattle.sc_meaning.proofs.EntriesProofs.Lemmas.{names_differ}
+use Rattle.sc_meaning.proofs.EntriesProofs.EntryLemmas.{names_differ}
 use Rattle.sc_law_groups.proofs.GroupProofs.PartsOfNodes.{start, by_fine, mailed_ended, mailed_kids, PartEnded, no_part, own_part}
 
 module _ (ahead : Ahead) (bases : List Base) (made : Base → Command → Type 0) where

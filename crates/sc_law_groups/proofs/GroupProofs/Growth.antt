@@ -3,9 +3,9 @@ use Rattle.std.proofs.Common.{◌≡◌, ℕ, ◌≤◌, eqb, List, [], ◌∷�
 use Rattle.std.proofs.lemmas.Bool.{ne_eqb, cond-false}
 use Rattle.sc_node_table.specs.Values.{Ballot}
 use Rattle.sc_base.specs.Definitions.{Among, Each}
-use Rattle.sc_words.specs.paxos.Definitions.{born_acceptor}
-use Rattle.sc_words.proofs.PaxosProofs.Lemmas.{Each-among}
-use Rattle.sc_paxos_law.specs.Definitions.{Step, Prepared, Promised, Offered, Accepted, Cut, state_of, Rule, needed, members_of, IsChosen, IsChosenAfter, IsLog, MayOffer, IsLawfulStep, IsLawfulHistory}
+use Rattle.sc_words.specs.paxos.PaxosDefinitions.{born_acceptor}
+use Rattle.sc_words.proofs.PaxosProofs.PaxosLemmas.{Each-among}
+use Rattle.sc_paxos_law.specs.PaxosLawDefinitions.{Step, Prepared, Promised, Offered, Accepted, Cut, state_of, Rule, needed, members_of, IsChosen, IsChosenAfter, IsLog, MayOffer, IsLawfulStep, IsLawfulHistory}
 use Rattle.sc_paxos_law.proofs.Lemmas.{shared_member, was_offered, one_offer, later_log, later_chosen, agree_members, logs_agree, later_elected}
 
 pub later_after : {V : Type 0} (rule : Rule V) (s : Step V) (h : List (Step V)) (log : List V) (slot : ℕ) (v : V) → IsChosenAfter rule h log slot v → IsChosenAfter rule (s ∷ h) log slot v

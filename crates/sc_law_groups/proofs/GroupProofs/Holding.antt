@@ -4,10 +4,10 @@ use Rattle.std.proofs.lemmas.Bool.{cases_Bool, cond-true, cond-false, cond_both}
 use Rattle.sc_base.specs.Definitions.{Among, Each, same_draw}
 use Rattle.sc_node_table.specs.Values.{Draw, Command, Base}
 use Rattle.sc_base.proofs.Lemmas.{same_name, draw_is}
-use Rattle.sc_meaning.proofs.EntriesProofs.Lemmas.{names_differ}
-use Rattle.sc_node_table.specs.Definitions.{replica_of, with_replica, is_before, with_new, ReplicaState, name_of}
-use Rattle.sc_words.proofs.PaxosProofs.Lemmas.{Each-among}
-use Rattle.sc_meaning.specs.sound.Definitions.{Ahead}
+use Rattle.sc_meaning.proofs.EntriesProofs.EntryLemmas.{names_differ}
+use Rattle.sc_node_table.specs.NodeDefinitions.{replica_of, with_replica, is_before, with_new, ReplicaState, name_of}
+use Rattle.sc_words.proofs.PaxosProofs.PaxosLemmas.{Each-among}
+use Rattle.sc_meaning.specs.sound.SoundDefinitions.{Ahead}
 use Rattle.sc_law_groups.proofs.GroupProofs.Growth.{By, IsFresh, fresh_on}
 use Rattle.sc_law_groups.proofs.GroupProofs.Invariant.{Steps, IsReplica, more_made, other_steps}
 

@@ -3,14 +3,14 @@ use Rattle.std.proofs.Common.{◌≡◌, ℕ, ◌+◌, ◌≤◌, ◌||◌, not,
 use Rattle.std.proofs.lemmas.Bool.{eqb-true, ltb-false, or_parts, not-false, cond_both}
 use Rattle.std.proofs.lemmas.List.{drop_all}
 use Rattle.sc_node_table.specs.Values.{Ballot, Draw, Command, Base, OrderLine, OrderRefusal, OrderResult, Refused, Mail, MailBody, Told}
-use Rattle.sc_group_table.specs.machine.Definitions.{Group, group_of}
+use Rattle.sc_group_table.specs.machine.MachineDefinitions.{Group, group_of}
 use Rattle.sc_base.specs.Definitions.{is_member, Among, Each, Drawer, next_name}
-use Rattle.sc_words.specs.paxos.Definitions.{born_acceptor, installed, first_leader}
-use Rattle.sc_words.proofs.PaxosProofs.Lemmas.{Each-among, Each-append}
-use Rattle.sc_paxos_law.specs.Definitions.{Offered, IsLawfulHistory}
-use Rattle.sc_node_table.specs.Definitions.{ReplicaState, Place, first_ballot, name_of, next, members, last_slot, forgotten, waits_in, installed_replica, result_sent, ended, stopped, named, jumped, looked_up, took_over, install_row, made_by, ordered_command, untaken, queued_or_refused, ordered_row}
-use Rattle.sc_law_entries.proofs.HistoryProofs.Lemmas.{state_same}
-use Rattle.sc_meaning.specs.sound.Definitions.{Ahead}
+use Rattle.sc_words.specs.paxos.PaxosDefinitions.{born_acceptor, installed, first_leader}
+use Rattle.sc_words.proofs.PaxosProofs.PaxosLemmas.{Each-among, Each-append}
+use Rattle.sc_paxos_law.specs.PaxosLawDefinitions.{Offered, IsLawfulHistory}
+use Rattle.sc_node_table.specs.NodeDefinitions.{ReplicaState, Place, first_ballot, name_of, next, members, last_slot, forgotten, waits_in, installed_replica, result_sent, ended, stopped, named, jumped, looked_up, took_over, install_row, made_by, ordered_command, untaken, queued_or_refused, ordered_row}
+use Rattle.sc_law_entries.proofs.HistoryProofs.HistoryLemmas.{state_same}
+use Rattle.sc_meaning.specs.sound.SoundDefinitions.{Ahead}
 use Rattle.sc_law_groups.proofs.GroupProofs.Growth.{IsFresh, fresh_state}
 use Rattle.sc_law_groups.proofs.GroupProofs.ForgottenEntries.{Mirrors, mirrors_itself, floor_low}
 use Rattle.sc_law_groups.proofs.GroupProofs.Invariant.{Steps, rule, first, birth, AreSets, HasLog, IsReplica, next_after, forgotten_replica, IsState, grown_state}

@@ -7,14 +7,14 @@ use Rattle.std.proofs.lemmas.List.{length_push, length-drop, drop-drop, drop-app
 use Rattle.sc_base.specs.Definitions.{client_actor, same_draw, Among, Each}
 use Rattle.sc_node_table.specs.Values.{Ballot, Draw, Op, Reply, Command, Call, Base, AnswerBody, Mail, MailBody, Request, Answer, Prepare, Promise, Accept, Accepted as AcceptedMail, Nack, Learn, Ask, Install, TxPrepare, TxVote, TxOutcome, TxElsewhere, TxWatch, TxWatched, Told, Flight}
 use Rattle.sc_mail.specs.declared.bodies.AnswerBody.TheVariants as Says
-use Rattle.sc_group_table.specs.machine.Definitions.{Group, group_of, applied, state_after}
-use Rattle.sc_words.specs.paxos.Definitions.{LeaderState, LogState, next_of, log_cut, kept_voters}
-use Rattle.sc_words.proofs.PaxosProofs.Lemmas.{Each-weaker, Each-append}
-use Rattle.sc_paxos_law.specs.Definitions.{Step, Prepared, Promised, Offered, Accepted, state_of, Rule, needed, members_of, IsLog, CountedPromise}
+use Rattle.sc_group_table.specs.machine.MachineDefinitions.{Group, group_of, applied, state_after}
+use Rattle.sc_words.specs.paxos.PaxosDefinitions.{LeaderState, LogState, next_of, log_cut, kept_voters}
+use Rattle.sc_words.proofs.PaxosProofs.PaxosLemmas.{Each-weaker, Each-append}
+use Rattle.sc_paxos_law.specs.PaxosLawDefinitions.{Step, Prepared, Promised, Offered, Accepted, state_of, Rule, needed, members_of, IsLog, CountedPromise}
 use Rattle.sc_paxos_law.proofs.Lemmas.{Among-right, later_log, later_logs}
-use Rattle.sc_node_table.specs.Definitions.{ReplicaState, first_ballot, next, floor_of, forgotten}
-use Rattle.sc_law_entries.specs.history.Definitions.{IsReplied}
-use Rattle.sc_meaning.specs.sound.Definitions.{Ahead, rule_of}
+use Rattle.sc_node_table.specs.NodeDefinitions.{ReplicaState, first_ballot, next, floor_of, forgotten}
+use Rattle.sc_law_entries.specs.history.HistoryDefinitions.{IsReplied}
+use Rattle.sc_meaning.specs.sound.SoundDefinitions.{Ahead, rule_of}
 use Rattle.sc_group_table.proofs.MachineProofs.Lemmas.{state_push}
 use Rattle.sc_law_groups.proofs.GroupProofs.Growth.{IsLearnt, By, later_learnt, grown_learnt, state_kept}
 use Rattle.sc_law_groups.proofs.GroupProofs.ForgottenEntries.{Mirrors, cut_mirrors, max_is}

@@ -5,13 +5,13 @@ use Rattle.std.proofs.lemmas.Bool.{eq-eqb, and_from, or_left, cond-true, cond-fa
 use Rattle.sc_node_table.specs.Values.{Draw, Op, Command, Call, Base, OrderLine, Mail, Row, Event, Seat, Route}
 use Rattle.sc_actor.specs.Definitions.{mails, value, acted, input_of, has_started, is_go}
 use Rattle.sc_actor.proofs.Lemmas.{value-snoc}
-use Rattle.sc_client_table.specs.table.Definitions.{request_of}
-use Rattle.sc_node_table.specs.Definitions.{numbers_from}
+use Rattle.sc_client_table.specs.table.TableDefinitions.{request_of}
+use Rattle.sc_node_table.specs.NodeDefinitions.{numbers_from}
 use Rattle.sc_base.specs.Definitions.{Among, Each, client_actor, most_nodes}
 use Rattle.sc_scenario.specs.declared.scenario.scenarios.Asks.{Asks}
 use Rattle.sc_scenario.specs.declared.scenario.scenarios.Scenario.{Scenario}
-use Rattle.sc_meaning.specs.sound.Definitions.{Ahead, node_seat, births, player_table, client_seat, Player, issues, asks_for}
-use Rattle.sc_meaning.proofs.SoundProofs.Lemmas.{any_push}
+use Rattle.sc_meaning.specs.sound.SoundDefinitions.{Ahead, node_seat, births, player_table, client_seat, Player, issues, asks_for}
+use Rattle.sc_meaning.proofs.SoundProofs.SoundLemmas.{any_push}
 use Rattle.sc_law_groups.proofs.GroupProofs.Invariant.{rule}
 use Rattle.sc_law_groups.proofs.GroupProofs.Frames.{node_row}
 use Rattle.sc_law_groups.proofs.GroupProofs.AcceptorRows.{ArePlain}

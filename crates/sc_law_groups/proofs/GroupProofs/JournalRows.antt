@@ -6,18 +6,18 @@ use Rattle.sc_node_table.specs.Values.{Command, Base, OrderLine, Mail, MailBody,
 use Rattle.sc_actor.specs.declared.rows.Event.TheVariants.{Told}
 use Rattle.sc_actor.specs.declared.rows.Input.TheVariants.{Tick as TickInput, Go as GoInput, Told as ToldInput}
 use Rattle.sc_actor.specs.Definitions.{mails, value, acted, input_of, row_of, network, is_go, IsOpen, ActorStep, IsStep}
-use Rattle.sc_client_table.specs.table.Definitions.{Client, table, InTurn}
+use Rattle.sc_client_table.specs.table.TableDefinitions.{Client, table, InTurn}
 use Rattle.sc_client_table.proofs.TableProofs.TurnLemmas.{sends_in_turn}
-use Rattle.sc_node_table.specs.Definitions.{NodeState, group_of_order, replica_of, on_mail, on_tick, on_order, ReplicaState, ordered_command, untaken, numbers_from}
+use Rattle.sc_node_table.specs.NodeDefinitions.{NodeState, group_of_order, replica_of, on_mail, on_tick, on_order, ReplicaState, ordered_command, untaken, numbers_from}
 use Rattle.sc_base.specs.Definitions.{next_name, Among, client_actor}
-use Rattle.sc_words.proofs.PaxosProofs.Lemmas.{Each-among, find_found}
+use Rattle.sc_words.proofs.PaxosProofs.PaxosLemmas.{Each-among, find_found}
 use Rattle.sc_paxos_law.proofs.Lemmas.{Among-either, from_map}
-use Rattle.sc_paxos_law.specs.Definitions.{Offered, IsLawfulHistory}
+use Rattle.sc_paxos_law.specs.PaxosLawDefinitions.{Offered, IsLawfulHistory}
 use Rattle.sc_scenario.specs.declared.scenario.scenarios.Asks.{Asks}
 use Rattle.sc_scenario.specs.declared.scenario.scenarios.Scenario.{Scenario}
-use Rattle.sc_meaning.specs.sound.Definitions.{Ahead, node_seat, births, system_of, player_table, client_seat, Player, replies_of}
-use Rattle.sc_meaning.proofs.SoundProofs.Lemmas.{any_push}
-use Rattle.sc_law_groups.specs.group.Definitions.{steps_at}
+use Rattle.sc_meaning.specs.sound.SoundDefinitions.{Ahead, node_seat, births, system_of, player_table, client_seat, Player, replies_of}
+use Rattle.sc_meaning.proofs.SoundProofs.SoundLemmas.{any_push}
+use Rattle.sc_law_groups.specs.group.GroupDefinitions.{steps_at}
 use Rattle.sc_law_groups.proofs.GroupProofs.Invariant.{Steps, rule, first, IsTrue, grown_true}
 use Rattle.sc_law_groups.proofs.GroupProofs.RowSteps.{number_among, among_numbers, steps_deliver, steps_plain}
 use Rattle.sc_law_groups.proofs.GroupProofs.Frames.{node_row, steps_of}

@@ -5,14 +5,14 @@ use Rattle.std.proofs.lemmas.Bool.{eqb-true, ltb-true, and_parts, cond_both, not
 use Rattle.std.proofs.lemmas.Option.{slice_get_within}
 use Rattle.sc_base.specs.Definitions.{Drawer, next_name, client_actor, is_member, Among, Each}
 use Rattle.sc_node_table.specs.Values.{Ballot, Op, Route, Command, Call, Base, OrderLine, OrderRefusal, AnswerBody, Mail, MailBody, Answer, Accept, Learn, Ask, Flight}
-use Rattle.sc_words.specs.ideal.Definitions.{key_of, holds_key}
+use Rattle.sc_words.specs.ideal.IdealDefinitions.{key_of, holds_key}
 use Rattle.sc_mail.specs.declared.bodies.AnswerBody.TheVariants as Says
-use Rattle.sc_words.specs.paxos.Definitions.{entry_at, flight_at}
-use Rattle.sc_words.proofs.PaxosProofs.Lemmas.{Each-among, Each-append, find_found}
-use Rattle.sc_paxos_law.specs.Definitions.{Offered}
+use Rattle.sc_words.specs.paxos.PaxosDefinitions.{entry_at, flight_at}
+use Rattle.sc_words.proofs.PaxosProofs.PaxosLemmas.{Each-among, Each-append, find_found}
+use Rattle.sc_paxos_law.specs.PaxosLawDefinitions.{Offered}
 use Rattle.sc_paxos_law.proofs.Lemmas.{chosen_by, earlier}
-use Rattle.sc_node_table.specs.Definitions.{ReplicaState, Place, Executed, name_of, next, members, settled, may_offer, first_set, flying, is_idle, last_slot, sent, sent_all, queued_number, without_request, ordered_command, untaken, wished_line, with_command, with_line, wishing, admits_requests, waited_in, reminded, nack_row, refused_at, queued, requested, request_row, learn_row, taught, most_taught, ask_answered, ask_row, uncounted, asked_again, last_entry_sent, tick_row}
-use Rattle.sc_meaning.specs.sound.Definitions.{Ahead}
+use Rattle.sc_node_table.specs.NodeDefinitions.{ReplicaState, Place, Executed, name_of, next, members, settled, may_offer, first_set, flying, is_idle, last_slot, sent, sent_all, queued_number, without_request, ordered_command, untaken, wished_line, with_command, with_line, wishing, admits_requests, waited_in, reminded, nack_row, refused_at, queued, requested, request_row, learn_row, taught, most_taught, ask_answered, ask_row, uncounted, asked_again, last_entry_sent, tick_row}
+use Rattle.sc_meaning.specs.sound.SoundDefinitions.{Ahead}
 use Rattle.sc_law_groups.proofs.GroupProofs.Growth.{IsLearnt}
 use Rattle.sc_law_groups.proofs.GroupProofs.Invariant.{Steps, rule, IsReplica, IsTrueAnswer}
 use Rattle.sc_law_groups.proofs.GroupProofs.Speech.{Speaks}

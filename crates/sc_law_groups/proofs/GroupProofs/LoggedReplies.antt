@@ -1,9 +1,9 @@
 -- A reply of a group's log is that of an entry that its history has.
 use Rattle.std.proofs.Common.{◌≡◌, ◌≤◌, List, length, take, sym, subst}
 use Rattle.sc_node_table.specs.Values.{Command, Base}
-use Rattle.sc_paxos_law.specs.Definitions.{IsLog, IsLawfulHistory}
+use Rattle.sc_paxos_law.specs.PaxosLawDefinitions.{IsLog, IsLawfulHistory}
 use Rattle.sc_paxos_law.proofs.Lemmas.{prefix_of_log}
-use Rattle.sc_meaning.specs.sound.Definitions.{Ahead, decided_log}
+use Rattle.sc_meaning.specs.sound.SoundDefinitions.{Ahead, decided_log}
 use Rattle.sc_law_groups.proofs.GroupProofs.Invariant.{rule, first}
 use Rattle.sc_law_groups.proofs.GroupProofs.FirstRows.{Journal}
 use Rattle.sc_law_groups.proofs.GroupProofs.Families.{h_of, decided_is}

@@ -3,12 +3,12 @@ use Rattle.std.proofs.Common.{◌≡◌, ℕ, ◌≤◌, ◌||◌, nat_lt, true,
 use Rattle.std.proofs.lemmas.Bool.{ltb-true, cond_both}
 use Rattle.sc_node_table.specs.Values.{Ballot, Command, Base, Flight}
 use Rattle.sc_base.specs.Definitions.{is_member, with_member, is_majority, Among, Each}
-use Rattle.sc_words.specs.paxos.Definitions.{kept_voters, add_voter, voters_after}
-use Rattle.sc_words.proofs.PaxosProofs.Lemmas.{Each-among, Each-weaker, Each-append, Each-filter}
-use Rattle.sc_paxos_law.specs.Definitions.{Offered, Accepted, needed, members_of, IsLawfulHistory}
+use Rattle.sc_words.specs.paxos.PaxosDefinitions.{kept_voters, add_voter, voters_after}
+use Rattle.sc_words.proofs.PaxosProofs.PaxosLemmas.{Each-among, Each-weaker, Each-append, Each-filter}
+use Rattle.sc_paxos_law.specs.PaxosLawDefinitions.{Offered, Accepted, needed, members_of, IsLawfulHistory}
 use Rattle.sc_paxos_law.proofs.Lemmas.{was_offered, one_offer}
-use Rattle.sc_node_table.specs.Definitions.{ReplicaState}
-use Rattle.sc_meaning.specs.sound.Definitions.{Ahead}
+use Rattle.sc_node_table.specs.NodeDefinitions.{ReplicaState}
+use Rattle.sc_meaning.specs.sound.SoundDefinitions.{Ahead}
 use Rattle.sc_law_groups.proofs.GroupProofs.Growth.{IsLearnt}
 use Rattle.sc_law_groups.proofs.GroupProofs.Invariant.{Steps, rule, first, IsReplica}
 

@@ -2,11 +2,11 @@
 use Rattle.std.proofs.Common.{◌≡◌, ℕ, List, [], ◌∷◌, ◌++◌, inl, inr, refl, ◌∙◌, ap, subst, append_assoc}
 use Rattle.sc_node_table.specs.Values.{Ballot, Command, Base, Mail, MailBody}
 use Rattle.sc_base.specs.Definitions.{Among, Each}
-use Rattle.sc_paxos_law.specs.Definitions.{Step, Offered, IsLawfulStep, IsLawfulHistory}
+use Rattle.sc_paxos_law.specs.PaxosLawDefinitions.{Step, Offered, IsLawfulStep, IsLawfulHistory}
 use Rattle.sc_paxos_law.proofs.Lemmas.{Among-either}
-use Rattle.sc_node_table.specs.Definitions.{ReplicaState, Place}
-use Rattle.sc_meaning.specs.sound.Definitions.{Ahead}
-use Rattle.sc_law_groups.specs.group.Definitions.{proposer_steps, asked_in}
+use Rattle.sc_node_table.specs.NodeDefinitions.{ReplicaState, Place}
+use Rattle.sc_meaning.specs.sound.SoundDefinitions.{Ahead}
+use Rattle.sc_law_groups.specs.group.GroupDefinitions.{proposer_steps, asked_in}
 use Rattle.sc_law_groups.proofs.GroupProofs.Growth.{By}
 use Rattle.sc_law_groups.proofs.GroupProofs.Invariant.{Steps, rule, first, IsReplica, IsOwn, IsTrue, grown_true, OffersMade}
 

@@ -5,10 +5,10 @@ use Rattle.std.proofs.lemmas.Bool.{and_right, cond-false}
 use Rattle.sc_node_table.specs.Values.{Draw, Command, Base, OrderLine, AnswerBody, Mail, MailBody, Request, Answer, Prepare, Promise, Accept, Accepted as AcceptedMail, Nack, Learn, Ask, Install, TxPrepare, TxVote, TxOutcome, TxElsewhere, TxWatch, TxWatched, Told, Event}
 use Rattle.sc_base.specs.Definitions.{same_draw, Among}
 use Rattle.sc_mail.specs.declared.bodies.AnswerBody.TheVariants as Says
-use Rattle.sc_paxos_law.specs.Definitions.{Accepted}
-use Rattle.sc_node_table.specs.Definitions.{absent}
-use Rattle.sc_meaning.specs.sound.Definitions.{accepts_of, is_accepted, Ahead}
-use Rattle.sc_law_groups.specs.group.Definitions.{proposer_steps, asked_in, promises_of}
+use Rattle.sc_paxos_law.specs.PaxosLawDefinitions.{Accepted}
+use Rattle.sc_node_table.specs.NodeDefinitions.{absent}
+use Rattle.sc_meaning.specs.sound.SoundDefinitions.{accepts_of, is_accepted, Ahead}
+use Rattle.sc_law_groups.specs.group.GroupDefinitions.{proposer_steps, asked_in, promises_of}
 use Rattle.sc_law_groups.proofs.GroupProofs.Invariant.{Steps, IsOwn, IsTrue}
 use Rattle.sc_law_groups.proofs.GroupProofs.AcceptorRows.{IsPlain, ArePlain, no_promises, any_accepted}
 use Rattle.sc_law_groups.proofs.GroupProofs.Frames.{node_row, steps_of}

@@ -4,23 +4,23 @@ use Rattle.std.specs.Option.{option_map}
 use Rattle.std.specs.List.{list_any, find}
 use Rattle.std.proofs.lemmas.Bool.{eq-eqb, and_parts, or_cases, cond-true, cond_both}
 use Rattle.sc_node_table.specs.Values.{Ballot, Op, Route, Command, Noop, Call, Base, Core, AnswerBody, Mail, MailBody, Accept, Must, Gap, Flight, Report}
-use Rattle.sc_words.specs.ideal.Definitions.{key_of, holds_key}
+use Rattle.sc_words.specs.ideal.IdealDefinitions.{key_of, holds_key}
 use Rattle.sc_mail.specs.declared.bodies.AnswerBody.TheVariants as Says
 use Rattle.sc_base.specs.Definitions.{is_majority, Among, Each}
 use Rattle.sc_words.specs.declared.paxos.answers.Must.TheVariants.{Value, Free as Open}
-use Rattle.sc_words.specs.paxos.Definitions.{below, choice, names_above, must, must_without, Obeys, flight_at, with_flight_at, next_of}
-use Rattle.sc_words.proofs.PaxosProofs.Lemmas.{choice_among, Each-among, Each-weaker, Each-append}
-use Rattle.sc_paxos_law.specs.Definitions.{Step, Offered, needed, members_of, CountedPromise, MayOffer}
+use Rattle.sc_words.specs.paxos.PaxosDefinitions.{below, choice, names_above, must, must_without, Obeys, flight_at, with_flight_at, next_of}
+use Rattle.sc_words.proofs.PaxosProofs.PaxosLemmas.{choice_among, Each-among, Each-weaker, Each-append}
+use Rattle.sc_paxos_law.specs.PaxosLawDefinitions.{Step, Offered, needed, members_of, CountedPromise, MayOffer}
 use Rattle.sc_paxos_law.proofs.Lemmas.{Among-left, Among-right, from_flat_map, was_offered, report_accepted, elected_by}
-use Rattle.sc_node_table.specs.Definitions.{Found, is_act, refused_by, turned_down, next_queued, from_backlog, from_acts, from_queues, found_by, found_for, offered, pumped_from, pumped, sent_all, at_slot, ReplicaState, Place, name_of, next, flying, either, taken_at, may_offer, settled, under_way, is_idle, last_slot}
-use Rattle.sc_meaning.specs.sound.Definitions.{Ahead}
+use Rattle.sc_node_table.specs.NodeDefinitions.{Found, is_act, refused_by, turned_down, next_queued, from_backlog, from_acts, from_queues, found_by, found_for, offered, pumped_from, pumped, sent_all, at_slot, ReplicaState, Place, name_of, next, flying, either, taken_at, may_offer, settled, under_way, is_idle, last_slot}
+use Rattle.sc_meaning.specs.sound.SoundDefinitions.{Ahead}
 use Rattle.sc_law_groups.proofs.GroupProofs.Growth.{later_learnt}
 use Rattle.sc_law_groups.proofs.GroupProofs.Invariant.{Steps, rule, first, later_has, IsTaken, AreSets, IsReplica, next_after, IsTrueAnswer, later_flying}
 use Rattle.sc_law_groups.proofs.GroupProofs.Speech.{Speaks}
 use Rattle.sc_law_groups.proofs.GroupProofs.Midway.{Fine, turn, steps}
 use Rattle.sc_law_groups.proofs.GroupProofs.EachElement.{Each-take}
 use Rattle.sc_law_groups.proofs.GroupProofs.Sending.{asked_accept, name_is, offered_again, answered_one}
-use Rattle.sc_law_walks.proofs.Lemmas.{next_found}
+use Rattle.sc_law_walks.proofs.WalkLemmas.{next_found}
 
 -- ---- what is taken
 

@@ -4,13 +4,13 @@ use Rattle.std.proofs.lemmas.Bool.{eqb-true, and_parts, cond_both}
 use Rattle.sc_node_table.specs.Values.{Ballot, Command, Base, Mail, MailBody, Counted}
 use Rattle.sc_base.specs.Definitions.{Among, Each, same_ballot, is_member}
 use Rattle.sc_base.proofs.Lemmas.{ballot_is}
-use Rattle.sc_group_table.specs.machine.Definitions.{child_by, Group, state_after}
-use Rattle.sc_words.specs.paxos.Definitions.{LeaderState, without_flight_at, counted}
-use Rattle.sc_words.proofs.PaxosProofs.Lemmas.{Each-among, Each-append}
-use Rattle.sc_paxos_law.specs.Definitions.{Accepted, IsLog}
+use Rattle.sc_group_table.specs.machine.MachineDefinitions.{child_by, Group, state_after}
+use Rattle.sc_words.specs.paxos.PaxosDefinitions.{LeaderState, without_flight_at, counted}
+use Rattle.sc_words.proofs.PaxosProofs.PaxosLemmas.{Each-among, Each-append}
+use Rattle.sc_paxos_law.specs.PaxosLawDefinitions.{Accepted, IsLog}
 use Rattle.sc_paxos_law.proofs.Lemmas.{earlier}
-use Rattle.sc_node_table.specs.Definitions.{child_at, next_child, executed_one, has_room, next_ready, ending, executed_ready, executed, ReplicaState, Place, Executed, childless, next, set_at, last_slot, learn_row, with_slot, leads, readied, vote_tallied, voted, accepted_row}
-use Rattle.sc_meaning.specs.sound.Definitions.{Ahead}
+use Rattle.sc_node_table.specs.NodeDefinitions.{child_at, next_child, executed_one, has_room, next_ready, ending, executed_ready, executed, ReplicaState, Place, Executed, childless, next, set_at, last_slot, learn_row, with_slot, leads, readied, vote_tallied, voted, accepted_row}
+use Rattle.sc_meaning.specs.sound.SoundDefinitions.{Ahead}
 use Rattle.sc_law_groups.proofs.GroupProofs.Growth.{IsLearnt, by_own_log}
 use Rattle.sc_law_groups.proofs.GroupProofs.Invariant.{Steps, rule, first, birth, next_after}
 use Rattle.sc_law_groups.proofs.GroupProofs.Speech.{Speaks}

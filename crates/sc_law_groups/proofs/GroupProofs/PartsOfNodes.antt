@@ -2,10 +2,10 @@
 use Rattle.std.proofs.Common.{◌≡◌, ℕ, List, [], ◌∷◌, ◌++◌, Some, refl, sym, ◌∙◌, subst, append-nil}
 use Rattle.sc_node_table.specs.Values.{Draw, Command, Base, OrderLine, Mail, MailBody, Request, Answer, Prepare, Promise, Accept, Accepted as AcceptedMail, Nack, Learn, Ask, Install, TxPrepare, TxVote, TxOutcome, TxElsewhere, TxWatch, TxWatched, Told, Event}
 use Rattle.sc_base.specs.Definitions.{Among, Each}
-use Rattle.sc_paxos_law.specs.Definitions.{IsLawfulHistory}
-use Rattle.sc_node_table.specs.Definitions.{NodeState, group_of_mail, ReplicaState, Place, prepare_row, mailed}
-use Rattle.sc_meaning.specs.sound.Definitions.{Ahead}
-use Rattle.sc_law_groups.specs.group.Definitions.{asked_in}
+use Rattle.sc_paxos_law.specs.PaxosLawDefinitions.{IsLawfulHistory}
+use Rattle.sc_node_table.specs.NodeDefinitions.{NodeState, group_of_mail, ReplicaState, Place, prepare_row, mailed}
+use Rattle.sc_meaning.specs.sound.SoundDefinitions.{Ahead}
+use Rattle.sc_law_groups.specs.group.GroupDefinitions.{asked_in}
 use Rattle.sc_law_groups.proofs.GroupProofs.Growth.{By}
 use Rattle.sc_law_groups.proofs.GroupProofs.Invariant.{Steps, rule, first, IsReplica, IsTrue, OffersMade}
 use Rattle.sc_law_groups.proofs.GroupProofs.Speech.{Speaks}

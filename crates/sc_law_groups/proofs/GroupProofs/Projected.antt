@@ -6,10 +6,10 @@ use Rattle.std.proofs.lemmas.Bool.{cond_both}
 use Rattle.sc_node_table.specs.Values.{Ballot, Draw, Command, OrderLine, Mail, MailBody, Prepare, Promise, Accept, Row, Event, Deliver, Report}
 use Rattle.sc_base.specs.Definitions.{same_draw, same_ballot, is_majority, Among}
 use Rattle.sc_actor.specs.Definitions.{mails, numbered}
-use Rattle.sc_words.proofs.PaxosProofs.Lemmas.{Each-weaker}
-use Rattle.sc_paxos_law.specs.Definitions.{Step, Prepared, Promised, Offered, Accepted, Cut, Rule, members_of, IsChosenAfter, IsLog, voters_of, lesser_of, found_in, chosen_at, top_slot, with_next_entries, log_of}
-use Rattle.sc_meaning.specs.sound.Definitions.{accepts_of, accepts_got, accepts_at, accepts_from, accepts, is_accepted}
-use Rattle.sc_law_groups.specs.group.Definitions.{proposer_steps, asked_in, promised_by, promises_of, promises_got, promises_at, steps_at, steps_from, steps}
+use Rattle.sc_words.proofs.PaxosProofs.PaxosLemmas.{Each-weaker}
+use Rattle.sc_paxos_law.specs.PaxosLawDefinitions.{Step, Prepared, Promised, Offered, Accepted, Cut, Rule, members_of, IsChosenAfter, IsLog, voters_of, lesser_of, found_in, chosen_at, top_slot, with_next_entries, log_of}
+use Rattle.sc_meaning.specs.sound.SoundDefinitions.{accepts_of, accepts_got, accepts_at, accepts_from, accepts, is_accepted}
+use Rattle.sc_law_groups.specs.group.GroupDefinitions.{proposer_steps, asked_in, promised_by, promises_of, promises_got, promises_at, steps_at, steps_from, steps}
 
 -- what is accepted among steps
 abbrev pub only : {V : Type 0} → List (Step V) → List (Step V)

@@ -5,9 +5,9 @@ use Rattle.sc_words.specs.declared.commands.effects.Effect.TheVariants as Was
 use Rattle.sc_words.specs.declared.commands.votes.Outcome.TheVariants as Is
 use Rattle.sc_words.specs.declared.commands.votes.Past.TheVariants as Cast
 use Rattle.sc_words.specs.declared.commands.votes.Vote.TheVariants as Vows
-use Rattle.sc_words.specs.commands.Definitions.{decided_in, cast_in}
-use Rattle.sc_group_table.specs.machine.Definitions.{Group}
-use Rattle.sc_node_table.specs.Definitions.{sent_all, asked_first, asked_node, asked_link, reminders, asked_on, begun_asks, vote_sent, watch_sent, aborted_to, aborted_watcher, given_up_by, vote_answered, released_to, watch_answered_by, went_on, voted_to, watched_to, outcome_sent, next_asked, asked_next}
+use Rattle.sc_words.specs.commands.CommandDefinitions.{decided_in, cast_in}
+use Rattle.sc_group_table.specs.machine.MachineDefinitions.{Group}
+use Rattle.sc_node_table.specs.NodeDefinitions.{sent_all, asked_first, asked_node, asked_link, reminders, asked_on, begun_asks, vote_sent, watch_sent, aborted_to, aborted_watcher, given_up_by, vote_answered, released_to, watch_answered_by, went_on, voted_to, watched_to, outcome_sent, next_asked, asked_next}
 use Rattle.sc_node_table.specs.declared.Before.{Before}
 use Rattle.sc_base.specs.Definitions.{same_draw}
 

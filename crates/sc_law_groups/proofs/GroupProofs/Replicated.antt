@@ -2,11 +2,11 @@
 use Rattle.std.proofs.Common.{◌≡◌, ℕ, ◌+◌, List, ◌++◌, length, drop, sym, ◌∙◌, ap, subst}
 use Rattle.std.proofs.lemmas.List.{take-append-drop}
 use Rattle.sc_node_table.specs.Values.{Command, Base}
-use Rattle.sc_node_table.specs.Definitions.{ReplicaState}
-use Rattle.sc_paxos_law.specs.Definitions.{IsChosenAfter, IsLog, IsLawfulHistory}
+use Rattle.sc_node_table.specs.NodeDefinitions.{ReplicaState}
+use Rattle.sc_paxos_law.specs.PaxosLawDefinitions.{IsChosenAfter, IsLog, IsLawfulHistory}
 use Rattle.sc_paxos_law.proofs.Lemmas.{one_value_per_slot, log_of-longest}
-use Rattle.sc_meaning.specs.sound.Definitions.{Ahead, Continues, HasRun, accepts, IsChosenIn, decided_log}
-use Rattle.sc_group_table.specs.machine.Definitions.{state_after}
+use Rattle.sc_meaning.specs.sound.SoundDefinitions.{Ahead, Continues, HasRun, accepts, IsChosenIn, decided_log}
+use Rattle.sc_group_table.specs.machine.MachineDefinitions.{state_after}
 use Rattle.sc_law_groups.proofs.GroupProofs.Invariant.{Steps, rule, first, birth, IsReplica, next_after}
 use Rattle.sc_law_groups.proofs.GroupProofs.Projected.{only, only_steps, log_from_only, after_from_only, log_to_only}
 use Rattle.sc_law_groups.proofs.GroupProofs.FirstRows.{Journal}

@@ -2,11 +2,11 @@
 use Rattle.std.proofs.Common.{◌≡◌, ℕ, ◌≤◌, ◌&&◌, not, true, false, cond, eqb, length, Option, Some, None, inl, inr, refl, sym, ◌∙◌, subst, arith}
 use Rattle.std.proofs.lemmas.Bool.{cases_Bool, eqb-false, and_from, cond_both}
 use Rattle.sc_node_table.specs.Values.{Command, Noop, Call, Join, Leave, Core, Draw, Route, OrderRefusal, TooManyMembers, NotMember, LastMember, IsMember}
-use Rattle.sc_group_table.specs.machine.Definitions.{Group, applied, locked_in, join_refused, leave_refused, refused_in, refusal_of, ordered, with_node, without_node}
+use Rattle.sc_group_table.specs.machine.MachineDefinitions.{Group, applied, locked_in, join_refused, leave_refused, refused_in, refusal_of, ordered, with_node, without_node}
 use Rattle.sc_base.specs.Definitions.{IsRoster, is_member}
 use Rattle.sc_base.proofs.Lemmas.{roster_with, roster_without}
-use Rattle.sc_law_entries.specs.history.Definitions.{LeavesWhole}
-use Rattle.sc_law_entries.proofs.HistoryProofs.Lemmas.{called_members}
+use Rattle.sc_law_entries.specs.history.HistoryDefinitions.{LeavesWhole}
+use Rattle.sc_law_entries.proofs.HistoryProofs.HistoryLemmas.{called_members}
 
 -- an order makes the group another one only where it is not refused
 pub ordered_if : (P : Group → Type 0) (gone : Option Route) (why : Option OrderRefusal) (after group : Group) → (why ≡ None → P after) → P group → P (ordered gone why after group).0

@@ -2,11 +2,11 @@
 use Rattle.std.proofs.Common.{◌≡◌, ℕ, zero, suc, ◌+◌, ◌<◌, ◌≤◌, List, ◌++◌, Option, Some, None, inl, inr, ap, arith}
 use Rattle.sc_node_table.specs.Values.{Draw, OrderLine, Mail, Event, Deliver}
 use Rattle.sc_actor.specs.Definitions.{numbered}
-use Rattle.sc_node_table.specs.Definitions.{numbers_from}
+use Rattle.sc_node_table.specs.NodeDefinitions.{numbers_from}
 use Rattle.sc_base.specs.Definitions.{Among}
 use Rattle.sc_paxos_law.proofs.Lemmas.{place_among}
-use Rattle.sc_meaning.specs.sound.Definitions.{accepts_got}
-use Rattle.sc_law_groups.specs.group.Definitions.{asked_in, promises_got, steps_at}
+use Rattle.sc_meaning.specs.sound.SoundDefinitions.{accepts_got}
+use Rattle.sc_law_groups.specs.group.GroupDefinitions.{asked_in, promises_got, steps_at}
 use Rattle.sc_law_groups.proofs.GroupProofs.Invariant.{Steps}
 use Rattle.sc_law_groups.proofs.GroupProofs.Frames.{node_row, steps_of}
 use Rattle.sc_law_groups.proofs.GroupProofs.Names.{quiet_steps, no_asked}

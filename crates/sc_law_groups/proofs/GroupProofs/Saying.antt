@@ -3,12 +3,12 @@ use Rattle.std.proofs.Common.{ℕ, ◌+◌, List, [], ◌∷◌, ◌++◌, inl, 
 use Rattle.std.proofs.lemmas.Bool.{cond_both}
 use Rattle.sc_node_table.specs.Values.{Ballot, Draw, Command, Base, Mail, MailBody, Prepare, Accept}
 use Rattle.sc_base.specs.Definitions.{Among, same_draw}
-use Rattle.sc_words.proofs.PaxosProofs.Lemmas.{Each-among, Each-weaker}
-use Rattle.sc_paxos_law.specs.Definitions.{Prepared, Offered, Accepted, Rule, IsLog}
+use Rattle.sc_words.proofs.PaxosProofs.PaxosLemmas.{Each-among, Each-weaker}
+use Rattle.sc_paxos_law.specs.PaxosLawDefinitions.{Prepared, Offered, Accepted, Rule, IsLog}
 use Rattle.sc_paxos_law.proofs.Lemmas.{Among-either}
-use Rattle.sc_node_table.specs.Definitions.{ReplicaState, Place}
-use Rattle.sc_meaning.specs.sound.Definitions.{Ahead}
-use Rattle.sc_law_groups.specs.group.Definitions.{proposer_steps, asked_in}
+use Rattle.sc_node_table.specs.NodeDefinitions.{ReplicaState, Place}
+use Rattle.sc_meaning.specs.sound.SoundDefinitions.{Ahead}
+use Rattle.sc_law_groups.specs.group.GroupDefinitions.{proposer_steps, asked_in}
 use Rattle.sc_law_groups.proofs.GroupProofs.Invariant.{Steps, rule}
 use Rattle.sc_law_groups.proofs.GroupProofs.Midway.{Fine}
 use Rattle.sc_law_groups.proofs.GroupProofs.Speech.{AreSaid, said_own, said_true, said_asked}

@@ -3,11 +3,11 @@ use Rattle.std.proofs.Common.{◌≡◌, ℕ, ◌≤◌, List, [], ◌∷◌, le
 use Rattle.std.proofs.lemmas.Bool.{cond_both}
 use Rattle.sc_base.specs.Definitions.{Among, Each, is_member}
 use Rattle.sc_node_table.specs.Values.{Command, Base, Route, MailBody}
-use Rattle.sc_client_table.specs.table.Definitions.{born_client}
-use Rattle.sc_words.proofs.PaxosProofs.Lemmas.{Each-among}
-use Rattle.sc_node_table.specs.Definitions.{ReplicaState, name_of, born_replica}
+use Rattle.sc_client_table.specs.table.TableDefinitions.{born_client}
+use Rattle.sc_words.proofs.PaxosProofs.PaxosLemmas.{Each-among}
+use Rattle.sc_node_table.specs.NodeDefinitions.{ReplicaState, name_of, born_replica}
 use Rattle.sc_scenario.specs.declared.scenario.scenarios.Scenario.{Scenario}
-use Rattle.sc_meaning.specs.sound.Definitions.{Ahead, AreNamedApart}
+use Rattle.sc_meaning.specs.sound.SoundDefinitions.{Ahead, AreNamedApart}
 use Rattle.sc_law_groups.proofs.GroupProofs.Holding.{IsOther, Holds, holds_none}
 use Rattle.sc_law_groups.proofs.GroupProofs.Newborn.{born_replica_is}
 use Rattle.sc_law_groups.proofs.GroupProofs.Names.{IsOneOf}

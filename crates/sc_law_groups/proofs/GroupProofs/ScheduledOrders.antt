@@ -6,7 +6,7 @@ use Rattle.std.proofs.lemmas.Option.{cond_some}
 use Rattle.std.proofs.lemmas.Bool.{eqb-true, cond_both}
 use Rattle.sc_base.specs.Definitions.{Each}
 use Rattle.sc_base.proofs.Lemmas.{and_then-some, map-some}
-use Rattle.sc_words.proofs.PaxosProofs.Lemmas.{Each-append, find_found}
+use Rattle.sc_words.proofs.PaxosProofs.PaxosLemmas.{Each-append, find_found}
 use Rattle.sc_node_table.specs.Values.{Seat, Row, Event, Deliver, Drop, Again, Go, Tick, Crash, Line, Settle, Storm}
 use Rattle.sc_actor.specs.declared.rows.Event.TheVariants.{Told}
 use Rattle.sc_actor.specs.declared.schedules.Line.TheVariants.{Go as GoLine, Deliver as DeliverLine, Drop as DropLine, Again as AgainLine, Tick as TickLine, Crash as CrashLine, Told as ToldLine, Free}

@@ -5,14 +5,14 @@ use Rattle.sc_base.specs.Definitions.{client_actor, same_draw, Among}
 use Rattle.sc_node_table.specs.Values.{Ballot, Draw, Command, Call, Base, OrderResult, Refused, AnswerBody, Mail, MailBody, Answer, Prepare, Accept, Learn, Told}
 use Rattle.sc_words.specs.declared.commands.orders.OrderRefusal.TheVariants.{NotLeader}
 use Rattle.sc_mail.specs.declared.bodies.AnswerBody.TheVariants as Says
-use Rattle.sc_group_table.specs.machine.Definitions.{Group}
-use Rattle.sc_words.specs.paxos.Definitions.{below, new_leader}
-use Rattle.sc_law_walks.proofs.Lemmas.{below_round}
-use Rattle.sc_paxos_law.specs.Definitions.{Step, Prepared, Offered}
-use Rattle.sc_node_table.specs.Definitions.{elected, ended, stopped, saw, open_nodes, sent, sent_all, sent_others, answered, answered_all, order_number, order_reported, dismissed, dismissed_all, ReplicaState, Place, name_of, next, under_way}
-use Rattle.sc_meaning.specs.sound.Definitions.{Ahead}
-use Rattle.sc_law_entries.proofs.HistoryProofs.Lemmas.{state_same}
-use Rattle.sc_law_groups.specs.group.Definitions.{proposer_steps}
+use Rattle.sc_group_table.specs.machine.MachineDefinitions.{Group}
+use Rattle.sc_words.specs.paxos.PaxosDefinitions.{below, new_leader}
+use Rattle.sc_law_walks.proofs.WalkLemmas.{below_round}
+use Rattle.sc_paxos_law.specs.PaxosLawDefinitions.{Step, Prepared, Offered}
+use Rattle.sc_node_table.specs.NodeDefinitions.{elected, ended, stopped, saw, open_nodes, sent, sent_all, sent_others, answered, answered_all, order_number, order_reported, dismissed, dismissed_all, ReplicaState, Place, name_of, next, under_way}
+use Rattle.sc_meaning.specs.sound.SoundDefinitions.{Ahead}
+use Rattle.sc_law_entries.proofs.HistoryProofs.HistoryLemmas.{state_same}
+use Rattle.sc_law_groups.specs.group.GroupDefinitions.{proposer_steps}
 use Rattle.sc_law_groups.proofs.GroupProofs.Growth.{IsLearnt, offer_again}
 use Rattle.sc_law_groups.proofs.GroupProofs.Invariant.{Steps, rule, first, birth, IsReplica, next_after, IsTrueAnswer, more_steps}
 use Rattle.sc_law_groups.proofs.GroupProofs.Midway.{Fine, turn, says, steps}

@@ -2,11 +2,11 @@
 use Rattle.std.proofs.Common.{◌≡◌, ℕ, List, [], ◌∷◌, ◌++◌, Option, Some, refl, ◌∙◌, ap}
 use Rattle.sc_base.specs.Definitions.{Each}
 use Rattle.sc_node_table.specs.Values.{Draw, Body, Command, Noop, Prepared, RecordVote, GiveUp, Finish, Watched, RecordWatch, Base, Coordinating, Heard, Outcome, Past, Mail, MailBody, Request, Answer, Prepare, Promise, Accept, Accepted as AcceptedMail, Nack, Learn, Ask, Install, TxPrepare, TxVote, TxOutcome, TxElsewhere, TxWatch, TxWatched, Told}
-use Rattle.sc_group_table.specs.machine.Definitions.{Group, state_after, applied}
-use Rattle.sc_node_table.specs.Definitions.{group_of_mail, reminders, before_of, went_on, standing_vote, noted_outcome, voted_to, watched_to, asked_next}
-use Rattle.sc_paxos_law.specs.Definitions.{IsLog}
-use Rattle.sc_meaning.specs.sound.Definitions.{Ahead}
-use Rattle.sc_law_groups.specs.group.Definitions.{proposer_steps, asked_in}
+use Rattle.sc_group_table.specs.machine.MachineDefinitions.{Group, state_after, applied}
+use Rattle.sc_node_table.specs.NodeDefinitions.{group_of_mail, reminders, before_of, went_on, standing_vote, noted_outcome, voted_to, watched_to, asked_next}
+use Rattle.sc_paxos_law.specs.PaxosLawDefinitions.{IsLog}
+use Rattle.sc_meaning.specs.sound.SoundDefinitions.{Ahead}
+use Rattle.sc_law_groups.specs.group.GroupDefinitions.{proposer_steps, asked_in}
 use Rattle.sc_law_groups.proofs.GroupProofs.Invariant.{Steps, rule, birth, name, IsOwn, IsTrue}
 
 -- a mail of a transaction that is heard

@@ -3,12 +3,12 @@ use Rattle.std.proofs.Common.{◌≡◌, ℕ, false, Bool, List, [], ◌∷◌, 
 use Rattle.std.proofs.lemmas.Bool.{cases_Bool}
 use Rattle.sc_base.specs.Definitions.{Drawer, same_draw, Among, Each}
 use Rattle.sc_node_table.specs.Values.{Draw, Command, Base, Mail, MailBody}
-use Rattle.sc_words.proofs.PaxosProofs.Lemmas.{Each-among, Each-from}
-use Rattle.sc_paxos_law.specs.Definitions.{IsLawfulHistory}
+use Rattle.sc_words.proofs.PaxosProofs.PaxosLemmas.{Each-among, Each-from}
+use Rattle.sc_paxos_law.specs.PaxosLawDefinitions.{IsLawfulHistory}
 use Rattle.sc_paxos_law.proofs.Lemmas.{Among-either}
-use Rattle.sc_node_table.specs.Definitions.{NodeState, ticked, on_tick, names_after_tick, ReplicaState, Place, name_of, tick_row}
-use Rattle.sc_meaning.specs.sound.Definitions.{Ahead}
-use Rattle.sc_law_groups.specs.group.Definitions.{asked_in}
+use Rattle.sc_node_table.specs.NodeDefinitions.{NodeState, ticked, on_tick, names_after_tick, ReplicaState, Place, name_of, tick_row}
+use Rattle.sc_meaning.specs.sound.SoundDefinitions.{Ahead}
+use Rattle.sc_law_groups.specs.group.GroupDefinitions.{asked_in}
 use Rattle.sc_law_groups.proofs.GroupProofs.Growth.{By}
 use Rattle.sc_law_groups.proofs.GroupProofs.Invariant.{Steps, rule, first, IsReplica, IsTrue, OffersMade}
 use Rattle.sc_law_groups.proofs.GroupProofs.Speech.{AnyoneHears, Speaks}

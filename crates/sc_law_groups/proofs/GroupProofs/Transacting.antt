@@ -5,10 +5,10 @@ use Rattle.sc_base.specs.Definitions.{Each}
 use Rattle.sc_node_table.specs.Values.{Draw, Body, Offer, Watch, Command, Prepared, RecordVote, GiveUp, Finish, Watched, RecordWatch, Base, Lock, Free, Coordinating, Promised, Watching, Heard, Outcome, Past, Vote, Mail, MailBody, TxPrepare, TxVote, TxOutcome, TxElsewhere, TxWatch, TxWatched}
 use Rattle.sc_words.specs.declared.commands.votes.Past.TheVariants as Cast
 use Rattle.sc_words.specs.declared.commands.votes.Vote.TheVariants as Vows
-use Rattle.sc_group_table.specs.machine.Definitions.{Group}
-use Rattle.sc_words.proofs.PaxosProofs.Lemmas.{Each-append}
-use Rattle.sc_node_table.specs.Definitions.{has_act, with_act, act_queued, group_of_mail, patience, one_tick_more, waited_in, reminders, reminded, ReplicaState, Place, settled, standing_vote, noted_outcome, voted_to, offered_by, offer_row, watched_to, watched_by, watch_row, awaits_vote, vote_queued, vote_met, vote_row, awaits_watch, watch_queued, watch_met, watched_row, asked_next, elsewhere_row, is_bound, outcome_row}
-use Rattle.sc_meaning.specs.sound.Definitions.{Ahead}
+use Rattle.sc_group_table.specs.machine.MachineDefinitions.{Group}
+use Rattle.sc_words.proofs.PaxosProofs.PaxosLemmas.{Each-append}
+use Rattle.sc_node_table.specs.NodeDefinitions.{has_act, with_act, act_queued, group_of_mail, patience, one_tick_more, waited_in, reminders, reminded, ReplicaState, Place, settled, standing_vote, noted_outcome, voted_to, offered_by, offer_row, watched_to, watched_by, watch_row, awaits_vote, vote_queued, vote_met, vote_row, awaits_watch, watch_queued, watch_met, watched_row, asked_next, elsewhere_row, is_bound, outcome_row}
+use Rattle.sc_meaning.specs.sound.SoundDefinitions.{Ahead}
 use Rattle.sc_law_groups.proofs.GroupProofs.Invariant.{Steps, rule, IsReplica}
 use Rattle.sc_law_groups.proofs.GroupProofs.Midway.{Fine, turn}
 use Rattle.sc_law_groups.proofs.GroupProofs.Offering.{with_acts, fine_pumped}

@@ -3,9 +3,9 @@ use Rattle.std.proofs.Common.{◌≡◌, ℕ, ◌+◌, ◌-◌, not, Bool, true,
 use Rattle.std.proofs.lemmas.Bool.{cond_both}
 use Rattle.sc_node_table.specs.Values.{Command, Base, Mail, MailBody, Prepare, Install}
 use Rattle.sc_base.specs.Definitions.{is_member}
-use Rattle.sc_group_table.specs.machine.Definitions.{base_of}
-use Rattle.sc_node_table.specs.Definitions.{ReplicaState, Place, name_of, next, members, sent, sent_all, install_to, asked_to_promise, welcomed_all, welcomed}
-use Rattle.sc_meaning.specs.sound.Definitions.{Ahead}
+use Rattle.sc_group_table.specs.machine.MachineDefinitions.{base_of}
+use Rattle.sc_node_table.specs.NodeDefinitions.{ReplicaState, Place, name_of, next, members, sent, sent_all, install_to, asked_to_promise, welcomed_all, welcomed}
+use Rattle.sc_meaning.specs.sound.SoundDefinitions.{Ahead}
 use Rattle.sc_group_table.proofs.MachineProofs.Lemmas.{group_again}
 use Rattle.sc_law_groups.proofs.GroupProofs.Invariant.{Steps, AreSets, next_after}
 use Rattle.sc_law_groups.proofs.GroupProofs.Midway.{Fine, says}

@@ -6,8 +6,8 @@ use Rattle.std.proofs.lemmas.Bool.{cases_Bool, eqb-true, cond-true, cond-false, 
 use Rattle.std.proofs.lemmas.List.{length_push}
 use Rattle.sc_node_table.specs.Values.{Command, Flight}
 use Rattle.sc_base.specs.Definitions.{Among, Each}
-use Rattle.sc_words.specs.paxos.Definitions.{without_flight}
-use Rattle.sc_node_table.specs.Definitions.{rest_of, at_slot, without_slot, is_request_of, without_request}
+use Rattle.sc_words.specs.paxos.PaxosDefinitions.{without_flight}
+use Rattle.sc_node_table.specs.NodeDefinitions.{rest_of, at_slot, without_slot, is_request_of, without_request}
 
 -- what holds of each flight holds with one less
 pub Each-without_flight : (P : Flight Command → Type 0) (slot : ℕ) (fs : List (Flight Command)) → Each P fs → Each P (without_flight slot fs)

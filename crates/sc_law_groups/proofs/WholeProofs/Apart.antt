@@ -7,12 +7,12 @@ use Rattle.sc_node_table.specs.Values.{Ballot, Draw, Command, Base, OrderLine, A
 use Rattle.sc_base.proofs.Lemmas.{draw_is}
 use Rattle.sc_mail.specs.declared.bodies.AnswerBody.TheVariants as Says
 use Rattle.sc_actor.specs.Definitions.{mails, numbered}
-use Rattle.sc_words.proofs.PaxosProofs.Lemmas.{Each-from}
-use Rattle.sc_paxos_law.specs.Definitions.{Step, Prepared, Promised, Offered, Accepted, log_of}
+use Rattle.sc_words.proofs.PaxosProofs.PaxosLemmas.{Each-from}
+use Rattle.sc_paxos_law.specs.PaxosLawDefinitions.{Step, Prepared, Promised, Offered, Accepted, log_of}
 use Rattle.sc_paxos_law.proofs.Lemmas.{Among-left, Among-right}
-use Rattle.sc_meaning.specs.sound.Definitions.{Ahead, is_accepted, accepts_of, accepts_got, accepts_at, accepts_from, accepts, rule_of, decided_log}
-use Rattle.sc_law_groups.specs.group.Definitions.{proposer_steps, asked_in, promised_by, promises_of, promises_got, promises_at, steps_at, steps_from}
-use Rattle.sc_law_groups.proofs.GroupProofs.Lemmas.{h_of, Steps, IsTrue, IsOneOf, IsNamedAnswer, IsNamedIn, Journal, number_among}
+use Rattle.sc_meaning.specs.sound.SoundDefinitions.{Ahead, is_accepted, accepts_of, accepts_got, accepts_at, accepts_from, accepts, rule_of, decided_log}
+use Rattle.sc_law_groups.specs.group.GroupDefinitions.{proposer_steps, asked_in, promised_by, promises_of, promises_got, promises_at, steps_at, steps_from}
+use Rattle.sc_law_groups.proofs.GroupProofs.GroupLemmas.{h_of, Steps, IsTrue, IsOneOf, IsNamedAnswer, IsNamedIn, Journal, number_among}
 
 -- an answer with a reply is of another group
 abbrev IsApartAnswer : Draw → Draw → AnswerBody → Type 0

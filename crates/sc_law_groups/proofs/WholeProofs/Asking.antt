@@ -3,10 +3,10 @@ use Rattle.std.proofs.Common.{◌≡◌, ℕ, true, List, [], ◌∷◌, Option,
 use Rattle.sc_base.specs.Definitions.{Each, IsRoster}
 use Rattle.sc_node_table.specs.Values.{Draw, Body, Command, Join, Leave, Split, Begin, Core, Lock, Free, Coordinating, Promised, Watching, Heard, No}
 use Rattle.sc_words.specs.declared.commands.bodies.Body.TheVariants as By
-use Rattle.sc_group_table.specs.machine.Definitions.{Group, state_after, applied, refusal_of, with_node, without_node, can_split, vote_of, watch_vote_of, bound_by}
-use Rattle.sc_law_entries.specs.ring.Definitions.{IsShared}
-use Rattle.sc_law_groups.proofs.GroupProofs.Lemmas.{ordered_if}
-use Rattle.sc_law_entries.proofs.HistoryProofs.Lemmas.{free_by}
+use Rattle.sc_group_table.specs.machine.MachineDefinitions.{Group, state_after, applied, refusal_of, with_node, without_node, can_split, vote_of, watch_vote_of, bound_by}
+use Rattle.sc_law_entries.specs.ring.RingDefinitions.{IsShared}
+use Rattle.sc_law_groups.proofs.GroupProofs.GroupLemmas.{ordered_if}
+use Rattle.sc_law_entries.proofs.HistoryProofs.HistoryLemmas.{free_by}
 use Rattle.sc_law_groups.proofs.WholeProofs.Coming.{comes}
 use Rattle.sc_law_groups.proofs.WholeProofs.Locks.{always}
 use Rattle.sc_law_groups.proofs.WholeProofs.Members.{may_split, members_after}

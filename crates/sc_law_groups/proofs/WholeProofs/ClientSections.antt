@@ -4,10 +4,10 @@ use Rattle.std.specs.Prelude.{slice_get, option_and_then}
 use Rattle.std.proofs.lemmas.Bool.{eqb-true, eq-eqb, cond-true, cond_both}
 use Rattle.sc_base.specs.Definitions.{Among}
 use Rattle.sc_node_table.specs.Values.{Draw}
-use Rattle.sc_words.proofs.PaxosProofs.Lemmas.{find_found}
+use Rattle.sc_words.proofs.PaxosProofs.PaxosLemmas.{find_found}
 use Rattle.sc_scenario.specs.declared.scenario.scenarios.Asks.{Asks}
 use Rattle.sc_scenario.specs.declared.scenario.scenarios.Scenario.{Scenario}
-use Rattle.sc_law_groups.specs.whole.Definitions.{AsksAre, op_or_get, section_op}
+use Rattle.sc_law_groups.specs.whole.WholeDefinitions.{AsksAre, op_or_get, section_op}
 
 -- a client that has a section is found
 find_there : (clients : List Asks) (asks : Asks) → Among asks clients → (found : Asks) × (find (λ (a : Asks). eqb a.client asks.client) clients ≡ Some found)

@@ -10,8 +10,8 @@ use Rattle.sc_words.specs.declared.commands.bodies.Body.TheVariants as By
 use Rattle.sc_words.specs.declared.commands.effects.Effect.TheVariants as Was
 use Rattle.sc_words.specs.declared.commands.votes.Outcome.TheVariants as Is
 use Rattle.sc_words.specs.declared.commands.votes.Vote.TheVariants as Vows
-use Rattle.sc_law_walks.proofs.Lemmas.{EndsIt, ChangesNothing, IsAccepted, VotesOn, MachineWalk, machine_step}
-use Rattle.sc_group_table.specs.machine.Definitions.{vote_of, watch_vote_of, with_node, without_node, gone_group, gained_group, lost_group, welcomed_group, watcher_after, party_freed, Group, applied, refusal_of, ordered, can_cut, has_key_of, can_split, can_merge, merged_group, may_merge, closing_group, giving_group, taking_group, can_migrate, migrated_group, staying, left_members, left_group, begun_group, decided_group, heard_group}
+use Rattle.sc_law_walks.proofs.WalkLemmas.{EndsIt, ChangesNothing, IsAccepted, VotesOn, MachineWalk, machine_step}
+use Rattle.sc_group_table.specs.machine.MachineDefinitions.{vote_of, watch_vote_of, with_node, without_node, gone_group, gained_group, lost_group, welcomed_group, watcher_after, party_freed, Group, applied, refusal_of, ordered, can_cut, has_key_of, can_split, can_merge, merged_group, may_merge, closing_group, giving_group, taking_group, can_migrate, migrated_group, staying, left_members, left_group, begun_group, decided_group, heard_group}
 
 -- ---- members
 

@@ -7,13 +7,13 @@ use Rattle.sc_node_table.specs.Values.{Draw, Body, Offer, Watch, Command, Noop, 
 use Rattle.sc_words.specs.declared.commands.bodies.Body.TheVariants as At
 use Rattle.sc_words.specs.declared.commands.effects.Effect.TheVariants as Was
 use Rattle.sc_words.specs.declared.commands.votes.Vote.TheVariants as Vows
-use Rattle.sc_words.specs.commands.Definitions.{is_changed, decided_in, is_alone}
-use Rattle.sc_group_table.specs.machine.Definitions.{Group, applied}
-use Rattle.sc_meaning.specs.entries.Definitions.{after_outcome, named_group}
+use Rattle.sc_words.specs.commands.CommandDefinitions.{is_changed, decided_in, is_alone}
+use Rattle.sc_group_table.specs.machine.MachineDefinitions.{Group, applied}
+use Rattle.sc_meaning.specs.entries.EntryDefinitions.{after_outcome, named_group}
 use Rattle.sc_meaning.specs.declared.entries.LogEntry.{LogEntry}
-use Rattle.sc_law_entries.specs.ring.Definitions.{Sources, IsVoteCast, IsAllowed, AreAllowed, StoryWorld, first_recorded, recorded_next, recorded_after, recorded_stories, Groups, LockOk, IsCoordinating, IsPromised, BeginInPlace, stories_of, Story, Stories, put, with_story, unsigned, new_story, vote_in, watch_vote_in, with_vote, with_watch_vote, with_decision, with_asked, with_answer, stories_after}
-use Rattle.sc_law_entries.proofs.RingProofs.Lemmas.{Decisions, decisions, outcome_of, settle_by, living, living_by, eff, view_of, arc_of, succ_of, Old, IsPair, not_back, at_start, Kept, Ring, KeptWorld, kept_on}
-use Rattle.sc_law_groups.specs.whole.Definitions.{PartiesAreApart}
+use Rattle.sc_law_entries.specs.ring.RingDefinitions.{Sources, IsVoteCast, IsAllowed, AreAllowed, StoryWorld, first_recorded, recorded_next, recorded_after, recorded_stories, Groups, LockOk, IsCoordinating, IsPromised, BeginInPlace, stories_of, Story, Stories, put, with_story, unsigned, new_story, vote_in, watch_vote_in, with_vote, with_watch_vote, with_decision, with_asked, with_answer, stories_after}
+use Rattle.sc_law_entries.proofs.RingProofs.RingLemmas.{Decisions, decisions, outcome_of, settle_by, living, living_by, eff, view_of, arc_of, succ_of, Old, IsPair, not_back, at_start, Kept, Ring, KeptWorld, kept_on}
+use Rattle.sc_law_groups.specs.whole.WholeDefinitions.{PartiesAreApart}
 use Rattle.sc_law_groups.proofs.WholeProofs.Coming.{IsDull, comes}
 
 -- a story of which the participant is not the watcher

@@ -1,12 +1,12 @@
 -- The examples are read off texts, so their lawful journals are sound.
 use Rattle.std.proofs.Common.{◌≡◌, ℕ, List, [], Some, inl, refl, sym, append-nil}
 use Rattle.sc_actor.specs.Definitions.{no_words}
-use Rattle.sc_meaning.specs.sound.Definitions.{Lawful, four, IsSound}
+use Rattle.sc_meaning.specs.sound.SoundDefinitions.{Lawful, four, IsSound}
 use Rattle.sc_scenario.specs.scenario.Definitions.{scenario_of}
 use Rattle.sc_scenario.specs.declared.scenario.scenarios.Scenario.{Scenario}
-use Rattle.sc_law_groups.specs.group.Definitions.{election_scenario, join_scenario}
-use Rattle.sc_law_entries.specs.logs.Definitions.{Rows}
-use Rattle.sc_law_groups.specs.whole.Definitions.{split_scenario, election_text, join_text, two_text, split_text, two_scenario, ValidJournalsAreSound}
+use Rattle.sc_law_groups.specs.group.GroupDefinitions.{election_scenario, join_scenario}
+use Rattle.sc_law_entries.specs.logs.LogDefinitions.{Rows}
+use Rattle.sc_law_groups.specs.whole.WholeDefinitions.{split_scenario, election_text, join_text, two_text, split_text, two_scenario, ValidJournalsAreSound}
 
 -- a lawful journal of a scenario that a text is
 pub text_sound : ValidJournalsAreSound → (text : List ℕ) (scenario : Scenario) → scenario_of text ≡ Some scenario → (rows : Rows) → Lawful four no_words scenario rows → IsSound four scenario rows []

@@ -9,14 +9,14 @@ use Rattle.sc_words.specs.declared.commands.bodies.Body.TheVariants as At
 use Rattle.sc_words.specs.declared.commands.votes.No.TheVariants as Why
 use Rattle.sc_words.specs.declared.commands.votes.Past.TheVariants as Cast
 use Rattle.sc_words.specs.declared.commands.votes.Vote.TheVariants as Vows
-use Rattle.sc_words.specs.commands.Definitions.{is_changed, decided_in, is_alone}
-use Rattle.sc_group_table.specs.machine.Definitions.{Group, group_of, applied, locked_in, frozen_of, has_voted, size_no, body_no, offer_no, no_of, vote_of, past_of}
-use Rattle.sc_meaning.specs.entries.Definitions.{birth_of, is_named, named_group, with_group, groups_after, after_command}
+use Rattle.sc_words.specs.commands.CommandDefinitions.{is_changed, decided_in, is_alone}
+use Rattle.sc_group_table.specs.machine.MachineDefinitions.{Group, group_of, applied, locked_in, frozen_of, has_voted, size_no, body_no, offer_no, no_of, vote_of, past_of}
+use Rattle.sc_meaning.specs.entries.EntryDefinitions.{birth_of, is_named, named_group, with_group, groups_after, after_command}
 use Rattle.sc_meaning.specs.declared.entries.LogEntry.{LogEntry}
-use Rattle.sc_meaning.proofs.EntriesProofs.Lemmas.{births_are_children}
-use Rattle.sc_words.proofs.PaxosProofs.Lemmas.{Each-among, Each-append, find_found}
-use Rattle.sc_law_entries.specs.ring.Definitions.{Sources, IsAllowed, AreAllowed, StoryWorld, first_recorded, recorded_next, recorded_after, recorded_stories, stories_of, Story, Stories, put, with_story, unsigned, new_story, vote_by, vote_in, watch_vote_in, with_vote, with_watch_vote, with_decision, with_asked, stories_after}
-use Rattle.sc_law_groups.specs.whole.Definitions.{IsFresh, MergesFit}
+use Rattle.sc_meaning.proofs.EntriesProofs.EntryLemmas.{births_are_children}
+use Rattle.sc_words.proofs.PaxosProofs.PaxosLemmas.{Each-among, Each-append, find_found}
+use Rattle.sc_law_entries.specs.ring.RingDefinitions.{Sources, IsAllowed, AreAllowed, StoryWorld, first_recorded, recorded_next, recorded_after, recorded_stories, stories_of, Story, Stories, put, with_story, unsigned, new_story, vote_by, vote_in, watch_vote_in, with_vote, with_watch_vote, with_decision, with_asked, stories_after}
+use Rattle.sc_law_groups.specs.whole.WholeDefinitions.{IsFresh, MergesFit}
 use Rattle.sc_law_groups.proofs.WholeProofs.FreshChildren.{fresh_child}
 use Rattle.sc_law_groups.proofs.WholeProofs.Members.{members_after}
 use Rattle.sc_law_groups.proofs.WholeProofs.Unions.{either_way}

@@ -6,13 +6,13 @@ use Rattle.sc_base.specs.Definitions.{Among, same_draw, IsRoster}
 use Rattle.sc_node_table.specs.Values.{Draw, Body, Command, Split, RecordWatch, Base, Lock, Free, Coordinating, Promised, Watching, Route, OrderRefusal, Past}
 use Rattle.sc_words.specs.declared.commands.bodies.Body.TheVariants as By
 use Rattle.sc_words.specs.declared.commands.votes.Past.TheVariants as Cast
-use Rattle.sc_words.specs.commands.Definitions.{is_alone}
-use Rattle.sc_group_table.specs.machine.Definitions.{ordered_child, released_child, answered_child, watched_child, child_by, Group, applied, refusal_of, can_split, staying, right_members, child_of, has_named}
-use Rattle.sc_meaning.specs.entries.Definitions.{birth_of}
-use Rattle.sc_meaning.proofs.EntriesProofs.Lemmas.{births_are_children}
+use Rattle.sc_words.specs.commands.CommandDefinitions.{is_alone}
+use Rattle.sc_group_table.specs.machine.MachineDefinitions.{ordered_child, released_child, answered_child, watched_child, child_by, Group, applied, refusal_of, can_split, staying, right_members, child_of, has_named}
+use Rattle.sc_meaning.specs.entries.EntryDefinitions.{birth_of}
+use Rattle.sc_meaning.proofs.EntriesProofs.EntryLemmas.{births_are_children}
 use Rattle.sc_paxos_law.proofs.Lemmas.{Among-either}
-use Rattle.sc_meaning.specs.sound.Definitions.{children_of}
-use Rattle.sc_law_groups.specs.whole.Definitions.{IsFresh}
+use Rattle.sc_meaning.specs.sound.SoundDefinitions.{children_of}
+use Rattle.sc_law_groups.specs.whole.WholeDefinitions.{IsFresh}
 use Rattle.sc_law_groups.proofs.WholeProofs.Coming.{two_members, staying_some}
 use Rattle.sc_law_groups.proofs.WholeProofs.Members.{may_split, members_after}
 

@@ -7,18 +7,18 @@ use Rattle.sc_node_table.specs.Values.{Draw, Offer, Watch, Command, Prepared, Re
 use Rattle.sc_base.proofs.Lemmas.{draw_is}
 use Rattle.sc_words.specs.declared.commands.votes.Past.TheVariants as Cast
 use Rattle.sc_words.specs.declared.commands.votes.Vote.TheVariants as Vows
-use Rattle.sc_group_table.specs.machine.Definitions.{Group, group_of, state_after, applied, frozen_of}
+use Rattle.sc_group_table.specs.machine.MachineDefinitions.{Group, group_of, state_after, applied, frozen_of}
 use Rattle.sc_group_table.proofs.MachineProofs.Lemmas.{state_push}
-use Rattle.sc_node_table.specs.Definitions.{group_of_mail, before_of, standing_by, standing_vote, noted_outcome, voted_to, watched_to, asked_next}
-use Rattle.sc_words.proofs.PaxosProofs.Lemmas.{Each-append, Each-weaker, find_found}
-use Rattle.sc_paxos_law.specs.Definitions.{IsLog, IsLawfulHistory}
-use Rattle.sc_meaning.specs.sound.Definitions.{Ahead, groups_at, decided_log}
+use Rattle.sc_node_table.specs.NodeDefinitions.{group_of_mail, before_of, standing_by, standing_vote, noted_outcome, voted_to, watched_to, asked_next}
+use Rattle.sc_words.proofs.PaxosProofs.PaxosLemmas.{Each-append, Each-weaker, find_found}
+use Rattle.sc_paxos_law.specs.PaxosLawDefinitions.{IsLog, IsLawfulHistory}
+use Rattle.sc_meaning.specs.sound.SoundDefinitions.{Ahead, groups_at, decided_log}
 use Rattle.sc_scenario.specs.declared.scenario.scenarios.Scenario.{Scenario}
-use Rattle.sc_law_entries.specs.ring.Definitions.{Sources, IsAllowed, BeginInPlace, Story, Stories, unsigned, unsigned_watch}
-use Rattle.sc_law_entries.specs.logs.Definitions.{AllowsAsItStands, MakesAllowed, GroupAllows, Rows, DecideInTurn}
-use Rattle.sc_law_entries.proofs.LogsProofs.Lemmas.{prefixes_allow, states_allow, groups_allow_others}
-use Rattle.sc_law_groups.proofs.GroupProofs.Lemmas.{h_of, rule, first, AreSaid, Meets, Speaks}
-use Rattle.sc_law_groups.specs.whole.Definitions.{stories_at, MayQueue, IsHeardAt, IsFresh, PartiesAreApart, MergesFit}
+use Rattle.sc_law_entries.specs.ring.RingDefinitions.{Sources, IsAllowed, BeginInPlace, Story, Stories, unsigned, unsigned_watch}
+use Rattle.sc_law_entries.specs.logs.LogDefinitions.{AllowsAsItStands, MakesAllowed, GroupAllows, Rows, DecideInTurn}
+use Rattle.sc_law_entries.proofs.LogsProofs.LogLemmas.{prefixes_allow, states_allow, groups_allow_others}
+use Rattle.sc_law_groups.proofs.GroupProofs.GroupLemmas.{h_of, rule, first, AreSaid, Meets, Speaks}
+use Rattle.sc_law_groups.specs.whole.WholeDefinitions.{stories_at, MayQueue, IsHeardAt, IsFresh, PartiesAreApart, MergesFit}
 use Rattle.sc_law_groups.proofs.WholeProofs.Coming.{Binds}
 use Rattle.sc_law_groups.proofs.WholeProofs.Locks.{Ever, WatchesIt, watching_since, DecidesIt, decided_since, yes_binds}
 use Rattle.sc_law_groups.proofs.WholeProofs.Asking.{hears_merges, BeginsShared, splits_fit, none_split}

@@ -4,13 +4,13 @@ use Rattle.sc_base.specs.Definitions.{Among, Each}
 use Rattle.sc_node_table.specs.Values.{Draw, Op, Reply, Command, Call, Base, Route, AnswerBody, Mail, MailBody, Request, Answer, Prepare, Promise, Accept, Accepted as AcceptedMail, Nack, Learn, Ask, Install}
 use Rattle.sc_mail.specs.declared.bodies.AnswerBody.TheVariants as Says
 use Rattle.sc_actor.specs.Definitions.{mails}
-use Rattle.sc_node_table.specs.Definitions.{NodeState, name_of}
-use Rattle.sc_words.proofs.PaxosProofs.Lemmas.{Each-weaker}
-use Rattle.sc_paxos_law.specs.Definitions.{IsLawfulHistory, Offered}
+use Rattle.sc_node_table.specs.NodeDefinitions.{NodeState, name_of}
+use Rattle.sc_words.proofs.PaxosProofs.PaxosLemmas.{Each-weaker}
+use Rattle.sc_paxos_law.specs.PaxosLawDefinitions.{IsLawfulHistory, Offered}
 use Rattle.sc_scenario.specs.declared.scenario.scenarios.Asks.{Asks}
 use Rattle.sc_scenario.specs.declared.scenario.scenarios.Scenario.{Scenario}
-use Rattle.sc_meaning.specs.sound.Definitions.{Ahead}
-use Rattle.sc_law_groups.proofs.GroupProofs.Lemmas.{IsAnswered, h_of, IsNodeAt, IsClientAt, Part, Kept, IsOther, Holds, holds_none, rule, first, IsOneOf, IsNamedAnswer, IsNamedIn, IsNode, Journal}
+use Rattle.sc_meaning.specs.sound.SoundDefinitions.{Ahead}
+use Rattle.sc_law_groups.proofs.GroupProofs.GroupLemmas.{IsAnswered, h_of, IsNodeAt, IsClientAt, Part, Kept, IsOther, Holds, holds_none, rule, first, IsOneOf, IsNamedAnswer, IsNamedIn, IsNode, Journal}
 use Rattle.sc_law_groups.proofs.WholeProofs.Apart.{IsApart, IsNew, IsOldOrNew, named_apart, no_steps, apart_true}
 
 -- a name of one of these groups is one of those

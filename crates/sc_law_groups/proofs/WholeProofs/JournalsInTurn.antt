@@ -4,21 +4,21 @@ use Rattle.std.specs.Prelude.{slice_get}
 use Rattle.sc_base.specs.Definitions.{Among, Each}
 use Rattle.sc_node_table.specs.Values.{Draw, Op, Reply, Command, Noop, Call, Prepared, RecordVote, Finish, Watched, RecordWatch, Base, Route, OrderLine, Mail, MailBody, TxPrepare, TxVote, TxOutcome, TxWatch, TxWatched, Row}
 use Rattle.sc_actor.specs.Definitions.{IsStep}
-use Rattle.sc_group_table.specs.machine.Definitions.{Group, group_of, state_after, applied}
-use Rattle.sc_meaning.specs.entries.Definitions.{birth_of, StoreWorld, named_group}
-use Rattle.sc_meaning.proofs.EntriesProofs.Lemmas.{births_are_children}
-use Rattle.sc_words.proofs.PaxosProofs.Lemmas.{Each-among, Each-weaker}
+use Rattle.sc_group_table.specs.machine.MachineDefinitions.{Group, group_of, state_after, applied}
+use Rattle.sc_meaning.specs.entries.EntryDefinitions.{birth_of, StoreWorld, named_group}
+use Rattle.sc_meaning.proofs.EntriesProofs.EntryLemmas.{births_are_children}
+use Rattle.sc_words.proofs.PaxosProofs.PaxosLemmas.{Each-among, Each-weaker}
 use Rattle.sc_paxos_law.proofs.Lemmas.{Among-left, Among-right, get_pushed}
 use Rattle.sc_scenario.specs.declared.scenario.scenarios.Asks.{Asks}
 use Rattle.sc_scenario.specs.declared.scenario.scenarios.Scenario.{Scenario}
-use Rattle.sc_meaning.specs.sound.Definitions.{Ahead, system_of, replies_of, children_of, groups_at, birth_at, entries_at, world_at, decided_log, decided_state, issues, kept_replies}
-use Rattle.sc_law_entries.specs.ring.Definitions.{Sources, IsAllowed, first_recorded, recorded_after, BeginInPlace}
-use Rattle.sc_law_entries.proofs.RingProofs.Lemmas.{at_start, kept_after, store_after, some_none}
-use Rattle.sc_law_entries.specs.logs.Definitions.{Rows, added_by, newborn_by, AreFound, IsNewborn, DecidesInTurn, DecideInTurn}
-use Rattle.sc_law_entries.proofs.LogsProofs.Lemmas.{allowed_stays_allowed, BornBy, born_by, all_allowed, deciding_rows, groups_are_found, groups_are_old_or_new, group_found, deciding_rows_stay, rows_go_on, Told, state_there}
-use Rattle.sc_law_entries.proofs.NamesProofs.Lemmas.{Each-drop}
-use Rattle.sc_law_groups.proofs.GroupProofs.Lemmas.{first_of, IsIssued, IsAnswered, h_of, Kept, Stepped, IsLater, Moved, push, log_goes_on, decided_made, or_now, issue-push, HasPlayers, MayGiveOrder, KnowsOffspring, moved}
-use Rattle.sc_law_groups.specs.whole.Definitions.{stories_at, IsIssuedCall, MayQueue, IsHeardAt, IsFresh, HasSeats, AsksAre, PartiesAreApart, MergesFit}
+use Rattle.sc_meaning.specs.sound.SoundDefinitions.{Ahead, system_of, replies_of, children_of, groups_at, birth_at, entries_at, world_at, decided_log, decided_state, issues, kept_replies}
+use Rattle.sc_law_entries.specs.ring.RingDefinitions.{Sources, IsAllowed, first_recorded, recorded_after, BeginInPlace}
+use Rattle.sc_law_entries.proofs.RingProofs.RingLemmas.{at_start, kept_after, store_after, some_none}
+use Rattle.sc_law_entries.specs.logs.LogDefinitions.{Rows, added_by, newborn_by, AreFound, IsNewborn, DecidesInTurn, DecideInTurn}
+use Rattle.sc_law_entries.proofs.LogsProofs.LogLemmas.{allowed_stays_allowed, BornBy, born_by, all_allowed, deciding_rows, groups_are_found, groups_are_old_or_new, group_found, deciding_rows_stay, rows_go_on, Told, state_there}
+use Rattle.sc_law_entries.proofs.NamesProofs.NameLemmas.{Each-drop}
+use Rattle.sc_law_groups.proofs.GroupProofs.GroupLemmas.{first_of, IsIssued, IsAnswered, h_of, Kept, Stepped, IsLater, Moved, push, log_goes_on, decided_made, or_now, issue-push, HasPlayers, MayGiveOrder, KnowsOffspring, moved}
+use Rattle.sc_law_groups.specs.whole.WholeDefinitions.{stories_at, IsIssuedCall, MayQueue, IsHeardAt, IsFresh, HasSeats, AsksAre, PartiesAreApart, MergesFit}
 use Rattle.sc_law_groups.proofs.WholeProofs.Apart.{IsNew, IsOldOrNew, named_apart, silent}
 use Rattle.sc_law_groups.proofs.WholeProofs.FreshChildren.{fresh_children}
 use Rattle.sc_law_groups.proofs.WholeProofs.Distinct.{parties_are_apart}

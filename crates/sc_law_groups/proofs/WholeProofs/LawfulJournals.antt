@@ -8,16 +8,16 @@ use Rattle.sc_words.specs.declared.commands.orders.Order.TheVariants as An
 use Rattle.sc_actor.specs.declared.rows.Event.TheVariants.{Told}
 use Rattle.sc_actor.specs.Definitions.{IsStep, value, place_after}
 use Rattle.sc_actor.proofs.Lemmas.{MayAdd-step, lawful-induction, lawful-prefix, lawful-last}
-use Rattle.sc_node_table.specs.Definitions.{NodeState, names_after_ticks, ordered_command, wished_line, names_after_tick, ReplicaState, name_of, members, settled}
-use Rattle.sc_words.proofs.PaxosProofs.Lemmas.{Each-among}
-use Rattle.sc_meaning.specs.sound.Definitions.{Ahead, Lawful, node_seat, player_table, system_of, schedule, AreNamedApart, groups_at, kept_replies, HasRun, AllHaveRun}
+use Rattle.sc_node_table.specs.NodeDefinitions.{NodeState, names_after_ticks, ordered_command, wished_line, names_after_tick, ReplicaState, name_of, members, settled}
+use Rattle.sc_words.proofs.PaxosProofs.PaxosLemmas.{Each-among}
+use Rattle.sc_meaning.specs.sound.SoundDefinitions.{Ahead, Lawful, node_seat, player_table, system_of, schedule, AreNamedApart, groups_at, kept_replies, HasRun, AllHaveRun}
 use Rattle.sc_scenario.specs.declared.scenario.scenarios.Asks.{Asks}
 use Rattle.sc_scenario.specs.declared.scenario.scenarios.Scenario.{Scenario}
-use Rattle.sc_law_entries.specs.ring.Definitions.{Sources, IsAllowed, BeginInPlace}
-use Rattle.sc_law_entries.specs.logs.Definitions.{HasOneValue, IsIssuedIn, IsDecidedBefore, HoldsBeside, Rows, added_by}
-use Rattle.sc_law_entries.specs.names.Definitions.{waited, wished_at}
-use Rattle.sc_law_groups.proofs.GroupProofs.Lemmas.{at_start, h_of, held, IsOneOf, IsNode, one_value, is_log, longest, executed_is, MayGiveOrder, MayTick}
-use Rattle.sc_law_groups.specs.whole.Definitions.{OrdersAreAllowed, stories_at, IsIssuedCall, MayQueue, IsHeardAt, IsFresh, HasSeats, AsksAre}
+use Rattle.sc_law_entries.specs.ring.RingDefinitions.{Sources, IsAllowed, BeginInPlace}
+use Rattle.sc_law_entries.specs.logs.LogDefinitions.{HasOneValue, IsIssuedIn, IsDecidedBefore, HoldsBeside, Rows, added_by}
+use Rattle.sc_law_entries.specs.names.NameDefinitions.{waited, wished_at}
+use Rattle.sc_law_groups.proofs.GroupProofs.GroupLemmas.{at_start, h_of, held, IsOneOf, IsNode, one_value, is_log, longest, executed_is, MayGiveOrder, MayTick}
+use Rattle.sc_law_groups.specs.whole.WholeDefinitions.{OrdersAreAllowed, stories_at, IsIssuedCall, MayQueue, IsHeardAt, IsFresh, HasSeats, AsksAre}
 use Rattle.sc_law_groups.proofs.WholeProofs.Replies.{decided_before, replies_are_decided}
 use Rattle.sc_law_groups.proofs.WholeProofs.JournalsInTurn.{Holds, players, issued_now, told_now, holds_next}
 

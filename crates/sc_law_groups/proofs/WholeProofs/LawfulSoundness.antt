@@ -2,11 +2,11 @@
 use Rattle.std.proofs.Common.{◌≡◌, ◌∷◌, ◌++◌, ◌∙◌, ap, append_assoc}
 use Rattle.sc_node_table.specs.Values.{OrderLine, Mail, Row}
 use Rattle.sc_actor.proofs.Lemmas.{lawful-prefix}
-use Rattle.sc_meaning.specs.sound.Definitions.{Ahead, system_of, schedule}
+use Rattle.sc_meaning.specs.sound.SoundDefinitions.{Ahead, system_of, schedule}
 use Rattle.sc_scenario.specs.declared.scenario.scenarios.Scenario.{Scenario}
-use Rattle.sc_law_entries.specs.ring.Definitions.{Sources}
-use Rattle.sc_law_entries.specs.logs.Definitions.{Rows, JournalsInTurnAreSound}
-use Rattle.sc_law_groups.specs.whole.Definitions.{LawfulJournalsDecideInTurn, LawfulJournalsHoldBeside, LawfulJournalsAreSound, OrdersAreAllowed}
+use Rattle.sc_law_entries.specs.ring.RingDefinitions.{Sources}
+use Rattle.sc_law_entries.specs.logs.LogDefinitions.{Rows, JournalsInTurnAreSound}
+use Rattle.sc_law_groups.specs.whole.WholeDefinitions.{LawfulJournalsDecideInTurn, LawfulJournalsHoldBeside, LawfulJournalsAreSound, OrdersAreAllowed}
 use Rattle.sc_law_groups.proofs.WholeProofs.LawfulJournals.{holds, beside}
 
 pub lawful_journals_decide_in_turn : LawfulJournalsDecideInTurn

@@ -7,12 +7,12 @@ use Rattle.sc_node_table.specs.Values.{Draw, Offer, Watch, Command, Join, Leave,
 use Rattle.sc_base.proofs.Lemmas.{draw_is, same_name}
 use Rattle.sc_words.specs.declared.commands.effects.Effect.TheVariants as Was
 use Rattle.sc_words.specs.declared.commands.votes.Past.TheVariants as Cast
-use Rattle.sc_group_table.specs.machine.Definitions.{closed, Group, state_after, applied, refusal_of, with_node, without_node, has_voted, offer_no, watch_no, vote_of, watch_vote_of, past_of, bound_by}
+use Rattle.sc_group_table.specs.machine.MachineDefinitions.{closed, Group, state_after, applied, refusal_of, with_node, without_node, has_voted, offer_no, watch_no, vote_of, watch_vote_of, past_of, bound_by}
 use Rattle.sc_paxos_law.proofs.Lemmas.{Among-either}
-use Rattle.sc_law_groups.proofs.GroupProofs.Lemmas.{ordered_if}
-use Rattle.sc_law_entries.proofs.HistoryProofs.Lemmas.{free_by, free_by_no}
+use Rattle.sc_law_groups.proofs.GroupProofs.GroupLemmas.{ordered_if}
+use Rattle.sc_law_entries.proofs.HistoryProofs.HistoryLemmas.{free_by, free_by_no}
 use Rattle.sc_law_groups.proofs.WholeProofs.Coming.{Binds, comes}
-use Rattle.sc_law_walks.proofs.Lemmas.{EndsIt}
+use Rattle.sc_law_walks.proofs.WalkLemmas.{EndsIt}
 
 -- ---- what once came of an entry
 

@@ -3,9 +3,9 @@ use Rattle.std.proofs.Common.{◌≡◌, ℕ, ◌||◌, not, true, nat_le, eqb, 
 use Rattle.std.proofs.lemmas.Bool.{and_from, or_parts, not-false, eqb-false, le-leb, cond_both}
 use Rattle.sc_base.specs.Definitions.{holds, IsRoster}
 use Rattle.sc_node_table.specs.Values.{Draw, Command, Join, Leave, Split, Core, BadBoundary, LastMember}
-use Rattle.sc_group_table.specs.machine.Definitions.{Group, applied, locked_in, refusal_of, can_cut, can_split}
-use Rattle.sc_law_groups.proofs.GroupProofs.Lemmas.{free_refusal, applied_roster}
-use Rattle.sc_law_groups.specs.whole.Definitions.{MembersStayRosters}
+use Rattle.sc_group_table.specs.machine.MachineDefinitions.{Group, applied, locked_in, refusal_of, can_cut, can_split}
+use Rattle.sc_law_groups.proofs.GroupProofs.GroupLemmas.{free_refusal, applied_roster}
+use Rattle.sc_law_groups.specs.whole.WholeDefinitions.{MembersStayRosters}
 use Rattle.sc_law_groups.proofs.WholeProofs.Coming.{two_members, staying_roster, comes}
 
 -- where a split is not refused the group can be split

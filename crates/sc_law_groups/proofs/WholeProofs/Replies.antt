@@ -6,17 +6,17 @@ use Rattle.std.proofs.lemmas.List.{append_cancel_left}
 use Rattle.std.proofs.lemmas.Option.{slice_get_cases}
 use Rattle.sc_base.specs.Definitions.{Among}
 use Rattle.sc_node_table.specs.Values.{Draw, Reply, Call, Base, Route, OrderLine, Mail, Seat, Row, Client as AClient}
-use Rattle.sc_client_table.specs.table.Definitions.{Client, born_client}
-use Rattle.sc_client_table.specs.lookup.Definitions.{KnownGroups, new_way}
+use Rattle.sc_client_table.specs.table.TableDefinitions.{Client, born_client}
+use Rattle.sc_client_table.specs.lookup.LookupDefinitions.{KnownGroups, new_way}
 use Rattle.sc_client_table.specs.declared.lookup.ways.Way.{Way}
-use Rattle.sc_node_table.specs.Definitions.{numbers_from}
-use Rattle.sc_paxos_law.specs.Definitions.{IsLawfulHistory}
-use Rattle.sc_meaning.specs.sound.Definitions.{Ahead, Player, node_seat, client_seat, client_seats, route_of, groups_at, decided_log, kept_replies, kept_reply, answered_from, answer_row}
+use Rattle.sc_node_table.specs.NodeDefinitions.{numbers_from}
+use Rattle.sc_paxos_law.specs.PaxosLawDefinitions.{IsLawfulHistory}
+use Rattle.sc_meaning.specs.sound.SoundDefinitions.{Ahead, Player, node_seat, client_seat, client_seats, route_of, groups_at, decided_log, kept_replies, kept_reply, answered_from, answer_row}
 use Rattle.sc_scenario.specs.declared.scenario.scenarios.Asks.{Asks}
 use Rattle.sc_scenario.specs.declared.scenario.scenarios.Scenario.{Scenario}
-use Rattle.sc_law_entries.specs.logs.Definitions.{IsDecidedBefore, RepliesAreDecided, Rows}
-use Rattle.sc_law_groups.proofs.GroupProofs.Lemmas.{IsAnswered, h_of, rule, first}
-use Rattle.sc_law_groups.specs.whole.Definitions.{HasSeats}
+use Rattle.sc_law_entries.specs.logs.LogDefinitions.{IsDecidedBefore, RepliesAreDecided, Rows}
+use Rattle.sc_law_groups.proofs.GroupProofs.GroupLemmas.{IsAnswered, h_of, rule, first}
+use Rattle.sc_law_groups.specs.whole.WholeDefinitions.{HasSeats}
 use Rattle.sc_law_groups.proofs.WholeProofs.WholePrefixes.{goes_on_from}
 
 -- ---- the group that clients ask first

@@ -5,9 +5,9 @@ use Rattle.std.proofs.lemmas.Bool.{cases_lt, lt-ltb, ltb-true}
 use Rattle.sc_base.specs.Definitions.{Among, Arc, IsArc, holds, offset}
 use Rattle.sc_node_table.specs.Values.{Base}
 use Rattle.sc_meaning.specs.declared.entries.Cut.{Cut}
-use Rattle.sc_meaning.specs.entries.Definitions.{Covers, first_cut}
-use Rattle.sc_meaning.specs.sound.Definitions.{AreNamedApart}
-use Rattle.sc_words.proofs.PaxosProofs.Lemmas.{Each-among}
+use Rattle.sc_meaning.specs.entries.EntryDefinitions.{Covers, first_cut}
+use Rattle.sc_meaning.specs.sound.SoundDefinitions.{AreNamedApart}
+use Rattle.sc_words.proofs.PaxosProofs.PaxosLemmas.{Each-among}
 
 -- ---- positions from a start on
 

@@ -3,20 +3,20 @@ use Rattle.std.proofs.Common.{ℕ, List, [], ◌∷◌, ◌++◌, map, inl, refl
 use Rattle.sc_base.specs.Definitions.{Each, next_name}
 use Rattle.sc_node_table.specs.Values.{Order, OrderLine, Mail, Row}
 use Rattle.sc_words.specs.declared.commands.orders.Order.TheVariants as An
-use Rattle.sc_node_table.specs.Definitions.{group_of_order, names_after_ticks, ordered_command, name_of}
-use Rattle.sc_words.proofs.PaxosProofs.Lemmas.{Each-among, Each-append, Each-from_All}
+use Rattle.sc_node_table.specs.NodeDefinitions.{group_of_order, names_after_ticks, ordered_command, name_of}
+use Rattle.sc_words.proofs.PaxosProofs.PaxosLemmas.{Each-among, Each-append, Each-from_All}
 use Rattle.sc_paxos_law.proofs.Lemmas.{Among-right}
-use Rattle.sc_meaning.specs.sound.Definitions.{Ahead, Lawful, line_of, schedule, system_of}
+use Rattle.sc_meaning.specs.sound.SoundDefinitions.{Ahead, Lawful, line_of, schedule, system_of}
 use Rattle.sc_scenario.specs.scenario.Definitions.{IsBounded, IsBoundedLine, IsBoundedOrder}
 use Rattle.sc_scenario.specs.declared.scenario.scenarios.Asks.{Asks}
 use Rattle.sc_scenario.specs.declared.scenario.scenarios.Scenario.{Scenario}
 use Rattle.sc_scenario.specs.declared.scenario.scenarios.SchedLine.{SchedLine}
 use Rattle.sc_scenario.specs.declared.scenario.scenarios.SchedLine.TheVariants as scheduled
-use Rattle.sc_law_entries.specs.ring.Definitions.{IsAllowed}
-use Rattle.sc_law_entries.specs.names.Definitions.{IsAtPosition, TakesOrder, TakenOrdersAreAllowed, TakesWish, TakenWishesAreAllowed, WishesAreAtPositions, owner_in}
-use Rattle.sc_law_groups.proofs.GroupProofs.Lemmas.{GivesAllowedOrder, OrdersOnly, told_induction}
-use Rattle.sc_law_entries.specs.logs.Definitions.{Rows}
-use Rattle.sc_law_groups.specs.whole.Definitions.{section_op, QueuedOrdersAreAllowed, WishedAreAllowed, OrdersAreAllowed}
+use Rattle.sc_law_entries.specs.ring.RingDefinitions.{IsAllowed}
+use Rattle.sc_law_entries.specs.names.NameDefinitions.{IsAtPosition, TakesOrder, TakenOrdersAreAllowed, TakesWish, TakenWishesAreAllowed, WishesAreAtPositions, owner_in}
+use Rattle.sc_law_groups.proofs.GroupProofs.GroupLemmas.{GivesAllowedOrder, OrdersOnly, told_induction}
+use Rattle.sc_law_entries.specs.logs.LogDefinitions.{Rows}
+use Rattle.sc_law_groups.specs.whole.WholeDefinitions.{section_op, QueuedOrdersAreAllowed, WishedAreAllowed, OrdersAreAllowed}
 
 -- ---- the schedule
 

@@ -5,11 +5,11 @@ use Rattle.std.proofs.lemmas.Bool.{ne_eqb, and_from}
 use Rattle.std.proofs.lemmas.List.Elements.{All-nil, All-cons}
 use Rattle.sc_node_table.specs.Values.{Base, Route, Seat}
 use Rattle.sc_actor.specs.Definitions.{are_apart}
-use Rattle.sc_node_table.specs.Definitions.{numbers_from}
+use Rattle.sc_node_table.specs.NodeDefinitions.{numbers_from}
 use Rattle.sc_scenario.specs.scenario.Definitions.{IsBounded, IsBoundedClient}
 use Rattle.sc_scenario.specs.declared.scenario.scenarios.Asks.{Asks}
 use Rattle.sc_scenario.specs.declared.scenario.scenarios.Scenario.{Scenario}
-use Rattle.sc_meaning.specs.sound.Definitions.{node_seat, client_seat, client_seats, route_of, births, most_actor, Player, as_nodes}
+use Rattle.sc_meaning.specs.sound.SoundDefinitions.{node_seat, client_seat, client_seats, route_of, births, most_actor, Player, as_nodes}
 
 -- the numbers rise, from above a number on
 abbrev Rises : ℕ → List (Seat Player) → Type 0

@@ -9,17 +9,17 @@ use Rattle.sc_words.specs.declared.commands.effects.Effect.TheVariants as Was
 use Rattle.sc_words.specs.declared.commands.votes.Outcome.TheVariants as Is
 use Rattle.sc_words.specs.declared.commands.votes.Past.TheVariants as Cast
 use Rattle.sc_words.specs.declared.commands.votes.Vote.TheVariants as Vows
-use Rattle.sc_words.specs.commands.Definitions.{decided_in, cast_in}
-use Rattle.sc_group_table.specs.machine.Definitions.{Group, applied, frozen_of, can_split, merged_link, right_link, begun_group, decided_group, aborted, is_coordinating, asks_watcher, watch_recorded, vote_of, watch_vote_of, past_of}
+use Rattle.sc_words.specs.commands.CommandDefinitions.{decided_in, cast_in}
+use Rattle.sc_group_table.specs.machine.MachineDefinitions.{Group, applied, frozen_of, can_split, merged_link, right_link, begun_group, decided_group, aborted, is_coordinating, asks_watcher, watch_recorded, vote_of, watch_vote_of, past_of}
 use Rattle.sc_node_table.specs.declared.Before.{Before}
-use Rattle.sc_node_table.specs.Definitions.{sent_all, offer_of, question, asked_first, both_link, split_watch, child_link, union_watch, reminders, voted_to, watched_to, asked_on, begun_asks, vote_sent, watch_sent, aborted_to, aborted_watcher, given_up_by, vote_answered, released_to, watch_answered_by, went_on}
-use Rattle.sc_law_entries.specs.ring.Definitions.{Sources, IsAllowed, IsShared, Groups, Facts, LockOk, Story, Stories, unsigned, watch_with}
-use Rattle.sc_law_entries.specs.logs.Definitions.{AllowsAsItStands, MakesAllowed, GroupAllows}
-use Rattle.sc_law_groups.proofs.GroupProofs.Lemmas.{IsSaid, AreSaid}
-use Rattle.sc_law_groups.specs.whole.Definitions.{IsHeard, MergesFit}
+use Rattle.sc_node_table.specs.NodeDefinitions.{sent_all, offer_of, question, asked_first, both_link, split_watch, child_link, union_watch, reminders, voted_to, watched_to, asked_on, begun_asks, vote_sent, watch_sent, aborted_to, aborted_watcher, given_up_by, vote_answered, released_to, watch_answered_by, went_on}
+use Rattle.sc_law_entries.specs.ring.RingDefinitions.{Sources, IsAllowed, IsShared, Groups, Facts, LockOk, Story, Stories, unsigned, watch_with}
+use Rattle.sc_law_entries.specs.logs.LogDefinitions.{AllowsAsItStands, MakesAllowed, GroupAllows}
+use Rattle.sc_law_groups.proofs.GroupProofs.GroupLemmas.{IsSaid, AreSaid}
+use Rattle.sc_law_groups.specs.whole.WholeDefinitions.{IsHeard, MergesFit}
 use Rattle.sc_law_groups.proofs.WholeProofs.Asking.{BeginsShared}
 use Rattle.sc_law_groups.proofs.WholeProofs.Coming.{IsDull, comes}
-use Rattle.sc_law_walks.proofs.Lemmas.{EndsIt, voting_group}
+use Rattle.sc_law_walks.proofs.WalkLemmas.{EndsIt, voting_group}
 
 -- ---- what a lock says beside what it makes allowed
 

@@ -3,17 +3,17 @@ use Rattle.std.proofs.Common.{◌≡◌, ◌-◌, ◌<◌, ◌≤◌, List, ◌�
 use Rattle.std.specs.List.{AllPairs}
 use Rattle.sc_base.specs.Definitions.{Among}
 use Rattle.sc_node_table.specs.Values.{Draw, Base}
-use Rattle.sc_node_table.specs.Definitions.{numbers_from, slots_ahead}
-use Rattle.sc_meaning.specs.sound.Definitions.{Ahead, node_seat, client_seats, route_of, AreNamedApart}
+use Rattle.sc_node_table.specs.NodeDefinitions.{numbers_from, slots_ahead}
+use Rattle.sc_meaning.specs.sound.SoundDefinitions.{Ahead, node_seat, client_seats, route_of, AreNamedApart}
 use Rattle.sc_scenario.specs.scenario.Definitions.{base_at, IsBounded, ValidScenariosAreBounded}
 use Rattle.sc_scenario.specs.declared.scenario.scenarios.Asks.{Asks}
 use Rattle.sc_scenario.specs.declared.scenario.scenarios.Scenario.{Scenario}
-use Rattle.sc_law_entries.specs.history.Definitions.{BeginBare}
-use Rattle.sc_law_entries.specs.ring.Definitions.{Sources, BeginInPlace}
-use Rattle.sc_law_groups.specs.whole.Definitions.{HasSeats, IsReady, section_op, ValidScenariosBeginWell}
+use Rattle.sc_law_entries.specs.history.HistoryDefinitions.{BeginBare}
+use Rattle.sc_law_entries.specs.ring.RingDefinitions.{Sources, BeginInPlace}
+use Rattle.sc_law_groups.specs.whole.WholeDefinitions.{HasSeats, IsReady, section_op, ValidScenariosBeginWell}
 use Rattle.sc_law_groups.proofs.WholeProofs.ClientSections.{asks_are}
 use Rattle.sc_law_groups.proofs.WholeProofs.Starts.{AreStarts, bases_from, first_and_others, starts_apart, starts_bare, starts_fresh, starts_in_place}
-use Rattle.sc_words.proofs.PaxosProofs.Lemmas.{one_of_name, Each-from_All}
+use Rattle.sc_words.proofs.PaxosProofs.PaxosLemmas.{one_of_name, Each-from_All}
 
 -- clients that rise are numbered each once
 numbered_once : (clients : List Asks) → AllPairs (λ (a b : Asks). a.client < b.client) clients

@@ -6,11 +6,11 @@ use Rattle.sc_base.specs.Definitions.{Among, Each, end_of, IsRoster}
 use Rattle.sc_node_table.specs.Values.{Draw, Base}
 use Rattle.sc_scenario.specs.scenario.Definitions.{group_at, name_at, place_right, place_left, way, arc_at, base_at, bases_up_to, bases_of}
 use Rattle.sc_scenario.specs.declared.scenario.drafts.GroupLine.{GroupLine}
-use Rattle.sc_meaning.specs.entries.Definitions.{Covers, first_cut}
-use Rattle.sc_law_entries.specs.history.Definitions.{BeginsBare, BeginBare}
-use Rattle.sc_law_entries.specs.ring.Definitions.{Sources, StandsBetween, BeginsInPlace, BeginInPlace}
-use Rattle.sc_meaning.specs.sound.Definitions.{AreNamedApart}
-use Rattle.sc_law_groups.specs.whole.Definitions.{IsFresh}
+use Rattle.sc_meaning.specs.entries.EntryDefinitions.{Covers, first_cut}
+use Rattle.sc_law_entries.specs.history.HistoryDefinitions.{BeginsBare, BeginBare}
+use Rattle.sc_law_entries.specs.ring.RingDefinitions.{Sources, StandsBetween, BeginsInPlace, BeginInPlace}
+use Rattle.sc_meaning.specs.sound.SoundDefinitions.{AreNamedApart}
+use Rattle.sc_law_groups.specs.whole.WholeDefinitions.{IsFresh}
 use Rattle.sc_law_groups.proofs.WholeProofs.Round.{IsSpan, GoRound, round_covers}
 
 -- lines of groups, in the order in which they begin

@@ -6,7 +6,7 @@ use Rattle.std.proofs.lemmas.List.Filters.{length-filter_both}
 use Rattle.std.proofs.lemmas.List.Kept.{AllPairs-from_increasing}
 use Rattle.sc_base.specs.Definitions.{IsRoster, is_member, united}
 use Rattle.sc_base.proofs.Lemmas.{Below, count_united, AllPairs-head, AllPairs-tail}
-use Rattle.sc_law_walks.proofs.Lemmas.{none_below as not_in}
+use Rattle.sc_law_walks.proofs.WalkLemmas.{none_below as not_in}
 
 -- each node stands once
 abbrev AreOnce : List ℕ → Type 0

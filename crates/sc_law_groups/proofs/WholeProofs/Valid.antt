@@ -1,10 +1,10 @@
 -- Lawful journals of valid scenarios are sound, and their entries are logs: they begin well, and what their orders queue is allowed.
 use Rattle.std.proofs.Common.{◌++◌, subst}
-use Rattle.sc_meaning.specs.sound.Definitions.{Lawful, route_of}
+use Rattle.sc_meaning.specs.sound.SoundDefinitions.{Lawful, route_of}
 use Rattle.sc_scenario.specs.scenario.Definitions.{ValidScenariosAreBounded}
-use Rattle.sc_law_entries.specs.names.Definitions.{OtherNamesAreFree, TakenOrdersAreAllowed, TakenWishesAreAllowed, WishesAreAtPositions, owner_in}
-use Rattle.sc_law_groups.specs.whole.Definitions.{section_op, ValidScenariosBeginWell, LawfulJournalsAreSound, LawfulJournalsDecideInTurn, ValidEntriesAreLogs, ValidJournalsAreSound}
-use Rattle.sc_law_entries.specs.logs.Definitions.{EntriesAreLogs}
+use Rattle.sc_law_entries.specs.names.NameDefinitions.{OtherNamesAreFree, TakenOrdersAreAllowed, TakenWishesAreAllowed, WishesAreAtPositions, owner_in}
+use Rattle.sc_law_groups.specs.whole.WholeDefinitions.{section_op, ValidScenariosBeginWell, LawfulJournalsAreSound, LawfulJournalsDecideInTurn, ValidEntriesAreLogs, ValidJournalsAreSound}
+use Rattle.sc_law_entries.specs.logs.LogDefinitions.{EntriesAreLogs}
 use Rattle.sc_law_groups.proofs.WholeProofs.Scheduled.{orders_allowed}
 
 pub valid_sound : ValidScenariosAreBounded → ValidScenariosBeginWell → TakenOrdersAreAllowed → TakenWishesAreAllowed → WishesAreAtPositions → OtherNamesAreFree → LawfulJournalsAreSound → ValidJournalsAreSound

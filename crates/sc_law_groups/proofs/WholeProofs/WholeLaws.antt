@@ -1,11 +1,11 @@
 -- Laws that follow from lemmas of this part of the crate and of those that it stands on.
 use Rattle.sc_law_groups.proofs.WholeProofs.LawfulSoundness.{lawful_journals_are_sound as lawful_journals_are_sound_by, lawful_journals_decide_in_turn}
-use Rattle.sc_law_entries.proofs.LogsProofs.Lemmas.{journals_in_turn_are_sound, entries_are_allowed_logs_logs}
-use Rattle.sc_law_groups.specs.whole.Definitions.{LawfulJournalsAreSound, ValidJournalsAreSound, ValidEntriesAreLogs}
+use Rattle.sc_law_entries.proofs.LogsProofs.LogLemmas.{journals_in_turn_are_sound, entries_are_allowed_logs_logs}
+use Rattle.sc_law_groups.specs.whole.WholeDefinitions.{LawfulJournalsAreSound, ValidJournalsAreSound, ValidEntriesAreLogs}
 use Rattle.sc_law_groups.proofs.WholeProofs.Valid.{valid_sound, valid_logs}
 use Rattle.sc_scenario.proofs.ScenarioProofs.Lemmas.{valid_scenarios_are_bounded}
 use Rattle.sc_law_groups.proofs.WholeProofs.StartLaws.{valid_scenarios_begin_well}
-use Rattle.sc_law_entries.proofs.NamesProofs.Lemmas.{orders_are_allowed_allowed, orders_are_allowed_wishes, orders_are_allowed_positions, names_have_one_owner_others}
+use Rattle.sc_law_entries.proofs.NamesProofs.NameLemmas.{orders_are_allowed_allowed, orders_are_allowed_wishes, orders_are_allowed_positions, names_have_one_owner_others}
 
 -- Each prefix of a lawful journal is sound, whatever its groups order.
 pub lawful_journals_are_sound : LawfulJournalsAreSound

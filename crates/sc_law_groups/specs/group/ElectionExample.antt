@@ -4,8 +4,8 @@ use Rattle.sc_node_table.specs.Values.{Command, Call, Base, OrderLine, Mail, Mai
 use Rattle.sc_scenario.specs.scenario.Definitions.{lone_name, lone_group}
 use Rattle.sc_scenario.specs.declared.scenario.scenarios.SchedLine.TheVariants as line
 use Rattle.sc_scenario.specs.declared.scenario.scenarios.Scenario.{Scenario}
-use Rattle.sc_paxos_law.specs.Definitions.{first, second}
-use Rattle.sc_meaning.specs.sound.Definitions.{put_it, mail, row}
+use Rattle.sc_paxos_law.specs.PaxosLawDefinitions.{first, second}
+use Rattle.sc_meaning.specs.sound.SoundDefinitions.{put_it, mail, row}
 
 -- one group of the nodes 1 to 3, which has the whole ring
 abbrev pub three_nodes : Base

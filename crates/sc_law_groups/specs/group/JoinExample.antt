@@ -3,12 +3,12 @@ use Rattle.std.specs.Prelude.{false, List, [], ◌∷◌}
 use Rattle.sc_node_table.specs.Values.{Ballot, Command, Join, OrderLine, Mail, Accept, Accepted, Install, Told as ToldMail, Row, Deliver}
 use Rattle.sc_words.specs.declared.commands.orders.Order.TheVariants as An
 use Rattle.sc_words.specs.declared.commands.orders.OrderResult.TheVariants as Results
-use Rattle.sc_group_table.specs.machine.Definitions.{Group, group_of, base_of, with_node}
+use Rattle.sc_group_table.specs.machine.MachineDefinitions.{Group, group_of, base_of, with_node}
 use Rattle.sc_actor.specs.declared.rows.Event.TheVariants.{Told}
 use Rattle.sc_scenario.specs.scenario.Definitions.{lone_name}
 use Rattle.sc_scenario.specs.declared.scenario.scenarios.SchedLine.TheVariants as line
 use Rattle.sc_scenario.specs.declared.scenario.scenarios.Scenario.{Scenario}
-use Rattle.sc_meaning.specs.sound.Definitions.{alone, mail, row}
+use Rattle.sc_meaning.specs.sound.SoundDefinitions.{alone, mail, row}
 
 -- the order that node 2 joins the group
 abbrev pub join_order : OrderLine

@@ -4,8 +4,8 @@ use Rattle.std.specs.List.{flat_map}
 use Rattle.sc_node_table.specs.Values.{Draw, Ballot, Command, OrderLine, Mail, MailBody, Prepare, Promise, Accept, Row, Event, Deliver}
 use Rattle.sc_base.specs.Definitions.{same_draw, same_ballot}
 use Rattle.sc_actor.specs.Definitions.{numbered}
-use Rattle.sc_paxos_law.specs.Definitions.{Step, Prepared, Promised, Offered}
-use Rattle.sc_meaning.specs.sound.Definitions.{accepts_at}
+use Rattle.sc_paxos_law.specs.PaxosLawDefinitions.{Step, Prepared, Promised, Offered}
+use Rattle.sc_meaning.specs.sound.SoundDefinitions.{accepts_at}
 
 -- the steps of a proposer by a mail that it sends: a Prepare of the group asks for promises (Paxos Made Simple, section 2.2, phase 1a), an Accept of the group offers its command (phase 2a)
 abbrev pub proposer_steps : Draw → MailBody → List (Step Command)

@@ -2,12 +2,12 @@
 use Rattle.std.specs.Prelude.{◌≡◌, ◌==◌, ℕ, ◌-◌, ◌≤◌, List, [], ◌∷◌, ◌++◌, map, find, Option, None, Some, slice_get, option_and_then}
 use Rattle.sc_base.specs.Definitions.{Among, Each, most_nodes, IsRoster}
 use Rattle.sc_node_table.specs.Values.{Op, Get, Base, Free, Route}
-use Rattle.sc_node_table.specs.Definitions.{numbers_from, slots_ahead}
-use Rattle.sc_meaning.specs.sound.Definitions.{Ahead, node_seat, client_seat, births, route_of, AreNamedApart}
+use Rattle.sc_node_table.specs.NodeDefinitions.{numbers_from, slots_ahead}
+use Rattle.sc_meaning.specs.sound.SoundDefinitions.{Ahead, node_seat, client_seat, births, route_of, AreNamedApart}
 use Rattle.sc_scenario.specs.declared.scenario.scenarios.Asks.{Asks}
 use Rattle.sc_scenario.specs.declared.scenario.scenarios.Scenario.{Scenario}
-use Rattle.sc_law_entries.specs.history.Definitions.{BeginBare}
-use Rattle.sc_law_entries.specs.ring.Definitions.{Sources, BeginInPlace}
+use Rattle.sc_law_entries.specs.history.HistoryDefinitions.{BeginBare}
+use Rattle.sc_law_entries.specs.ring.RingDefinitions.{Sources, BeginInPlace}
 
 -- a group begins with no lock, vote or decision, and with a roster of members
 pub record IsFresh (base : Base) : Type 0 where

@@ -4,12 +4,12 @@ use Rattle.sc_base.specs.Definitions.{next_name}
 use Rattle.sc_node_table.specs.Values.{OrderLine, Mail, Tick, Row, Node}
 use Rattle.sc_actor.specs.declared.rows.Event.TheVariants.{Told}
 use Rattle.sc_actor.specs.Definitions.{value}
-use Rattle.sc_node_table.specs.Definitions.{NodeState, group_of_order, names_after_ticks, replica_of, ordered_command, untaken, ReplicaState, name_of}
-use Rattle.sc_meaning.specs.sound.Definitions.{Ahead, node_seat, player_table}
+use Rattle.sc_node_table.specs.NodeDefinitions.{NodeState, group_of_order, names_after_ticks, replica_of, ordered_command, untaken, ReplicaState, name_of}
+use Rattle.sc_meaning.specs.sound.SoundDefinitions.{Ahead, node_seat, player_table}
 use Rattle.sc_scenario.specs.declared.scenario.scenarios.Scenario.{Scenario}
-use Rattle.sc_law_entries.specs.ring.Definitions.{Sources, IsAllowed, Stories}
-use Rattle.sc_law_entries.specs.names.Definitions.{waited, wished_at}
-use Rattle.sc_law_entries.specs.logs.Definitions.{Rows}
+use Rattle.sc_law_entries.specs.ring.RingDefinitions.{Sources, IsAllowed, Stories}
+use Rattle.sc_law_entries.specs.names.NameDefinitions.{waited, wished_at}
+use Rattle.sc_law_entries.specs.logs.LogDefinitions.{Rows}
 
 -- what a node of the scenario queues for an order that it takes, in a row of the journal, is allowed at the order's group, whatever the stories are
 abbrev pub QueuedOrdersAreAllowed : Sources → Ahead → Scenario → Rows → Type 0

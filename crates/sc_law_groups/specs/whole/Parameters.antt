@@ -1,10 +1,10 @@
 -- What the replicas of a group may queue after some rows of a journal, and which mails of transactions are true, by the stories of all logs.
 use Rattle.std.specs.Prelude.{List}
 use Rattle.sc_node_table.specs.Values.{Command, Noop, Call, Join, Leave, Split, Begin, Prepared, RecordVote, GiveUp, Finish, Watched, RecordWatch, Base, MailBody, Request, Answer, Prepare, Promise, Accept, Accepted, Nack, Learn, Ask, Install, TxPrepare, TxVote, TxOutcome, TxElsewhere, TxWatch, TxWatched, Told}
-use Rattle.sc_meaning.specs.sound.Definitions.{Ahead, entries_at}
+use Rattle.sc_meaning.specs.sound.SoundDefinitions.{Ahead, entries_at}
 use Rattle.sc_scenario.specs.declared.scenario.scenarios.Scenario.{Scenario}
-use Rattle.sc_law_entries.specs.ring.Definitions.{Sources, IsVoteCast, IsWatchVoteCast, IsAllowed, Stories, stories_of}
-use Rattle.sc_law_entries.specs.logs.Definitions.{IsIssuedIn, Rows}
+use Rattle.sc_law_entries.specs.ring.RingDefinitions.{Sources, IsVoteCast, IsWatchVoteCast, IsAllowed, Stories, stories_of}
+use Rattle.sc_law_entries.specs.logs.LogDefinitions.{IsIssuedIn, Rows}
 
 -- the stories after the entries of all logs of a journal
 abbrev pub stories_at : Ahead → List Base → Rows → Stories

@@ -3,7 +3,7 @@ use Rattle.std.specs.Prelude.{◌≡◌, ◌≤◌, length, Some}
 use Rattle.sc_node_table.specs.Values.{Draw, Offer, Watch, Frozen, Yes}
 use Rattle.sc_words.specs.declared.commands.bodies.Body.TheVariants.{Merge}
 use Rattle.sc_base.specs.Definitions.{united}
-use Rattle.sc_law_entries.specs.ring.Definitions.{Story, Stories}
+use Rattle.sc_law_entries.specs.ring.RingDefinitions.{Story, Stories}
 
 -- the participant of a transaction is not its watcher
 abbrev pub PartiesAreApart : Stories → Type 0

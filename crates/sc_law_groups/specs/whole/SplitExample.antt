@@ -4,13 +4,13 @@ use Rattle.sc_node_table.specs.Values.{Ballot, Draw, Op, Put, Command, Call, Spl
 use Rattle.sc_words.specs.declared.commands.orders.Order.TheVariants as An
 use Rattle.sc_words.specs.declared.commands.orders.OrderResult.TheVariants as Results
 use Rattle.sc_mail.specs.declared.bodies.AnswerBody.TheVariants as Says
-use Rattle.sc_group_table.specs.machine.Definitions.{group_of, child_of}
+use Rattle.sc_group_table.specs.machine.MachineDefinitions.{group_of, child_of}
 use Rattle.sc_actor.specs.declared.rows.Event.TheVariants.{Told}
 use Rattle.sc_meaning.specs.declared.entries.Cut.{Cut}
 use Rattle.sc_scenario.specs.scenario.Definitions.{lone_group, lone_name}
 use Rattle.sc_scenario.specs.declared.scenario.scenarios.SchedLine.TheVariants as line
 use Rattle.sc_scenario.specs.declared.scenario.scenarios.Scenario.{Scenario}
-use Rattle.sc_meaning.specs.sound.Definitions.{mail, row}
+use Rattle.sc_meaning.specs.sound.SoundDefinitions.{mail, row}
 
 -- the group: both nodes, with the whole ring
 abbrev pub pair : Base

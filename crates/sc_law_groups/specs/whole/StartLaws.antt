@@ -1,8 +1,8 @@
 -- How every valid scenario begins.
 use Rattle.std.specs.Prelude.{◌≡◌, Option, None}
 use Rattle.sc_node_table.specs.Values.{Draw}
-use Rattle.sc_node_table.specs.Definitions.{slots_ahead}
-use Rattle.sc_meaning.specs.sound.Definitions.{Ahead}
+use Rattle.sc_node_table.specs.NodeDefinitions.{slots_ahead}
+use Rattle.sc_meaning.specs.sound.SoundDefinitions.{Ahead}
 use Rattle.sc_scenario.specs.scenario.Definitions.{IsValid}
 use Rattle.sc_scenario.specs.declared.scenario.scenarios.Scenario.{Scenario}
 use Rattle.sc_law_groups.specs.whole.Begins.{IsReady, section_op}

@@ -3,7 +3,7 @@ use Rattle.std.specs.Prelude.{ℕ, false, List, [], ◌∷◌, None}
 use Rattle.sc_node_table.specs.Values.{Draw, Command, Call, Base, Free, Link, OrderLine, NotMine, Mail, Request, Answer, Accept, Accepted, Row, Deliver, Tick, Go}
 use Rattle.sc_scenario.specs.declared.scenario.scenarios.SchedLine.TheVariants as line
 use Rattle.sc_scenario.specs.declared.scenario.scenarios.Scenario.{Scenario}
-use Rattle.sc_meaning.specs.sound.Definitions.{ballot, put_it, mail, row}
+use Rattle.sc_meaning.specs.sound.SoundDefinitions.{ballot, put_it, mail, row}
 
 -- the name of the first group
 abbrev pub one : Draw

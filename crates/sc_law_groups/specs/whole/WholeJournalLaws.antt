@@ -1,13 +1,13 @@
 -- What every lawful journal of a scenario that begins well says of all its groups, where what its orders queue is allowed.
 use Rattle.std.specs.Prelude.{ℕ, List, [], ◌++◌}
 use Rattle.sc_node_table.specs.Values.{Command, Route}
-use Rattle.sc_group_table.specs.machine.Definitions.{Group, state_after}
+use Rattle.sc_group_table.specs.machine.MachineDefinitions.{Group, state_after}
 use Rattle.sc_base.specs.Definitions.{IsRoster}
-use Rattle.sc_meaning.specs.sound.Definitions.{Ahead, Lawful, IsSound}
+use Rattle.sc_meaning.specs.sound.SoundDefinitions.{Ahead, Lawful, IsSound}
 use Rattle.sc_scenario.specs.declared.scenario.scenarios.Scenario.{Scenario}
-use Rattle.sc_law_entries.specs.history.Definitions.{BeginBare}
-use Rattle.sc_law_entries.specs.ring.Definitions.{Sources}
-use Rattle.sc_law_entries.specs.logs.Definitions.{HoldsBeside, Rows, DecideInTurn}
+use Rattle.sc_law_entries.specs.history.HistoryDefinitions.{BeginBare}
+use Rattle.sc_law_entries.specs.ring.RingDefinitions.{Sources}
+use Rattle.sc_law_entries.specs.logs.LogDefinitions.{HoldsBeside, Rows, DecideInTurn}
 use Rattle.sc_law_groups.specs.whole.Orders.{OrdersAreAllowed}
 use Rattle.sc_law_groups.specs.whole.Begins.{BeginsWell}
 

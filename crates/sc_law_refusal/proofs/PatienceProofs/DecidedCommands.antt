@@ -6,10 +6,10 @@ use Rattle.sc_base.specs.Definitions.{Each, same_draw}
 use Rattle.sc_base.proofs.Lemmas.{draw_is}
 use Rattle.sc_node_table.specs.Values.{Draw, Row, Base, Command, OrderLine, Mail, MailBody, Accept}
 use Rattle.sc_actor.specs.Definitions.{mails}
-use Rattle.sc_paxos_law.specs.Definitions.{Step, Accepted}
-use Rattle.sc_meaning.specs.sound.Definitions.{Ahead, is_accepted, accepts_of, decided_log}
+use Rattle.sc_paxos_law.specs.PaxosLawDefinitions.{Step, Accepted}
+use Rattle.sc_meaning.specs.sound.SoundDefinitions.{Ahead, is_accepted, accepts_of, decided_log}
 use Rattle.sc_law_entries.proofs.NamesProofs.AcceptedLogs.{IsAcceptedAs, decided_hold}
-use Rattle.sc_law_refusal.specs.refusal.Definitions.{Rows}
+use Rattle.sc_law_refusal.specs.refusal.RefusalDefinitions.{Rows}
 use Rattle.sc_law_refusal.proofs.PatienceProofs.GivenUpCommands.{Gives, MailGives}
 
 -- what a mail makes accepted in the group

@@ -2,13 +2,13 @@
 use Rattle.std.proofs.Common.{ℕ, ◌-◌, nat_lt, List, Option}
 use Rattle.sc_base.specs.Definitions.{Each}
 use Rattle.sc_node_table.specs.Values.{Ballot, Draw, Command, Noop, Call, Join, Leave, Split, Begin, Prepared, RecordVote, GiveUp, Finish, Watched, RecordWatch, Flight, Report, MailBody, Request, Answer, Prepare, Promise, Accept, Accepted, Nack, Learn, Ask, Install, TxPrepare, TxVote, TxOutcome, TxElsewhere, TxWatch, TxWatched, Told}
-use Rattle.sc_words.proofs.PaxosProofs.Lemmas.{Each-filter}
-use Rattle.sc_words.specs.paxos.Definitions.{AcceptorState, LeaderState, promise_counted, entry_at, counted, without_flight_at}
-use Rattle.sc_node_table.specs.Definitions.{ReplicaState, floor_of, forgotten, with_slot, without_slot, put_back}
-use Rattle.sc_law_entries.specs.names.Definitions.{Opt}
+use Rattle.sc_words.proofs.PaxosProofs.PaxosLemmas.{Each-filter}
+use Rattle.sc_words.specs.paxos.PaxosDefinitions.{AcceptorState, LeaderState, promise_counted, entry_at, counted, without_flight_at}
+use Rattle.sc_node_table.specs.NodeDefinitions.{ReplicaState, floor_of, forgotten, with_slot, without_slot, put_back}
+use Rattle.sc_law_entries.specs.names.NameDefinitions.{Opt}
 use Rattle.sc_law_entries.proofs.NamesProofs.EachFound.{opt_get, Each-drop, slot_with, slot_without, flight_without}
-use Rattle.sc_law_walks.proofs.Lemmas.{either_way, back_any}
-use Rattle.sc_law_walks.specs.Definitions.{IsFiledOnMail, IsOrder}
+use Rattle.sc_law_walks.proofs.WalkLemmas.{either_way, back_any}
+use Rattle.sc_law_walks.specs.WalkDefinitions.{IsFiledOnMail, IsOrder}
 use Rattle.sc_law_refusal.proofs.HeldCommands as held
 
 -- a command, where it is a GiveUp, is of a transaction as W says

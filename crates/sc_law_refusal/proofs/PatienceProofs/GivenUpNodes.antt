@@ -6,16 +6,16 @@ use Rattle.sc_base.specs.Definitions.{Drawer, Each, same_draw}
 use Rattle.sc_base.proofs.Lemmas.{draw_is}
 use Rattle.sc_node_table.specs.Values.{Draw, Input, Got, Base, Body, Lock, Free, Coordinating, Promised, Watching, GiveUp, Heard, OrderLine, Mail, MailBody, Request, Prepare, Promise, Accept, Accepted, Nack, Learn, Install, TxPrepare, TxWatch}
 use Rattle.sc_actor.specs.declared.rows.Input.TheVariants.{Tick, Go, Told}
-use Rattle.sc_words.proofs.PaxosProofs.Lemmas.{Each-append, Each-among, Each-weaker, find_found}
-use Rattle.sc_node_table.specs.Definitions.{NodeState, ReplicaState, Place, name_of, slots_ahead, last_slot, born_replica, installed_replica, forgotten, made_by, named, replica_of, with_replica, with_new, with_born, with_children, with_made, unknown, may_come, taken_by, routed, group_of_mail, group_of_order, ordered_of, ordered_row, mailed, ticked, tick_row, names_after_tick, node_table, settled, waited_in, with_act, has_act, one_tick_more, patience}
+use Rattle.sc_words.proofs.PaxosProofs.PaxosLemmas.{Each-append, Each-among, Each-weaker, find_found}
+use Rattle.sc_node_table.specs.NodeDefinitions.{NodeState, ReplicaState, Place, name_of, slots_ahead, last_slot, born_replica, installed_replica, forgotten, made_by, named, replica_of, with_replica, with_new, with_born, with_children, with_made, unknown, may_come, taken_by, routed, group_of_mail, group_of_order, ordered_of, ordered_row, mailed, ticked, tick_row, names_after_tick, node_table, settled, waited_in, with_act, has_act, one_tick_more, patience}
 use Rattle.sc_law_walks.proofs.Ways.{either_way, unless_so}
 use Rattle.sc_law_walks.proofs.PlaceWalks.{Before, After, Hears}
 use Rattle.sc_law_walks.proofs.PlaceRows.{takes_mail, orders, looks_up}
 use Rattle.sc_law_walks.proofs.PlaceTicks.{ticks_where}
-use Rattle.sc_law_walks.specs.Definitions.{IsKept}
+use Rattle.sc_law_walks.specs.WalkDefinitions.{IsKept}
 use Rattle.sc_law_refusal.proofs.PatienceProofs.GivenUpCommands.{Gives, MailGives, Holds, with_acts, with_waits, forgotten_gives}
 use Rattle.sc_law_refusal.proofs.PatienceProofs.GivenUpRows.{Stands, given_facts, given_walk, given_agains}
-use Rattle.sc_law_walks.proofs.Lemmas.{replaced_each, added_each}
+use Rattle.sc_law_walks.proofs.WalkLemmas.{replaced_each, added_each}
 
 -- a replica with the name of a group
 by_name : (F : Draw → Draw → Type 0) (group : Draw) (r : ReplicaState) → name_of r ≡ group → Holds (F (name_of r)) r → Holds (F group) r

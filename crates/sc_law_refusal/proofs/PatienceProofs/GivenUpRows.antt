@@ -3,16 +3,16 @@ use Rattle.std.proofs.Common.{◌≡◌, ℕ, ◌-◌, ◌+◌, nat_le, nat_lt, 
 use Rattle.sc_base.specs.Definitions.{Each}
 use Rattle.sc_node_table.specs.Values.{Ballot, Draw, Command, Noop, Call, Base, AnswerBody, NotLeader, Mail, MailBody, Prepare, Promise, Accept, Accepted, Learn, Chosen, Flight, Report}
 use Rattle.sc_words.specs.declared.paxos.answers.Learnt.{Learnt}
-use Rattle.sc_words.proofs.PaxosProofs.Lemmas.{Each-append, Each-filter, Each-weaker}
-use Rattle.sc_words.specs.paxos.Definitions.{below, counted, entry_at, LogState, learnt, next_of, reports_from, with_flight_at, after_accept, after_promise}
-use Rattle.sc_node_table.specs.Definitions.{ReplicaState, Place, name_of, next, entered, forgotten, jumped, put_back, sent, under_way, answered_all, ended, offered, open_nodes, without_request}
-use Rattle.sc_law_entries.specs.names.Definitions.{Opt}
+use Rattle.sc_words.proofs.PaxosProofs.PaxosLemmas.{Each-append, Each-filter, Each-weaker}
+use Rattle.sc_words.specs.paxos.PaxosDefinitions.{below, counted, entry_at, LogState, learnt, next_of, reports_from, with_flight_at, after_accept, after_promise}
+use Rattle.sc_node_table.specs.NodeDefinitions.{ReplicaState, Place, name_of, next, entered, forgotten, jumped, put_back, sent, under_way, answered_all, ended, offered, open_nodes, without_request}
+use Rattle.sc_law_entries.specs.names.NameDefinitions.{Opt}
 use Rattle.sc_law_entries.proofs.NamesProofs.EachFound.{opt_slot, report_with}
 use Rattle.sc_law_walks.proofs.Ways.{either_way}
 use Rattle.sc_law_walks.proofs.PlaceWalks.{PlaceFacts, PlaceStates, PlaceSays, PlaceAgains, PlaceWalk, Talk, IsReported, elected_place, entered_place, ended_replica}
 use Rattle.sc_law_walks.proofs.PlaceEntries.{EntryParts, entry_kept}
 use Rattle.sc_law_walks.proofs.Talks.{all_sent, one_answered, all_answered, all_dismissed}
-use Rattle.sc_law_walks.specs.Definitions.{IsKept}
+use Rattle.sc_law_walks.specs.WalkDefinitions.{IsKept}
 use Rattle.sc_law_refusal.proofs.RefusalProofs.Executing.{entered_name}
 use Rattle.sc_law_refusal.proofs.PatienceProofs.GivenUpCommands.{Gives, MailGives, Holds, Commands, Reports, filed_gives, order_gives, with_top, with_hint, with_calls, with_acts, back_gives, with_leader, with_ready, landed_gives, polled_gives, entry_gives, forgotten_gives, with_acceptor, counted_gives, held_gives}
 use Rattle.sc_law_refusal.proofs.HeldCommands.{without_held, flying_held, chosen_held, must_held}

@@ -2,8 +2,8 @@
 use Rattle.std.proofs.Common.{◌≡◌, ℕ, ◌+◌, ◌≤◌, ◌++◌, refl, sym, ap, arith, eqb, Bool, true, false, cond, List, [], ◌∷◌, length, filter, Option, Some, None}
 use Rattle.std.proofs.lemmas.Bool.{cond_both, eqb-true}
 use Rattle.sc_node_table.specs.Values.{Op, Command, Call}
-use Rattle.sc_node_table.specs.Definitions.{queued_number, is_request_of, without_request}
-use Rattle.sc_law_walks.proofs.Lemmas.{either_way}
+use Rattle.sc_node_table.specs.NodeDefinitions.{queued_number, is_request_of, without_request}
+use Rattle.sc_law_walks.proofs.WalkLemmas.{either_way}
 use Rattle.sc_law_refusal.specs.queue.OneCall.{calls_of}
 
 -- at most one call of each client

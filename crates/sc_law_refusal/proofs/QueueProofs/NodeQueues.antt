@@ -2,11 +2,11 @@
 use Rattle.std.proofs.Common.{ℕ, subst, List, [], ◌∷◌, map, refl}
 use Rattle.sc_base.specs.Definitions.{Each, is_member}
 use Rattle.sc_node_table.specs.Values.{Base, Node, Client}
-use Rattle.sc_node_table.specs.Definitions.{born_replicas, born_node, ReplicaState, born_replica}
-use Rattle.sc_meaning.specs.sound.Definitions.{Player, player_table}
+use Rattle.sc_node_table.specs.NodeDefinitions.{born_replicas, born_node, ReplicaState, born_replica}
+use Rattle.sc_meaning.specs.sound.SoundDefinitions.{Player, player_table}
 use Rattle.sc_law_refusal.specs.queue.OneCall.{KeepsOneCall, EachKeepsOneCall, StepsKeepOneCall, QueuesKeepOneCall}
 use Rattle.sc_law_refusal.proofs.QueueProofs.ClientCalls.{one_none}
-use Rattle.sc_law_walks.proofs.Lemmas.{ReplicaRows, node_step, either_way, StepsHold, replay_keeps}
+use Rattle.sc_law_walks.proofs.WalkLemmas.{ReplicaRows, node_step, either_way, StepsHold, replay_keeps}
 use Rattle.sc_law_refusal.proofs.QueueProofs.QueuedCalls.{ordered_keeps, tick_keeps, mailed_keeps, made_keeps}
 
 abbrev All : List ReplicaState → Type 0

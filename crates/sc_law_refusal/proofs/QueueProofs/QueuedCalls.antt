@@ -2,9 +2,9 @@
 use Rattle.std.proofs.Common.{◌≡◌, ℕ, nat_lt, Bool, true, false, List, ◌∷◌, Option, Some, None, refl, subst}
 use Rattle.sc_base.specs.Definitions.{Drawer}
 use Rattle.sc_node_table.specs.Values.{Draw, Op, Command, Call, Base, OrderLine, AnswerBody, Mail, MailBody}
-use Rattle.sc_node_table.specs.Definitions.{queued_number, without_request, request_before, put_back, entered, ended, jumped, forgotten, offered, ordered_row, tick_row, made_by, mailed, ReplicaState, Place}
-use Rattle.sc_law_walks.specs.Definitions.{IsOrder}
-use Rattle.sc_law_walks.proofs.Lemmas.{either_way, grows, TableFacts, TableStates, TableWalk, TableTicks, all_heard, talk_said, TableEntry, entry_holds}
+use Rattle.sc_node_table.specs.NodeDefinitions.{queued_number, without_request, request_before, put_back, entered, ended, jumped, forgotten, offered, ordered_row, tick_row, made_by, mailed, ReplicaState, Place}
+use Rattle.sc_law_walks.specs.WalkDefinitions.{IsOrder}
+use Rattle.sc_law_walks.proofs.WalkLemmas.{either_way, grows, TableFacts, TableStates, TableWalk, TableTicks, all_heard, talk_said, TableEntry, entry_holds}
 use Rattle.sc_law_walks.proofs.TableRows as rows
 use Rattle.sc_law_walks.proofs.TableTicks as tick
 use Rattle.sc_law_refusal.specs.queue.OneCall.{KeepsOneCall}

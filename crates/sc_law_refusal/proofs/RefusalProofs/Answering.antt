@@ -4,14 +4,14 @@ use Rattle.std.specs.FinMap.{get}
 use Rattle.std.proofs.lemmas.Bool.{cond_both, ltb-false, eqb-false}
 use Rattle.sc_base.specs.Definitions.{Each, client_actor}
 use Rattle.sc_node_table.specs.Values.{Draw, Noted, Op, Command, Call, Lock, Free, Coordinating, Promised, Watching, Effect, Route, AnswerBody, Mail, Answer}
-use Rattle.sc_words.specs.ideal.Definitions.{key_of, reply_of, holds_key}
+use Rattle.sc_words.specs.ideal.IdealDefinitions.{key_of, reply_of, holds_key}
 use Rattle.sc_words.specs.declared.commands.effects.Effect.TheVariants as Was
 use Rattle.sc_mail.specs.declared.bodies.AnswerBody.TheVariants as Says
-use Rattle.sc_group_table.specs.machine.Definitions.{Group, state_after, applied, called, served, served_by_note}
+use Rattle.sc_group_table.specs.machine.MachineDefinitions.{Group, state_after, applied, called, served, served_by_note}
 use Rattle.sc_group_table.proofs.MachineProofs.Lemmas.{state_push}
-use Rattle.sc_words.proofs.PaxosProofs.Lemmas.{Each-append}
-use Rattle.sc_node_table.specs.Definitions.{answer_of, answered_or_put_back, answered, admits_requests, put_back, Place, name_of}
-use Rattle.sc_law_refusal.specs.refusal.Definitions.{HasCauseAtEntry, RefusesCall, answers_in, effect_answers, entry_answers}
+use Rattle.sc_words.proofs.PaxosProofs.PaxosLemmas.{Each-append}
+use Rattle.sc_node_table.specs.NodeDefinitions.{answer_of, answered_or_put_back, answered, admits_requests, put_back, Place, name_of}
+use Rattle.sc_law_refusal.specs.refusal.RefusalDefinitions.{HasCauseAtEntry, RefusesCall, answers_in, effect_answers, entry_answers}
 use Rattle.sc_law_refusal.proofs.RefusalProofs.Plain.{answer_adds}
 
 -- ---- the effect of a call

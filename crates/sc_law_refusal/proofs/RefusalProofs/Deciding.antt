@@ -1,10 +1,10 @@
 -- Until a slot is decided its leader is as it was, and so are the acts that wait.
 use Rattle.std.proofs.Common.{◌≡◌, ℕ, Bool, cond, List, [], ◌∷◌, Option, Some, None, refl}
-use Rattle.sc_words.specs.paxos.Definitions.{LeaderState}
-use Rattle.sc_node_table.specs.Definitions.{install_to, asked_to_promise, welcomed_all, entered, answer_of, answered_or_put_back, order_result, effect_reported, announced, learnt_to, welcomed, sent, sent_others, put_back, ReplicaState, Place, name_of, next, members, forgotten, before_of, spoken}
+use Rattle.sc_words.specs.paxos.PaxosDefinitions.{LeaderState}
+use Rattle.sc_node_table.specs.NodeDefinitions.{install_to, asked_to_promise, welcomed_all, entered, answer_of, answered_or_put_back, order_result, effect_reported, announced, learnt_to, welcomed, sent, sent_others, put_back, ReplicaState, Place, name_of, next, members, forgotten, before_of, spoken}
 use Rattle.sc_node_table.specs.Values.{Command, Call, Effect, OrderResult, AnswerBody, Mail, Learn, Prepare}
 use Rattle.sc_node_table.specs.declared.Before.{Before}
-use Rattle.sc_law_walks.proofs.Lemmas.{welcomed_place, either_way}
+use Rattle.sc_law_walks.proofs.WalkLemmas.{welcomed_place, either_way}
 
 module _ (leader : LeaderState Command) (acts : List Command) where
   abbrev pub Stays : Place → Type 0

@@ -2,17 +2,17 @@
 use Rattle.std.proofs.Common.{◌≡◌, ◌≤◌, ℕ, ◌&&◌, ◌||◌, eqb, Bool, true, false, cond, List, [], ◌∷◌, ◌++◌, Option, Some, None, refl, sym, ap, subst, ◌∙◌, arith}
 use Rattle.std.specs.List.{list_any}
 use Rattle.std.specs.Option.{option_map}
-use Rattle.sc_words.specs.paxos.Definitions.{LeaderState, flight_at, LogState}
+use Rattle.sc_words.specs.paxos.PaxosDefinitions.{LeaderState, flight_at, LogState}
 use Rattle.sc_node_table.specs.Values.{Flight, Ballot, Draw, Command, Noop, Call, Join, Leave, Split, Begin, Prepared, RecordVote, GiveUp, Finish, Watched, RecordWatch, Effect, Route, AnswerBody, Mail, Learn}
-use Rattle.sc_node_table.specs.Definitions.{same_command, elected, ended, stopped, entered, answer_of, answered_or_put_back, order_result, effect_reported, announced, learnt_to, welcomed, slot_lost, landed, left_gone, left, is_among, looked_for, looked, executed_one, next_child, has_room, next_ready, ending, executed_ready, all_ready, executed, sent_others, answer_to, put_back, ReplicaState, Place, Executed, childless, name_of, next, members, flying, forgotten, at_slot, before_of, spoken}
+use Rattle.sc_node_table.specs.NodeDefinitions.{same_command, elected, ended, stopped, entered, answer_of, answered_or_put_back, order_result, effect_reported, announced, learnt_to, welcomed, slot_lost, landed, left_gone, left, is_among, looked_for, looked, executed_one, next_child, has_room, next_ready, ending, executed_ready, all_ready, executed, sent_others, answer_to, put_back, ReplicaState, Place, Executed, childless, name_of, next, members, flying, forgotten, at_slot, before_of, spoken}
 use Rattle.std.proofs.lemmas.Bool.{cond_both, eqb-true, eq-eqb, or_parts, or_left, and_parts, true≢false}
 use Rattle.sc_mail.specs.declared.bodies.AnswerBody.TheVariants as Says
 use Rattle.sc_base.specs.Definitions.{is_member, least_of}
-use Rattle.sc_group_table.specs.machine.Definitions.{Group, state_after, applied}
+use Rattle.sc_group_table.specs.machine.MachineDefinitions.{Group, state_after, applied}
 use Rattle.sc_group_table.proofs.MachineProofs.Lemmas.{state_push}
-use Rattle.sc_law_entries.proofs.NamesProofs.Lemmas.{opt_slot, slot_without, flight_without}
-use Rattle.sc_law_walks.proofs.Lemmas.{reported_place, learnt_place, welcomed_place, cleared, either_way}
-use Rattle.sc_law_refusal.specs.refusal.Definitions.{answers_in, effect_answers, log_with, log_after}
+use Rattle.sc_law_entries.proofs.NamesProofs.NameLemmas.{opt_slot, slot_without, flight_without}
+use Rattle.sc_law_walks.proofs.WalkLemmas.{reported_place, learnt_place, welcomed_place, cleared, either_way}
+use Rattle.sc_law_refusal.specs.refusal.RefusalDefinitions.{answers_in, effect_answers, log_with, log_after}
 use Rattle.sc_law_refusal.proofs.RefusalProofs.Keeping.{Kept, KeptOne, Due, Holds, back_kept, flying_kept}
 use Rattle.sc_law_refusal.proofs.RefusalProofs.Plain.{others_plain, reported_plain, spoken_plain}
 use Rattle.sc_law_refusal.proofs.RefusalProofs.Answering.{reported_answers}
@@ -21,7 +21,7 @@ use Rattle.sc_law_refusal.proofs.RefusalProofs.Locking.{entry_turns, still_allow
 use Rattle.sc_law_refusal.proofs.RefusalProofs.Stopping.{ended_fine, stopped_fine, elected_fine, welcomed_fine}
 use Rattle.sc_law_refusal.proofs.RefusalProofs.Deciding.{same_leader}
 use Rattle.sc_law_refusal.proofs.RefusalProofs.Pumping.{lacking, pumped_still}
-pub use Rattle.sc_law_walks.proofs.Lemmas.{entered_me, entered_name}
+pub use Rattle.sc_law_walks.proofs.WalkLemmas.{entered_me, entered_name}
 
 -- the log after one entry more
 log_push : (log : LogState Command) (entries : List Command) (command : Command) → log_after log (entries ++ command ∷ []) ≡ log_with (log_after log entries) command

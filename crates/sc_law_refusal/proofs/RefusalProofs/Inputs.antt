@@ -5,13 +5,13 @@ use Rattle.sc_base.specs.Definitions.{Each, Drawer, client_actor}
 use Rattle.sc_node_table.specs.Values.{Ballot, Draw, Input, Got, Op, Command, Call, GiveUp, OrderLine, AnswerBody, Mail, MailBody, Request, Answer, Prepare, Promise, Accept, Accepted, Nack, Learn, Ask, Install, TxPrepare, TxVote, TxOutcome, TxElsewhere, TxWatch, TxWatched, Told}
 use Rattle.sc_actor.specs.declared.rows.Input.TheVariants.{Tick, Told as OrderInput}
 use Rattle.sc_mail.specs.declared.bodies.AnswerBody.TheVariants as Says
-use Rattle.sc_words.proofs.PaxosProofs.Lemmas.{Each-append, Each-from, Each-weaker}
-use Rattle.sc_group_table.specs.machine.Definitions.{applied}
-use Rattle.sc_node_table.specs.Definitions.{same_command, queued_number, ReplicaState, Place, Executed, childless, name_of, next, flying, last_slot, listed, settled, refused_at, queued, requested, request_row, learn_row, mailed, stepped, entered, announced, executed, sent}
+use Rattle.sc_words.proofs.PaxosProofs.PaxosLemmas.{Each-append, Each-from, Each-weaker}
+use Rattle.sc_group_table.specs.machine.MachineDefinitions.{applied}
+use Rattle.sc_node_table.specs.NodeDefinitions.{same_command, queued_number, ReplicaState, Place, Executed, childless, name_of, next, flying, last_slot, listed, settled, refused_at, queued, requested, request_row, learn_row, mailed, stepped, entered, announced, executed, sent}
 use Rattle.sc_node_table.specs.declared.ReplicaInput.{ReplicaInput}
 use Rattle.sc_node_table.specs.declared.ReplicaInput.TheVariants as Given
-use Rattle.sc_law_walks.proofs.Lemmas.{either_way}
-use Rattle.sc_law_refusal.specs.refusal.Definitions.{IsBroughtBy, HasCauseAtEntry, StepHasCauses, StepsHaveCauses, IsNotLeader, RunningReplicasTakeRequests, at_node, ends_queued, entry_answers, is_answer, taught_by}
+use Rattle.sc_law_walks.proofs.WalkLemmas.{either_way}
+use Rattle.sc_law_refusal.specs.refusal.RefusalDefinitions.{IsBroughtBy, HasCauseAtEntry, StepHasCauses, StepsHaveCauses, IsNotLeader, RunningReplicasTakeRequests, at_node, ends_queued, entry_answers, is_answer, taught_by}
 use Rattle.sc_law_refusal.proofs.RefusalProofs.Keeping.{Kept, Due}
 use Rattle.sc_law_refusal.proofs.RefusalProofs.Locking.{allowed}
 use Rattle.sc_law_refusal.proofs.RefusalProofs.Standing.{Caused, CausedBody, AllCaused, none_caused, plain_caused, FineAs, Fine}

@@ -6,10 +6,10 @@ use Rattle.sc_base.specs.Definitions.{Drawer, is_member}
 use Rattle.sc_node_table.specs.Values.{Ballot, Draw, Command, Call, Core, Lock, Free, Coordinating, Promised, Watching, AnswerBody, Mail, MailBody, Answer, Prepare, Accept, Learn, TxVote, TxWatched, Must, Gap}
 use Rattle.sc_words.specs.declared.commands.votes.Past.TheVariants as Cast
 use Rattle.sc_words.specs.declared.commands.votes.Vote.TheVariants as Vows
-use Rattle.sc_group_table.specs.machine.Definitions.{Group, frozen_of}
+use Rattle.sc_group_table.specs.machine.MachineDefinitions.{Group, frozen_of}
 use Rattle.sc_words.specs.declared.paxos.answers.Must.TheVariants.{Value, Free as Open}
-use Rattle.sc_words.specs.paxos.Definitions.{must, new_leader, with_flight_at, entry_at}
-use Rattle.sc_node_table.specs.Definitions.{open_nodes, elected, sent, sent_all, sent_others, answered, wishing, Found, is_act, waits, turned_down, next_queued, from_backlog, from_acts, from_queues, found_by, found_for, offered, pumped_from, pumped, asked_link, question, waited_in, reminders, reminded, ReplicaState, Place, name_of, next, members, settled, may_offer, taken_at, flying, under_way, is_idle, last_slot, uncounted, asked_again, last_entry_sent, tick_row}
+use Rattle.sc_words.specs.paxos.PaxosDefinitions.{must, new_leader, with_flight_at, entry_at}
+use Rattle.sc_node_table.specs.NodeDefinitions.{open_nodes, elected, sent, sent_all, sent_others, answered, wishing, Found, is_act, waits, turned_down, next_queued, from_backlog, from_acts, from_queues, found_by, found_for, offered, pumped_from, pumped, asked_link, question, waited_in, reminders, reminded, ReplicaState, Place, name_of, next, members, settled, may_offer, taken_at, flying, under_way, is_idle, last_slot, uncounted, asked_again, last_entry_sent, tick_row}
 
 -- a choice between two of one kind
 either_of : {A B : Type 0} (f : A → B) (b : Bool) (x y : A) (p q : B) → p ≡ f x → q ≡ f y → cond b p q ≡ f (cond b x y)

@@ -8,23 +8,23 @@ use Rattle.sc_actor.specs.declared.rows.Event.TheVariants as event
 use Rattle.sc_actor.specs.declared.rows.Input.TheVariants.{Go}
 use Rattle.sc_actor.specs.Definitions.{mails, numbered, acted, input_of, value, IsStep, IsOpen, IsLoose, has_started, is_go, place_after}
 use Rattle.sc_actor.proofs.Lemmas.{MayAdd-step, lawful-induction, value-snoc, lawful-prefix, lawful-last}
-use Rattle.sc_client_table.specs.table.Definitions.{Client as ClientState, table}
-use Rattle.sc_node_table.specs.Definitions.{NodeState, node_table, ReplicaState, name_of, numbers_from}
-use Rattle.sc_words.proofs.PaxosProofs.Lemmas.{Each-among, Each-append, Each-weaker, find_found}
+use Rattle.sc_client_table.specs.table.TableDefinitions.{Client as ClientState, table}
+use Rattle.sc_node_table.specs.NodeDefinitions.{NodeState, node_table, ReplicaState, name_of, numbers_from}
+use Rattle.sc_words.proofs.PaxosProofs.PaxosLemmas.{Each-among, Each-append, Each-weaker, find_found}
 use Rattle.sc_scenario.specs.declared.scenario.scenarios.Asks.{Asks}
 use Rattle.sc_scenario.specs.declared.scenario.scenarios.Scenario.{Scenario}
-use Rattle.sc_meaning.specs.sound.Definitions.{Ahead, Lawful, Player, births, client_seat, client_seats, node_seat, player_table, route_of, schedule, system_of}
+use Rattle.sc_meaning.specs.sound.SoundDefinitions.{Ahead, Lawful, Player, births, client_seat, client_seats, node_seat, player_table, route_of, schedule, system_of}
 use Rattle.sc_law_refusal.specs.queue.OneCall.{QueuesKeepOneCall}
-use Rattle.sc_law_refusal.specs.refusal.Definitions.{MayGiveUp, IsImpatient, ends_queued, KeepsTurn, Rows, Acts, ticks_in, RowHasCauses, ValidJournalsRefuseWithCause, AnswersHaveCauses, ActsHaveCauses, NodeHasCauses, TakesRequests, counted_ticks}
+use Rattle.sc_law_refusal.specs.refusal.RefusalDefinitions.{MayGiveUp, IsImpatient, ends_queued, KeepsTurn, Rows, Acts, ticks_in, RowHasCauses, ValidJournalsRefuseWithCause, AnswersHaveCauses, ActsHaveCauses, NodeHasCauses, TakesRequests, counted_ticks}
 use Rattle.sc_law_refusal.proofs.RefusalProofs.NodeSteps.{Keeps, running_of, nodes_have_causes}
 use Rattle.sc_law_refusal.proofs.RefusalProofs.Locking.{allowed}
-use Rattle.sc_meaning.proofs.SoundProofs.Lemmas.{any_push}
+use Rattle.sc_meaning.proofs.SoundProofs.SoundLemmas.{any_push}
 use Rattle.sc_law_refusal.proofs.RefusalProofs.Ticking.{IsKnown, counts, node_known, no_client}
 use Rattle.sc_law_refusal.proofs.PatienceProofs.GivenUpJournals.{lawful_give_up}
 use Rattle.sc_law_refusal.proofs.ResultsProofs.ReportedJournals.{rows_report}
 use Rattle.sc_law_refusal.proofs.RefusalProofs.Turning.{InPlace, keeps_turn, in_place}
-use Rattle.sc_law_groups.proofs.WholeProofs.Lemmas.{StepsKeep}
-use Rattle.sc_law_walks.proofs.Lemmas.{got_no_go}
+use Rattle.sc_law_groups.proofs.WholeProofs.WholeLemmas.{StepsKeep}
+use Rattle.sc_law_walks.proofs.WalkLemmas.{got_no_go}
 
 -- ---- seats
 

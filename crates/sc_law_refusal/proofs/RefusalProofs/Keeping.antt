@@ -4,15 +4,15 @@ use Rattle.std.proofs.lemmas.Bool.{cond_both}
 use Rattle.std.proofs.lemmas.List.Elements.{filter-append}
 use Rattle.sc_base.specs.Definitions.{same_draw, Each}
 use Rattle.sc_base.proofs.Lemmas.{draw_is}
-use Rattle.sc_node_table.specs.Definitions.{is_giving_up, queued_number, is_request_of, without_request, request_before, put_back, ReplicaState, flying, taken_at, listed, taken_from, open_slots, under_way, at_slot}
-use Rattle.sc_law_refusal.specs.refusal.Definitions.{ends_queued}
+use Rattle.sc_node_table.specs.NodeDefinitions.{is_giving_up, queued_number, is_request_of, without_request, request_before, put_back, ReplicaState, flying, taken_at, listed, taken_from, open_slots, under_way, at_slot}
+use Rattle.sc_law_refusal.specs.refusal.RefusalDefinitions.{ends_queued}
 use Rattle.sc_node_table.specs.Values.{Draw, Command, Noop, Call, Join, Leave, Split, Begin, Prepared, RecordVote, GiveUp, Finish, Watched, RecordWatch, Must, Gap, Flight, Report}
-use Rattle.sc_words.proofs.PaxosProofs.Lemmas.{Each-append}
+use Rattle.sc_words.proofs.PaxosProofs.PaxosLemmas.{Each-append}
 use Rattle.sc_words.specs.declared.paxos.answers.Must.TheVariants.{Value, Free as Open}
-use Rattle.sc_words.specs.paxos.Definitions.{choice, chosen_value, names_above, flight_at, must, must_without}
-use Rattle.sc_law_entries.specs.names.Definitions.{Opt}
-use Rattle.sc_law_entries.proofs.NamesProofs.Lemmas.{opt_find, opt_map, opt_either, opt_slot, opt_choice}
-use Rattle.sc_law_walks.proofs.Lemmas.{either_way}
+use Rattle.sc_words.specs.paxos.PaxosDefinitions.{choice, chosen_value, names_above, flight_at, must, must_without}
+use Rattle.sc_law_entries.specs.names.NameDefinitions.{Opt}
+use Rattle.sc_law_entries.proofs.NamesProofs.NameLemmas.{opt_find, opt_map, opt_either, opt_slot, opt_choice}
+use Rattle.sc_law_walks.proofs.WalkLemmas.{either_way}
 
 -- one more at the start, and one more at the end
 counted_in : (b : Bool) (command : Command) (others : List Command) → length (cond b (command ∷ others) others) ≡ length others + length (cond b (command ∷ []) [])

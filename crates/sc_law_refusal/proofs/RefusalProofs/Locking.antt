@@ -1,9 +1,9 @@
 -- What one entry makes of a group's name and lock: the name stays, and a lock is taken only where there was none.
 use Rattle.std.proofs.Common.{◌≡◌, ℕ, ◌≤◌, ◌⊎◌, inl, inr, refl, sym, ap, subst, arith, Option, Some, None}
 use Rattle.sc_node_table.specs.Values.{Ballot, Draw, Command, Lock, Free, Coordinating, Promised, Watching, Effect}
-use Rattle.sc_law_walks.proofs.Lemmas.{lock_step}
-use Rattle.sc_group_table.specs.machine.Definitions.{Group, applied}
-use Rattle.sc_node_table.specs.Definitions.{waits_in}
+use Rattle.sc_law_walks.proofs.WalkLemmas.{lock_step}
+use Rattle.sc_group_table.specs.machine.MachineDefinitions.{Group, applied}
+use Rattle.sc_node_table.specs.NodeDefinitions.{waits_in}
 
 -- ---- what a lock allows
 

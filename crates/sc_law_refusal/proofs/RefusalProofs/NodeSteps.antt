@@ -6,19 +6,19 @@ use Rattle.std.proofs.lemmas.Bool.{and_parts}
 use Rattle.std.specs.Prelude.{⊤}
 use Rattle.sc_node_table.specs.Values.{Body, Lock, Free, Coordinating, Promised, Watching, Heard, Ballot, Draw, Input, Got, GiveUp, Base, Route, OrderLine, Mail, MailBody, Install}
 use Rattle.sc_actor.specs.declared.rows.Input.TheVariants.{Tick, Told, Go}
-use Rattle.sc_words.proofs.PaxosProofs.Lemmas.{Each-among, Each-from, Each-weaker, find_found}
+use Rattle.sc_words.proofs.PaxosProofs.PaxosLemmas.{Each-among, Each-from, Each-weaker, find_found}
 use Rattle.sc_node_table.specs.declared.ReplicaInput.{ReplicaInput}
 use Rattle.sc_node_table.specs.declared.ReplicaInput.TheVariants as Given
-use Rattle.sc_node_table.specs.Definitions.{elected, is_among, looked_for, looked, named, NodeState, node_table, replica_of, with_replica, is_before, with_new, group_of_mail, with_made, unknown, may_come, with_born, with_children, taken_by, routed, group_of_order, ordered_of, ticked, on_tick, ordered_row, names_after_tick, ReplicaState, Place, settled, may_offer, first_set, name_of, listed, members, born_replica, installed_replica, last_slot, forgotten, tick_row, looked_up, made_by, mailed, stepped, slots_ahead}
-use Rattle.sc_law_walks.proofs.Lemmas.{either_way}
-use Rattle.sc_law_refusal.specs.refusal.Definitions.{at_node, AnswersHaveCauses, AreSentBy, IsSentBy, MayGiveUpAt, ActsHaveCauses, NodesHaveCauses, counted_ticks, replica_for, takers}
+use Rattle.sc_node_table.specs.NodeDefinitions.{elected, is_among, looked_for, looked, named, NodeState, node_table, replica_of, with_replica, is_before, with_new, group_of_mail, with_made, unknown, may_come, with_born, with_children, taken_by, routed, group_of_order, ordered_of, ticked, on_tick, ordered_row, names_after_tick, ReplicaState, Place, settled, may_offer, first_set, name_of, listed, members, born_replica, installed_replica, last_slot, forgotten, tick_row, looked_up, made_by, mailed, stepped, slots_ahead}
+use Rattle.sc_law_walks.proofs.WalkLemmas.{either_way}
+use Rattle.sc_law_refusal.specs.refusal.RefusalDefinitions.{at_node, AnswersHaveCauses, AreSentBy, IsSentBy, MayGiveUpAt, ActsHaveCauses, NodesHaveCauses, counted_ticks, replica_for, takers}
 use Rattle.sc_law_refusal.proofs.RefusalProofs.Joining.{tick_behind}
 use Rattle.sc_law_refusal.proofs.RefusalProofs.Steps.{Shows}
 use Rattle.sc_law_refusal.proofs.RefusalProofs.Inputs.{still_step, step_shown}
 use Rattle.sc_law_refusal.proofs.RefusalProofs.Locking.{allowed}
 use Rattle.sc_law_refusal.proofs.RefusalProofs.Strangers.{unknown_says}
 use Rattle.sc_law_refusal.proofs.RefusalProofs.Taking.{takes_requests}
-use Rattle.sc_law_walks.proofs.Lemmas.{replaced_each, added_each}
+use Rattle.sc_law_walks.proofs.WalkLemmas.{replaced_each, added_each}
 
 -- ---- replicas in their order
 

@@ -9,13 +9,13 @@ use Rattle.sc_words.specs.declared.commands.effects.Effect.TheVariants as Was
 use Rattle.sc_words.specs.declared.commands.votes.Outcome.TheVariants as Is
 use Rattle.sc_words.specs.declared.commands.votes.Past.TheVariants as Cast
 use Rattle.sc_words.specs.declared.commands.votes.Vote.TheVariants as Says
-use Rattle.sc_words.specs.commands.Definitions.{decided_in, cast_in}
-use Rattle.sc_group_table.specs.machine.Definitions.{Group, frozen_of}
-use Rattle.sc_words.specs.paxos.Definitions.{entry_at}
+use Rattle.sc_words.specs.commands.CommandDefinitions.{decided_in, cast_in}
+use Rattle.sc_group_table.specs.machine.MachineDefinitions.{Group, frozen_of}
+use Rattle.sc_words.specs.paxos.PaxosDefinitions.{entry_at}
 use Rattle.sc_node_table.specs.declared.Before.{Before}
-use Rattle.sc_node_table.specs.Definitions.{sent, sent_all, sent_others, order_reported, offer_of, question, asked_first, asked_link, ReplicaState, name_of, flying, members, next, reminders, taught, uncounted, asked_again, last_entry_sent, voted_to, watched_to, outcome_sent, next_asked, asked_next, begun_result, spoken_number, result_reported, begun_reported, asked_on, begun_asks, vote_sent, watch_sent, aborted_to, aborted_watcher, given_up_by, vote_answered, released_to, watch_answered_by, went_on, spoken_mails}
-use Rattle.sc_law_walks.proofs.Lemmas.{either_way}
-use Rattle.sc_law_refusal.specs.refusal.Definitions.{IfAnswer, answers_in, is_answer}
+use Rattle.sc_node_table.specs.NodeDefinitions.{sent, sent_all, sent_others, order_reported, offer_of, question, asked_first, asked_link, ReplicaState, name_of, flying, members, next, reminders, taught, uncounted, asked_again, last_entry_sent, voted_to, watched_to, outcome_sent, next_asked, asked_next, begun_result, spoken_number, result_reported, begun_reported, asked_on, begun_asks, vote_sent, watch_sent, aborted_to, aborted_watcher, given_up_by, vote_answered, released_to, watch_answered_by, went_on, spoken_mails}
+use Rattle.sc_law_walks.proofs.WalkLemmas.{either_way}
+use Rattle.sc_law_refusal.specs.refusal.RefusalDefinitions.{IfAnswer, answers_in, is_answer}
 
 -- a mail that is no answer
 abbrev pub IsPlain : MailBody → Type 0

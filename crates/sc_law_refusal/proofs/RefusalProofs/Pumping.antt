@@ -4,15 +4,15 @@ use Rattle.std.specs.List.{list_any}
 use Rattle.std.proofs.lemmas.Bool.{cond_both, not-false}
 use Rattle.sc_base.specs.Definitions.{client_actor}
 use Rattle.sc_node_table.specs.Values.{Ballot, Draw, Op, Command, Call, Route, AnswerBody, Mail, Accept, Must, Gap}
-use Rattle.sc_words.specs.ideal.Definitions.{key_of, holds_key}
+use Rattle.sc_words.specs.ideal.IdealDefinitions.{key_of, holds_key}
 use Rattle.sc_mail.specs.declared.bodies.AnswerBody.TheVariants as Says
-use Rattle.sc_group_table.specs.machine.Definitions.{Group, state_after}
-use Rattle.sc_words.proofs.PaxosProofs.Lemmas.{Each-append}
+use Rattle.sc_group_table.specs.machine.MachineDefinitions.{Group, state_after}
+use Rattle.sc_words.proofs.PaxosProofs.PaxosLemmas.{Each-append}
 use Rattle.sc_words.specs.declared.paxos.answers.Must.TheVariants.{Value, Free as Open}
-use Rattle.sc_words.specs.paxos.Definitions.{must}
-use Rattle.sc_node_table.specs.Definitions.{answered, Found, is_act, admits_requests, waits, refused_by, turned_down, next_queued, from_backlog, from_acts, from_queues, found_by, found_for, offered, pumped, ReplicaState, Place, name_of, under_way, is_idle}
-use Rattle.sc_law_walks.proofs.Lemmas.{either_way, next_found, Offers, pumped_place}
-use Rattle.sc_law_refusal.specs.refusal.Definitions.{LacksKey}
+use Rattle.sc_words.specs.paxos.PaxosDefinitions.{must}
+use Rattle.sc_node_table.specs.NodeDefinitions.{answered, Found, is_act, admits_requests, waits, refused_by, turned_down, next_queued, from_backlog, from_acts, from_queues, found_by, found_for, offered, pumped, ReplicaState, Place, name_of, under_way, is_idle}
+use Rattle.sc_law_walks.proofs.WalkLemmas.{either_way, next_found, Offers, pumped_place}
+use Rattle.sc_law_refusal.specs.refusal.RefusalDefinitions.{LacksKey}
 use Rattle.sc_law_refusal.proofs.RefusalProofs.Keeping.{Kept, KeptAll, KeptOne, DueAll, Flying, MustKept, with_calls, with_acts, must_kept, fewer_due, ends_behind}
 use Rattle.sc_law_refusal.proofs.RefusalProofs.Standing.{CauseSo, AllCaused, answer_caused, FineAs, Fine, resent, with_all}
 

@@ -5,16 +5,16 @@ use Rattle.std.specs.Prelude.{is_some}
 use Rattle.std.proofs.lemmas.Bool.{cond_both, leb-true, and_parts, not-true, not-false}
 use Rattle.sc_base.specs.Definitions.{Drawer, next_name, client_actor, is_member}
 use Rattle.sc_node_table.specs.Values.{Ballot, Draw, Op, Body, Offer, Watch, Command, Call, GiveUp, Lock, Free, Coordinating, Promised, Watching, Route, Order, OrderLine, OrderRefusal, Heard, Outcome, Past, Vote, AnswerBody, Mail, Answer, TxOutcome, TxElsewhere, Told}
-use Rattle.sc_words.specs.ideal.Definitions.{key_of, holds_key}
+use Rattle.sc_words.specs.ideal.IdealDefinitions.{key_of, holds_key}
 use Rattle.sc_words.specs.declared.commands.orders.Order.TheVariants as An
 use Rattle.sc_words.specs.declared.commands.orders.OrderResult.TheVariants as Results
 use Rattle.sc_mail.specs.declared.bodies.AnswerBody.TheVariants as Says
-use Rattle.sc_words.proofs.PaxosProofs.Lemmas.{Each-append}
-use Rattle.sc_words.specs.paxos.Definitions.{entry_at}
-use Rattle.sc_node_table.specs.Definitions.{has_act, is_of_kind, with_act, act_queued, elected, sent, ordered_command, untaken, queued_or_refused, ordered_row, wished_line, with_command, with_line, wishing, admits_requests, pumped, queued_number, without_request, patience, one_tick_more, waited_in, reminders, reminded, ReplicaState, Place, name_of, next, listed, members, open_slots, settled, taken_at, taken_from, is_idle, request_refusal, refused_at, queued, requested, request_row, asked_again, last_entry_sent, tick_row, offer_row, watch_row, vote_row, watched_row, elsewhere_row, outcome_row}
-use Rattle.sc_law_walks.proofs.Lemmas.{either_way, TransactionParts}
+use Rattle.sc_words.proofs.PaxosProofs.PaxosLemmas.{Each-append}
+use Rattle.sc_words.specs.paxos.PaxosDefinitions.{entry_at}
+use Rattle.sc_node_table.specs.NodeDefinitions.{has_act, is_of_kind, with_act, act_queued, elected, sent, ordered_command, untaken, queued_or_refused, ordered_row, wished_line, with_command, with_line, wishing, admits_requests, pumped, queued_number, without_request, patience, one_tick_more, waited_in, reminders, reminded, ReplicaState, Place, name_of, next, listed, members, open_slots, settled, taken_at, taken_from, is_idle, request_refusal, refused_at, queued, requested, request_row, asked_again, last_entry_sent, tick_row, offer_row, watch_row, vote_row, watched_row, elsewhere_row, outcome_row}
+use Rattle.sc_law_walks.proofs.WalkLemmas.{either_way, TransactionParts}
 use Rattle.sc_law_walks.proofs.TransactionRows.{offer_keeps, watch_keeps, vote_keeps, watched_keeps, elsewhere_keeps, outcome_keeps}
-use Rattle.sc_law_refusal.specs.refusal.Definitions.{LacksKey}
+use Rattle.sc_law_refusal.specs.refusal.RefusalDefinitions.{LacksKey}
 use Rattle.sc_law_refusal.proofs.RefusalProofs.Keeping.{Kept, Due, with_calls, with_acts, without_kept, more_due, ends_after}
 use Rattle.sc_law_refusal.proofs.RefusalProofs.Plain.{again_plain, last_plain, reminders_plain, vote_plain, watched_plain, next_plain}
 use Rattle.sc_law_refusal.proofs.RefusalProofs.Standing.{CauseSo, CausedAnswer, AllCaused, plain_caused, answer_caused, stopped_caused, FineAs, Fine, resent, with_plain}

@@ -4,11 +4,11 @@ use Rattle.std.proofs.lemmas.Bool.{true≢false}
 use Rattle.sc_base.specs.Definitions.{Each, client_actor}
 use Rattle.sc_node_table.specs.Values.{Ballot, Draw, Op, Command, Call, AnswerBody, Mail, MailBody, Answer}
 use Rattle.sc_mail.specs.declared.bodies.AnswerBody.TheVariants as Says
-use Rattle.sc_group_table.specs.machine.Definitions.{Group, state_after, applied}
-use Rattle.sc_words.proofs.PaxosProofs.Lemmas.{Each-append, Each-weaker}
-use Rattle.sc_words.specs.paxos.Definitions.{LogState}
-use Rattle.sc_node_table.specs.Definitions.{answer_of, ReplicaState, Place, name_of, sent, sent_all}
-use Rattle.sc_law_refusal.specs.refusal.Definitions.{IfAnswer, LacksKey, answers_in, effect_answers, entry_answers, log_after}
+use Rattle.sc_group_table.specs.machine.MachineDefinitions.{Group, state_after, applied}
+use Rattle.sc_words.proofs.PaxosProofs.PaxosLemmas.{Each-append, Each-weaker}
+use Rattle.sc_words.specs.paxos.PaxosDefinitions.{LogState}
+use Rattle.sc_node_table.specs.NodeDefinitions.{answer_of, ReplicaState, Place, name_of, sent, sent_all}
+use Rattle.sc_law_refusal.specs.refusal.RefusalDefinitions.{IfAnswer, LacksKey, answers_in, effect_answers, entry_answers, log_after}
 use Rattle.sc_law_refusal.proofs.RefusalProofs.Keeping.{Holds, Kept}
 use Rattle.sc_law_refusal.proofs.RefusalProofs.Answering.{entries_push}
 use Rattle.sc_law_refusal.proofs.RefusalProofs.Locking.{allowed}

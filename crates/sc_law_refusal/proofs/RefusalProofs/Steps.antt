@@ -4,12 +4,12 @@ use Rattle.std.proofs.lemmas.Bool.{cond_both}
 use Rattle.sc_base.specs.Definitions.{Among, Each, is_member, least_of}
 use Rattle.sc_node_table.specs.Values.{Ballot, Draw, Input, Op, Command, Call, Base, Route, OrderLine, AnswerBody, Mail, MailBody, Prepare}
 use Rattle.sc_mail.specs.declared.bodies.AnswerBody.TheVariants as Says
-use Rattle.sc_words.proofs.PaxosProofs.Lemmas.{Each-weaker}
-use Rattle.sc_group_table.specs.machine.Definitions.{Group, state_after, applied}
-use Rattle.sc_words.specs.paxos.Definitions.{LogState}
-use Rattle.sc_node_table.specs.Definitions.{open_nodes, elected, ended, stopped, entered, is_among, looked_for, looked, jumped, ReplicaState, Place, name_of, next, listed, members, last_slot, forgotten, looked_up, took_over, install_row}
-use Rattle.sc_law_walks.proofs.Lemmas.{either_way}
-use Rattle.sc_law_refusal.specs.refusal.Definitions.{IsHeldOrBrought, LeadsNoMore, HasCauseAtEntry, HasCauseAfter, AnswersCall, AnswersInTurn, IfAnswer, LacksKey, MayGiveUp, IsTakenOver, StepHasCauses, ends_queued, entry_answers, log_with, log_after, taught}
+use Rattle.sc_words.proofs.PaxosProofs.PaxosLemmas.{Each-weaker}
+use Rattle.sc_group_table.specs.machine.MachineDefinitions.{Group, state_after, applied}
+use Rattle.sc_words.specs.paxos.PaxosDefinitions.{LogState}
+use Rattle.sc_node_table.specs.NodeDefinitions.{open_nodes, elected, ended, stopped, entered, is_among, looked_for, looked, jumped, ReplicaState, Place, name_of, next, listed, members, last_slot, forgotten, looked_up, took_over, install_row}
+use Rattle.sc_law_walks.proofs.WalkLemmas.{either_way}
+use Rattle.sc_law_refusal.specs.refusal.RefusalDefinitions.{IsHeldOrBrought, LeadsNoMore, HasCauseAtEntry, HasCauseAfter, AnswersCall, AnswersInTurn, IfAnswer, LacksKey, MayGiveUp, IsTakenOver, StepHasCauses, ends_queued, entry_answers, log_with, log_after, taught}
 use Rattle.sc_law_refusal.proofs.RefusalProofs.Keeping.{Kept, DueAll, Holds}
 use Rattle.sc_law_refusal.proofs.RefusalProofs.Answering.{IfCall, entries_each}
 use Rattle.sc_law_refusal.proofs.RefusalProofs.Executing.{entered_me, entered_name}

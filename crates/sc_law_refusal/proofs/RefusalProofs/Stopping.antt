@@ -5,10 +5,10 @@ use Rattle.sc_node_table.specs.Values.{Ballot, Draw, Op, Command, Call, Join, Le
 use Rattle.sc_words.specs.declared.commands.orders.OrderRefusal.TheVariants as Why
 use Rattle.sc_words.specs.declared.commands.orders.OrderResult.TheVariants as Results
 use Rattle.sc_mail.specs.declared.bodies.AnswerBody.TheVariants as Says
-use Rattle.sc_group_table.specs.machine.Definitions.{base_of}
-use Rattle.sc_words.specs.paxos.Definitions.{below, new_leader}
-use Rattle.sc_node_table.specs.Definitions.{open_nodes, elected, ended, stopped, saw, install_to, asked_to_promise, welcomed_all, sent, answered, answered_all, order_reported, dismissed, dismissed_all, ReplicaState, Place, name_of, next, under_way}
-use Rattle.sc_law_walks.proofs.Lemmas.{either_way}
+use Rattle.sc_group_table.specs.machine.MachineDefinitions.{base_of}
+use Rattle.sc_words.specs.paxos.PaxosDefinitions.{below, new_leader}
+use Rattle.sc_node_table.specs.NodeDefinitions.{open_nodes, elected, ended, stopped, saw, install_to, asked_to_promise, welcomed_all, sent, answered, answered_all, order_reported, dismissed, dismissed_all, ReplicaState, Place, name_of, next, under_way}
+use Rattle.sc_law_walks.proofs.WalkLemmas.{either_way}
 use Rattle.sc_law_refusal.proofs.RefusalProofs.Keeping.{Kept, KeptAll, way_kept, fewer_due}
 use Rattle.sc_law_refusal.proofs.RefusalProofs.Plain.{reported_plain}
 use Rattle.sc_law_refusal.proofs.RefusalProofs.Standing.{CauseSo, AllCaused, plain_caused, answer_caused, stopped_caused, Stands, FineAs, Fine, with_plain, with_all}

@@ -2,10 +2,10 @@
 use Rattle.std.proofs.Common.{◌≡◌, ℕ, ◌+◌, ◌-◌, ◌^◌, ◌||◌, not, nat_lt, eqb, List, [], ◌∷◌, length, Option, Some, None, refl, sym, subst}
 use Rattle.sc_base.specs.Definitions.{Each, is_member, least_of}
 use Rattle.sc_node_table.specs.Values.{Draw, Base, Route, Got, AnswerBody, Mail, MailBody, Request, Prepare, Accept, Learn, Ask, Install, TxPrepare, TxElsewhere, TxWatch}
-use Rattle.sc_words.proofs.PaxosProofs.Lemmas.{Each-append}
-use Rattle.sc_node_table.specs.Definitions.{open_nodes, elected, is_among, looked_for, looked, named, sent, NodeState, replica_of, group_of_mail, with_made, unknown, ReplicaState, Place, name_of, next, members, last_slot, installed_replica, looked_up, made_by, slots_ahead}
-use Rattle.sc_law_walks.proofs.Lemmas.{either_way}
-use Rattle.sc_law_refusal.specs.refusal.Definitions.{IfAnswer, TurnsAway}
+use Rattle.sc_words.proofs.PaxosProofs.PaxosLemmas.{Each-append}
+use Rattle.sc_node_table.specs.NodeDefinitions.{open_nodes, elected, is_among, looked_for, looked, named, sent, NodeState, replica_of, group_of_mail, with_made, unknown, ReplicaState, Place, name_of, next, members, last_slot, installed_replica, looked_up, made_by, slots_ahead}
+use Rattle.sc_law_walks.proofs.WalkLemmas.{either_way}
+use Rattle.sc_law_refusal.specs.refusal.RefusalDefinitions.{IfAnswer, TurnsAway}
 use Rattle.sc_law_refusal.proofs.RefusalProofs.Plain.{IsPlain, plain_has, all_plain}
 
 module _ (node : NodeState) (mail : Mail) (group : Draw) (missing : replica_of group node.replicas ≡ None) where

@@ -2,8 +2,8 @@
 use Rattle.std.proofs.Common.{◌≡◌, ℕ, true, inl, inr, Option, Some, None, List, sym, ap, subst, ◌∙◌}
 use Rattle.sc_base.specs.Definitions.{Among, Each}
 use Rattle.sc_node_table.specs.Values.{Draw, Op, Input, OrderLine, Mail, MailBody, Request}
-use Rattle.sc_node_table.specs.Definitions.{NodeState, group_of_mail, node_table, on_mail, replica_of, taken_by, ReplicaState, listed, stepped}
-use Rattle.sc_law_refusal.specs.refusal.Definitions.{IsNotLeader, TakesRequests, replica_for, takers}
+use Rattle.sc_node_table.specs.NodeDefinitions.{NodeState, group_of_mail, node_table, on_mail, replica_of, taken_by, ReplicaState, listed, stepped}
+use Rattle.sc_law_refusal.specs.refusal.RefusalDefinitions.{IsNotLeader, TakesRequests, replica_for, takers}
 use Rattle.sc_law_refusal.proofs.RefusalProofs.Inputs.{requests_are_taken}
 
 -- no mail is an answer NotLeader

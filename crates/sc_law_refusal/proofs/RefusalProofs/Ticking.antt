@@ -11,13 +11,13 @@ use Rattle.sc_actor.specs.declared.rows.Event.TheVariants as event
 use Rattle.sc_actor.specs.declared.rows.Input.TheVariants.{Tick, Go, Told}
 use Rattle.sc_actor.specs.Definitions.{mails, numbered, acted, input_of, value}
 use Rattle.sc_actor.proofs.Lemmas.{value-snoc}
-use Rattle.sc_group_table.specs.machine.Definitions.{is_coordinating}
-use Rattle.sc_client_table.specs.table.Definitions.{Client as ClientState}
-use Rattle.sc_node_table.specs.Definitions.{made_by, mailed, slots_ahead, NodeState, born_replicas, node_table, replica_of, with_replica, with_new, with_born, with_children, with_made, unknown, taken_by, routed, may_come, group_of_mail, ordered_of, group_of_order, ReplicaState, born_replica, name_of, settled, last_slot}
+use Rattle.sc_group_table.specs.machine.MachineDefinitions.{is_coordinating}
+use Rattle.sc_client_table.specs.table.TableDefinitions.{Client as ClientState}
+use Rattle.sc_node_table.specs.NodeDefinitions.{made_by, mailed, slots_ahead, NodeState, born_replicas, node_table, replica_of, with_replica, with_new, with_born, with_children, with_made, unknown, taken_by, routed, may_come, group_of_mail, ordered_of, group_of_order, ReplicaState, born_replica, name_of, settled, last_slot}
 use Rattle.sc_scenario.specs.declared.scenario.scenarios.Scenario.{Scenario}
-use Rattle.sc_meaning.specs.sound.Definitions.{Ahead, Player, node_seat, player_table}
-use Rattle.sc_law_walks.proofs.Lemmas.{either_way}
-use Rattle.sc_law_refusal.specs.refusal.Definitions.{Rows, coordinates, node_coordinates, is_tick, is_counted, ticks_from}
+use Rattle.sc_meaning.specs.sound.SoundDefinitions.{Ahead, Player, node_seat, player_table}
+use Rattle.sc_law_walks.proofs.WalkLemmas.{either_way}
+use Rattle.sc_law_refusal.specs.refusal.RefusalDefinitions.{Rows, coordinates, node_coordinates, is_tick, is_counted, ticks_from}
 use Rattle.sc_law_refusal.proofs.RefusalProofs.NodeSteps.{Keeps, still_all, node_keeps}
 
 module _ (seat : Seat Player) where

@@ -4,10 +4,10 @@ use Rattle.std.proofs.lemmas.Bool.{cond_both, cond-true, eq-eqb}
 use Rattle.std.proofs.lemmas.List.{length-append}
 use Rattle.sc_node_table.specs.Values.{Draw, Op, Reply, Input, OrderLine, Value, Mail, MailBody, Answer}
 use Rattle.sc_actor.specs.declared.rows.Input.TheVariants.{Go}
-use Rattle.sc_client_table.specs.lookup.Definitions.{target_in}
-use Rattle.sc_client_table.specs.table.Definitions.{Client, waiting_request, ClientStep, asked_of, sent_where, chosen_for, request_sent, started, waits_for, got, table, IsReplyTo, InTurn}
+use Rattle.sc_client_table.specs.lookup.LookupDefinitions.{target_in}
+use Rattle.sc_client_table.specs.table.TableDefinitions.{Client, waiting_request, ClientStep, asked_of, sent_where, chosen_for, request_sent, started, waits_for, got, table, IsReplyTo, InTurn}
 use Rattle.sc_client_table.proofs.TableProofs.TurnLemmas.{sends_in_turn}
-use Rattle.sc_law_refusal.specs.refusal.Definitions.{number_in, Starts, GoesOn, KeepsTurn}
+use Rattle.sc_law_refusal.specs.refusal.RefusalDefinitions.{number_in, Starts, GoesOn, KeepsTurn}
 
 -- ---- the number that is begun
 

@@ -2,14 +2,14 @@
 use Rattle.std.proofs.Common.{◌≡◌, ◌≤◌, ℕ, ◌&&◌, not, nat_le, eqb, Bool, true, false, List, Option, Some, None, refl, sym, subst}
 use Rattle.sc_base.specs.Definitions.{Each, same_ballot, is_member, is_majority}
 use Rattle.sc_node_table.specs.Values.{Ballot, Draw, Command, Mail, Promise, Accepted, Nack, Report, Flight, PrepareAnswer, AcceptAnswer, Counted, Chosen, NotYet}
-use Rattle.sc_words.proofs.PaxosProofs.Lemmas.{Each-append}
+use Rattle.sc_words.proofs.PaxosProofs.PaxosLemmas.{Each-append}
 use Rattle.sc_words.specs.declared.paxos.answers.PrepareAnswer.TheVariants as Prepared
 use Rattle.sc_words.specs.declared.paxos.answers.AcceptAnswer.TheVariants as Asked
-use Rattle.sc_words.specs.paxos.Definitions.{prepared, accepted as accepted_by, AcceptorState, LeaderState, flight_at, promise_counted, kept_voters, voters_after, tallied, vote_at, counted}
-use Rattle.sc_node_table.specs.Definitions.{with_slot, ReplicaState, Place, Executed, childless, name_of, next, set_at, sent, saw, executed, has_room, install_to, pumped, most_taught, ask_row, hinted, promise_to, prepare_row, accepted_to, took, accept_row, leads, promise_row, readied, vote_tallied, voted, accepted_row, nack_row}
-use Rattle.sc_law_entries.specs.names.Definitions.{Opt}
-use Rattle.sc_law_entries.proofs.NamesProofs.Lemmas.{opt_find, slot_with, flight_without, voters_with}
-use Rattle.sc_law_walks.proofs.Lemmas.{promised_place, asked_place, either_way}
+use Rattle.sc_words.specs.paxos.PaxosDefinitions.{prepared, accepted as accepted_by, AcceptorState, LeaderState, flight_at, promise_counted, kept_voters, voters_after, tallied, vote_at, counted}
+use Rattle.sc_node_table.specs.NodeDefinitions.{with_slot, ReplicaState, Place, Executed, childless, name_of, next, set_at, sent, saw, executed, has_room, install_to, pumped, most_taught, ask_row, hinted, promise_to, prepare_row, accepted_to, took, accept_row, leads, promise_row, readied, vote_tallied, voted, accepted_row, nack_row}
+use Rattle.sc_law_entries.specs.names.NameDefinitions.{Opt}
+use Rattle.sc_law_entries.proofs.NamesProofs.NameLemmas.{opt_find, slot_with, flight_without, voters_with}
+use Rattle.sc_law_walks.proofs.WalkLemmas.{promised_place, asked_place, either_way}
 use Rattle.sc_law_refusal.proofs.RefusalProofs.Keeping.{Kept, Flying, Reported, Holds}
 use Rattle.sc_law_refusal.proofs.RefusalProofs.Plain.{taught_plain}
 use Rattle.sc_law_refusal.proofs.RefusalProofs.Standing.{AllCaused, plain_caused, Stands, FineAs, Fine, turned_fine, resent, with_plain}

@@ -5,16 +5,16 @@ use Rattle.std.proofs.lemmas.Bool.{cond_both, eqb-true, ltb-false}
 use Rattle.std.proofs.lemmas.List.{length_push, drop_all}
 use Rattle.sc_base.specs.Definitions.{Among, Each, is_majority, same_ballot}
 use Rattle.sc_node_table.specs.Values.{Ballot, Draw, Command, Base, Counted, Chosen, Flight}
-use Rattle.sc_group_table.specs.machine.Definitions.{Group, group_of, applied}
-use Rattle.sc_words.specs.paxos.Definitions.{LeaderState, LogState, flight_at, installed, kept_voters, voters_after, counted, vote_at}
-use Rattle.sc_words.proofs.PaxosProofs.Lemmas.{find_found}
-use Rattle.sc_paxos_law.specs.Definitions.{Accepted, needed, members_of, IsLog, IsLawfulHistory}
+use Rattle.sc_group_table.specs.machine.MachineDefinitions.{Group, group_of, applied}
+use Rattle.sc_words.specs.paxos.PaxosDefinitions.{LeaderState, LogState, flight_at, installed, kept_voters, voters_after, counted, vote_at}
+use Rattle.sc_words.proofs.PaxosProofs.PaxosLemmas.{find_found}
+use Rattle.sc_paxos_law.specs.PaxosLawDefinitions.{Accepted, needed, members_of, IsLog, IsLawfulHistory}
 use Rattle.sc_paxos_law.proofs.Lemmas.{earlier, longer_log}
-use Rattle.sc_node_table.specs.Definitions.{ReplicaState, name_of, next, set_at, entered, with_slot, forgotten, jumped, named, without_slot, floor_of, installed_replica}
-use Rattle.sc_law_entries.proofs.HistoryProofs.Lemmas.{state_same}
-use Rattle.sc_law_walks.proofs.Lemmas.{entry_is}
-use Rattle.sc_meaning.specs.sound.Definitions.{Ahead}
-use Rattle.sc_law_groups.proofs.GroupProofs.Lemmas.{IsLearnt, by_own_log, Each-without_slot, Steps, rule, first, birth, IsReplica, IsState, next_after}
+use Rattle.sc_node_table.specs.NodeDefinitions.{ReplicaState, name_of, next, set_at, entered, with_slot, forgotten, jumped, named, without_slot, floor_of, installed_replica}
+use Rattle.sc_law_entries.proofs.HistoryProofs.HistoryLemmas.{state_same}
+use Rattle.sc_law_walks.proofs.WalkLemmas.{entry_is}
+use Rattle.sc_meaning.specs.sound.SoundDefinitions.{Ahead}
+use Rattle.sc_law_groups.proofs.GroupProofs.GroupLemmas.{IsLearnt, by_own_log, Each-without_slot, Steps, rule, first, birth, IsReplica, IsState, next_after}
 use Rattle.sc_law_groups.proofs.GroupProofs.Invariant.{HasLog, next_is, pushed_has, cut_has}
 use Rattle.sc_law_groups.proofs.GroupProofs.ForgottenEntries.{floor_low}
 use Rattle.sc_law_groups.proofs.GroupProofs.Counting.{each_with_slot}

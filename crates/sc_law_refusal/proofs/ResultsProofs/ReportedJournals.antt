@@ -10,26 +10,26 @@ use Rattle.sc_actor.specs.declared.rows.Event.TheVariants.{Tick as TickEvent, Go
 use Rattle.sc_actor.specs.declared.rows.Input.TheVariants.{Tick, Go, Told}
 use Rattle.sc_actor.specs.Definitions.{mails, numbered, acted, input_of, value, IsStep}
 use Rattle.sc_actor.proofs.Lemmas.{value-snoc}
-use Rattle.sc_client_table.specs.table.Definitions.{Client as ClientState}
+use Rattle.sc_client_table.specs.table.TableDefinitions.{Client as ClientState}
 use Rattle.sc_client_table.proofs.TableProofs.TurnLemmas.{sends_in_turn}
-use Rattle.sc_group_table.specs.machine.Definitions.{state_after}
-use Rattle.sc_node_table.specs.Definitions.{node_table, slots_ahead}
-use Rattle.sc_words.proofs.PaxosProofs.Lemmas.{Each-among, find_found}
-use Rattle.sc_paxos_law.specs.Definitions.{IsLog}
+use Rattle.sc_group_table.specs.machine.MachineDefinitions.{state_after}
+use Rattle.sc_node_table.specs.NodeDefinitions.{node_table, slots_ahead}
+use Rattle.sc_words.proofs.PaxosProofs.PaxosLemmas.{Each-among, find_found}
+use Rattle.sc_paxos_law.specs.PaxosLawDefinitions.{IsLog}
 use Rattle.sc_scenario.specs.scenario.Definitions.{IsValid}
 use Rattle.sc_scenario.specs.declared.scenario.scenarios.Scenario.{Scenario}
 use Rattle.sc_scenario.proofs.ScenarioProofs.Lemmas.{valid_scenarios_are_bounded}
-use Rattle.sc_meaning.specs.sound.Definitions.{Ahead, Lawful, Player, births, decided_log, groups_at, node_seat, player_table, route_of, system_of}
-use Rattle.sc_law_entries.specs.names.Definitions.{owner_in}
-use Rattle.sc_law_entries.specs.ring.Definitions.{Sources}
+use Rattle.sc_meaning.specs.sound.SoundDefinitions.{Ahead, Lawful, Player, births, decided_log, groups_at, node_seat, player_table, route_of, system_of}
+use Rattle.sc_law_entries.specs.names.NameDefinitions.{owner_in}
+use Rattle.sc_law_entries.specs.ring.RingDefinitions.{Sources}
 use Rattle.sc_law_entries.proofs.NamesProofs.Fresh.{IsClient, IsSeat, seats_are, replay_client}
-use Rattle.sc_law_entries.proofs.NamesProofs.Lemmas.{orders_are_allowed_allowed, orders_are_allowed_wishes, orders_are_allowed_positions, names_have_one_owner_others}
-use Rattle.sc_law_groups.specs.whole.Definitions.{section_op, MayQueue, IsHeardAt}
-use Rattle.sc_law_groups.proofs.GroupProofs.Lemmas.{Kept, IsNodeAt, h_of, rule, birth}
+use Rattle.sc_law_entries.proofs.NamesProofs.NameLemmas.{orders_are_allowed_allowed, orders_are_allowed_wishes, orders_are_allowed_positions, names_have_one_owner_others}
+use Rattle.sc_law_groups.specs.whole.WholeDefinitions.{section_op, MayQueue, IsHeardAt}
+use Rattle.sc_law_groups.proofs.GroupProofs.GroupLemmas.{Kept, IsNodeAt, h_of, rule, birth}
 use Rattle.sc_law_groups.proofs.GroupProofs.RowSteps.{number_among}
-use Rattle.sc_law_groups.proofs.WholeProofs.Lemmas.{goes_on_from, holds, orders_allowed, valid_scenarios_begin_well}
+use Rattle.sc_law_groups.proofs.WholeProofs.WholeLemmas.{goes_on_from, holds, orders_allowed, valid_scenarios_begin_well}
 use Rattle.sc_law_refusal.specs.refusal.RowCauses.{Rows, Acts}
-use Rattle.sc_law_refusal.specs.results.Definitions.{EndsOrder, ReportAs, IsDecided, IsNotTaken, IsDismissed, HasHappened, ReportsWhatHappened}
+use Rattle.sc_law_refusal.specs.results.ResultDefinitions.{EndsOrder, ReportAs, IsDecided, IsNotTaken, IsDismissed, HasHappened, ReportsWhatHappened}
 use Rattle.sc_law_refusal.proofs.ResultsProofs.ReportedNodes.{Takes, node_reports}
 
 module _ (sources : Sources) (ahead : Ahead) (words : ℕ → ℕ → ℕ × ℕ) (scenario : Scenario) (route : Route) (rows : Rows) (row : Row Mail OrderLine)

@@ -7,16 +7,16 @@ use Rattle.sc_base.proofs.Lemmas.{draw_is, same_name}
 use Rattle.sc_node_table.specs.Values.{Draw, Input, Got, Command, Base, Flight, Report, Route, OrderLine, OrderRefusal, OrderResult, Refused, Mail, MailBody, Request, Prepare, Promise, Accept, Accepted, Learn, Install, TxPrepare, TxWatch}
 use Rattle.sc_words.specs.declared.commands.orders.OrderRefusal.TheVariants.{NotLeader}
 use Rattle.sc_actor.specs.declared.rows.Input.TheVariants.{Tick, Go, Told}
-use Rattle.sc_words.proofs.PaxosProofs.Lemmas.{Each-among, Each-from, find_found}
-use Rattle.sc_group_table.specs.machine.Definitions.{refusal_of, state_after}
-use Rattle.sc_paxos_law.specs.Definitions.{IsLog, IsLawfulHistory}
-use Rattle.sc_node_table.specs.Definitions.{NodeState, ReplicaState, Place, Executed, name_of, settled, slots_ahead, last_slot, made_by, replica_of, with_replica, with_made, unknown, may_come, taken_by, routed, mailed, group_of_mail, group_of_order, ordered_of, ordered_row, ordered_command, untaken, named_refused, first_of_both, takes_name, has_drawn_all, ticked, tick_row, names_after_tick, node_table, listed}
-use Rattle.sc_meaning.specs.sound.Definitions.{Ahead}
-use Rattle.sc_law_groups.proofs.GroupProofs.Lemmas.{Steps, rule, first, birth, IsTrue, IsReplica, IsOneOf, IsNamedIn, IsNode, held}
-use Rattle.sc_law_walks.proofs.Lemmas.{either_way}
-use Rattle.sc_law_refusal.specs.refusal.Definitions.{IsBroughtBy, IsHeldOrBrought, replica_for, takers}
+use Rattle.sc_words.proofs.PaxosProofs.PaxosLemmas.{Each-among, Each-from, find_found}
+use Rattle.sc_group_table.specs.machine.MachineDefinitions.{refusal_of, state_after}
+use Rattle.sc_paxos_law.specs.PaxosLawDefinitions.{IsLog, IsLawfulHistory}
+use Rattle.sc_node_table.specs.NodeDefinitions.{NodeState, ReplicaState, Place, Executed, name_of, settled, slots_ahead, last_slot, made_by, replica_of, with_replica, with_made, unknown, may_come, taken_by, routed, mailed, group_of_mail, group_of_order, ordered_of, ordered_row, ordered_command, untaken, named_refused, first_of_both, takes_name, has_drawn_all, ticked, tick_row, names_after_tick, node_table, listed}
+use Rattle.sc_meaning.specs.sound.SoundDefinitions.{Ahead}
+use Rattle.sc_law_groups.proofs.GroupProofs.GroupLemmas.{Steps, rule, first, birth, IsTrue, IsReplica, IsOneOf, IsNamedIn, IsNode, held}
+use Rattle.sc_law_walks.proofs.WalkLemmas.{either_way}
+use Rattle.sc_law_refusal.specs.refusal.RefusalDefinitions.{IsBroughtBy, IsHeldOrBrought, replica_for, takers}
 use Rattle.sc_law_refusal.specs.refusal.Causes.{IsBrought}
-use Rattle.sc_law_refusal.specs.results.Definitions.{EndsOrder, ReportAs, RefusesLine, IsNotTaken, IsDismissed}
+use Rattle.sc_law_refusal.specs.results.ResultDefinitions.{EndsOrder, ReportAs, RefusesLine, IsNotTaken, IsDismissed}
 use Rattle.sc_law_refusal.proofs.RefusalProofs.NodeSteps.{put_among, children_among}
 use Rattle.sc_law_refusal.proofs.HeldCommands.{Held}
 use Rattle.sc_law_refusal.proofs.ResultsProofs.ReportedRows.{Waits, IsBack, HasStopped, Brings}

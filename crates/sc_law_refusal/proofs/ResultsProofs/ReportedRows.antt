@@ -4,22 +4,22 @@ use Rattle.std.proofs.lemmas.Bool.{cond_both}
 use Rattle.sc_base.specs.Definitions.{Among, Each}
 use Rattle.sc_node_table.specs.Values.{Ballot, Command, Noop, Call, Join, Leave, Split, Begin, GiveUp, Base, AnswerBody, OrderResult, Refused, Flight, Report, Mail, MailBody, Request, Prepare, Promise, Accept, Accepted, Learn, Install, Told}
 use Rattle.sc_words.specs.declared.commands.orders.OrderRefusal.TheVariants.{NotLeader}
-use Rattle.sc_group_table.specs.machine.Definitions.{applied, state_after}
-use Rattle.sc_group_table.specs.policy.Definitions.{is_reported}
-use Rattle.sc_words.specs.paxos.Definitions.{LeaderState, below, counted, promise_counted, without_flight_at}
-use Rattle.sc_words.proofs.PaxosProofs.Lemmas.{Each-among, Each-append, Each-weaker}
-use Rattle.sc_paxos_law.specs.Definitions.{IsLog, IsLawfulHistory, Accepted as AcceptedStep}
-use Rattle.sc_law_entries.specs.names.Definitions.{Opt}
-use Rattle.sc_law_entries.proofs.HistoryProofs.Lemmas.{applied_same}
+use Rattle.sc_group_table.specs.machine.MachineDefinitions.{applied, state_after}
+use Rattle.sc_group_table.specs.policy.PolicyDefinitions.{is_reported}
+use Rattle.sc_words.specs.paxos.PaxosDefinitions.{LeaderState, below, counted, promise_counted, without_flight_at}
+use Rattle.sc_words.proofs.PaxosProofs.PaxosLemmas.{Each-among, Each-append, Each-weaker}
+use Rattle.sc_paxos_law.specs.PaxosLawDefinitions.{IsLog, IsLawfulHistory, Accepted as AcceptedStep}
+use Rattle.sc_law_entries.specs.names.NameDefinitions.{Opt}
+use Rattle.sc_law_entries.proofs.HistoryProofs.HistoryLemmas.{applied_same}
 use Rattle.sc_law_entries.proofs.NamesProofs.EachFound.{opt_slot, slot_without, flight_without}
-use Rattle.sc_node_table.specs.Definitions.{ReplicaState, Place, name_of, next, at_slot, without_slot, without_request, open_nodes, ended, entered, jumped, forgotten, offered, put_back, answered_all, under_way, before_of, order_number, begun_result, spoken_number, spoken_mails, begun_reported, result_reported, went_on}
-use Rattle.sc_meaning.specs.sound.Definitions.{Ahead}
-use Rattle.sc_law_groups.proofs.GroupProofs.Lemmas.{IsLearnt, Steps, rule, first, birth, IsState, slot_among}
-use Rattle.sc_law_walks.specs.Definitions.{IsFiledOnMail}
-use Rattle.sc_law_walks.proofs.Lemmas.{below_round, promise_ballot, counted_ballot, either_way, back_any, TableFacts, TableStates, TableSays, TableWalk, TableTicks, all_heard, TableEntry, entry_holds}
+use Rattle.sc_node_table.specs.NodeDefinitions.{ReplicaState, Place, name_of, next, at_slot, without_slot, without_request, open_nodes, ended, entered, jumped, forgotten, offered, put_back, answered_all, under_way, before_of, order_number, begun_result, spoken_number, spoken_mails, begun_reported, result_reported, went_on}
+use Rattle.sc_meaning.specs.sound.SoundDefinitions.{Ahead}
+use Rattle.sc_law_groups.proofs.GroupProofs.GroupLemmas.{IsLearnt, Steps, rule, first, birth, IsState, slot_among}
+use Rattle.sc_law_walks.specs.WalkDefinitions.{IsFiledOnMail}
+use Rattle.sc_law_walks.proofs.WalkLemmas.{below_round, promise_ballot, counted_ballot, either_way, back_any, TableFacts, TableStates, TableSays, TableWalk, TableTicks, all_heard, TableEntry, entry_holds}
 use Rattle.sc_law_walks.proofs.PlaceWalks.{Parties}
 use Rattle.sc_law_walks.proofs.Talks.{all_sent, client_reported, one_replied, all_replied, vote_reported, watch_reported, outcome_said, next_one_asked, went_said, all_reminded}
-use Rattle.sc_law_refusal.specs.results.Definitions.{IsOf, EndsOrder, IfReported, ReportAs}
+use Rattle.sc_law_refusal.specs.results.ResultDefinitions.{IsOf, EndsOrder, IfReported, ReportAs}
 use Rattle.sc_law_refusal.proofs.ResultsProofs.Reports.{puts, parties_told, reported, begun_said, all_dismissed, order_ends, begun_ends, is_of}
 use Rattle.sc_law_refusal.proofs.HeldCommands.{Commands, Flights, Reports, Ready, Held, without_held, back_held, last_held, flying_held, polled_held, counted_held, must_held}
 use Rattle.sc_law_refusal.proofs.ResultsProofs.LoggedReplicas.{IsLogged, longer_is, enters, clears, unready, jumps}

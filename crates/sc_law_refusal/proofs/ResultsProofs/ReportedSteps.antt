@@ -7,19 +7,19 @@ use Rattle.sc_base.specs.Definitions.{Among, Drawer, next_name, same_ballot}
 use Rattle.sc_base.proofs.Lemmas.{ballot_is}
 use Rattle.sc_node_table.specs.Values.{Ballot, Draw, Command, Base, Order, OrderLine, OrderRefusal, OrderResult, Refused, Counted, Chosen, NotYet, Mail, MailBody, Request, Answer, Prepare, Promise, Accept, Accepted, Nack, Learn, Ask, Install, TxPrepare, TxVote, TxOutcome, TxElsewhere, TxWatch, TxWatched, Told}
 use Rattle.sc_words.specs.declared.commands.orders.Order.TheVariants as An
-use Rattle.sc_group_table.specs.machine.Definitions.{state_after}
-use Rattle.sc_group_table.specs.policy.Definitions.{is_reported, wished_order}
-use Rattle.sc_words.specs.paxos.Definitions.{LeaderState, counted}
-use Rattle.sc_paxos_law.specs.Definitions.{IsLog, IsLawfulHistory, Accepted as AcceptedStep}
+use Rattle.sc_group_table.specs.machine.MachineDefinitions.{state_after}
+use Rattle.sc_group_table.specs.policy.PolicyDefinitions.{is_reported, wished_order}
+use Rattle.sc_words.specs.paxos.PaxosDefinitions.{LeaderState, counted}
+use Rattle.sc_paxos_law.specs.PaxosLawDefinitions.{IsLog, IsLawfulHistory, Accepted as AcceptedStep}
 use Rattle.sc_law_entries.proofs.NamesProofs.EachFound.{slot_with}
-use Rattle.sc_node_table.specs.Definitions.{ReplicaState, Place, Executed, childless, name_of, next, at_slot, with_slot, set_at, has_room, leads, voted, vote_tallied, readied, accepted_row, executed, forgotten, ordered_command, ordered_row, queued_or_refused, untaken, result_sent, wished_line, policy_line, is_at_rest, waited_in, tick_row, mailed, made_by, named, installed_replica}
-use Rattle.sc_meaning.specs.sound.Definitions.{Ahead}
-use Rattle.sc_law_groups.proofs.GroupProofs.Lemmas.{IsLearnt, Steps, rule, first, birth, IsReplica, IsState}
-use Rattle.sc_law_walks.proofs.Lemmas.{counted_ballot}
+use Rattle.sc_node_table.specs.NodeDefinitions.{ReplicaState, Place, Executed, childless, name_of, next, at_slot, with_slot, set_at, has_room, leads, voted, vote_tallied, readied, accepted_row, executed, forgotten, ordered_command, ordered_row, queued_or_refused, untaken, result_sent, wished_line, policy_line, is_at_rest, waited_in, tick_row, mailed, made_by, named, installed_replica}
+use Rattle.sc_meaning.specs.sound.SoundDefinitions.{Ahead}
+use Rattle.sc_law_groups.proofs.GroupProofs.GroupLemmas.{IsLearnt, Steps, rule, first, birth, IsReplica, IsState}
+use Rattle.sc_law_walks.proofs.WalkLemmas.{counted_ballot}
 use Rattle.sc_law_walks.proofs.TableParts.{execution, pumps}
 use Rattle.sc_law_walks.proofs.TableRows as rows
 use Rattle.sc_law_walks.proofs.TableTicks as tick
-use Rattle.sc_law_refusal.specs.results.Definitions.{IsOf, EndsOrder, ReportAs}
+use Rattle.sc_law_refusal.specs.results.ResultDefinitions.{IsOf, EndsOrder, ReportAs}
 use Rattle.sc_law_refusal.proofs.ResultsProofs.Reports.{puts}
 use Rattle.sc_law_refusal.proofs.HeldCommands.{Flights, Reports, Held, last_held, counted_held, chosen_held}
 use Rattle.sc_law_refusal.proofs.ResultsProofs.LoggedReplicas.{is_logged, readies_more, makes, vote_chooses}

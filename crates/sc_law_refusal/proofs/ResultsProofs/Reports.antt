@@ -8,17 +8,17 @@ use Rattle.sc_words.specs.declared.commands.effects.Effect.TheVariants as Was
 use Rattle.sc_words.specs.declared.commands.orders.OrderRefusal.TheVariants.{NotLeader}
 use Rattle.sc_words.specs.declared.commands.orders.OrderResult.TheVariants.{Done, Committed, Aborted, Refused}
 use Rattle.sc_words.specs.declared.commands.votes.Outcome.TheVariants as Is
-use Rattle.sc_words.specs.commands.Definitions.{is_alone, refused_result, result_of}
-use Rattle.sc_group_table.specs.machine.Definitions.{Group, applied, begun_group, has_named, ordered, refusal_of, split_group, with_node, without_node}
-use Rattle.sc_words.proofs.PaxosProofs.Lemmas.{Each-append}
-use Rattle.sc_group_table.specs.policy.Definitions.{is_reported}
+use Rattle.sc_words.specs.commands.CommandDefinitions.{is_alone, refused_result, result_of}
+use Rattle.sc_group_table.specs.machine.MachineDefinitions.{Group, applied, begun_group, has_named, ordered, refusal_of, split_group, with_node, without_node}
+use Rattle.sc_words.proofs.PaxosProofs.PaxosLemmas.{Each-append}
+use Rattle.sc_group_table.specs.policy.PolicyDefinitions.{is_reported}
 use Rattle.sc_node_table.specs.declared.Before.{Before}
-use Rattle.sc_node_table.specs.Definitions.{ReplicaState, Place, name_of, under_way, sent, answered_all, answer_of, answered_or_put_back, order_result, effect_reported, announced, entered, before_of, before_in, begun_result, decided_result, dismissed, dismissed_all, ended, order_number, outcome_result, spoken, spoken_mails, spoken_number, begun_reported, result_sent, order_reported, result_reported, went_on}
+use Rattle.sc_node_table.specs.NodeDefinitions.{ReplicaState, Place, name_of, under_way, sent, answered_all, answer_of, answered_or_put_back, order_result, effect_reported, announced, entered, before_of, before_in, begun_result, decided_result, dismissed, dismissed_all, ended, order_number, outcome_result, spoken, spoken_mails, spoken_number, begun_reported, result_sent, order_reported, result_reported, went_on}
 use Rattle.sc_law_walks.proofs.Ways.{either_way}
 use Rattle.sc_law_walks.proofs.PlaceWalks.{IsToParty, Parties}
 use Rattle.sc_law_walks.proofs.Talks.{went_said, all_replied}
 use Rattle.sc_law_walks.proofs.RefusedOrders.{order_refused}
-use Rattle.sc_law_refusal.specs.results.Definitions.{IsOf, IsAtOnce, IsCommit, DecidesFor, FindsCause, EndsOrder, IfReported, ReportAs, said_of_entry, IsGivenBack, ReportsAreDecided}
+use Rattle.sc_law_refusal.specs.results.ResultDefinitions.{IsOf, IsAtOnce, IsCommit, DecidesFor, FindsCause, EndsOrder, IfReported, ReportAs, said_of_entry, IsGivenBack, ReportsAreDecided}
 
 module _ (me : ℕ) (Fact : ℕ → OrderResult → Type 0) where
   abbrev Q : List Mail → Type 0

@@ -5,9 +5,9 @@ use Rattle.sc_base.specs.Definitions.{Among}
 use Rattle.sc_node_table.specs.Values.{Draw, Seat, Row, Base, Command, GiveUp, OrderLine, Mail, MailBody, Request, Answer, Prepare, Promise, Accept, Accepted, Nack, Learn, Ask, Install, TxPrepare, TxVote, TxOutcome, TxElsewhere, TxWatch, TxWatched, Told, Node}
 use Rattle.sc_actor.specs.declared.rows.Input.TheVariants.{Tick}
 use Rattle.sc_actor.specs.Definitions.{mails, value}
-use Rattle.sc_node_table.specs.Definitions.{NodeState, ReplicaState, name_of}
+use Rattle.sc_node_table.specs.NodeDefinitions.{NodeState, ReplicaState, name_of}
 use Rattle.sc_scenario.specs.declared.scenario.scenarios.Scenario.{Scenario}
-use Rattle.sc_meaning.specs.sound.Definitions.{Ahead, Player, births, decided_log, player_table}
+use Rattle.sc_meaning.specs.sound.SoundDefinitions.{Ahead, Player, births, decided_log, player_table}
 use Rattle.sc_law_refusal.specs.refusal.Causes.{HoldsCommand, IsImpatient}
 use Rattle.sc_law_refusal.specs.refusal.RowCauses.{Rows, Acts, ticks_in}
 

@@ -3,9 +3,9 @@ use Rattle.std.specs.Prelude.{◌≡◌, ℕ, ◌≤◌, List, length, filter}
 use Rattle.sc_base.specs.Definitions.{Each}
 use Rattle.sc_node_table.specs.Values.{Command, OrderLine, Mail, Input, Row, Node}
 use Rattle.sc_actor.specs.Definitions.{value}
-use Rattle.sc_node_table.specs.Definitions.{NodeState, node_table, is_request_of, ReplicaState}
+use Rattle.sc_node_table.specs.NodeDefinitions.{NodeState, node_table, is_request_of, ReplicaState}
 use Rattle.sc_scenario.specs.declared.scenario.scenarios.Scenario.{Scenario}
-use Rattle.sc_meaning.specs.sound.Definitions.{Ahead, node_seat, player_table}
+use Rattle.sc_meaning.specs.sound.SoundDefinitions.{Ahead, node_seat, player_table}
 
 -- the number of these commands that are requests of a client
 abbrev pub calls_of : ℕ → List Command → ℕ

@@ -4,12 +4,12 @@ use Rattle.std.specs.Prelude.{◌≡◌, ℕ, ◌+◌, ◌<◌, ◌≤◌, Bool,
 use Rattle.sc_base.specs.Definitions.{Among, Each, Drawer, client_actor}
 use Rattle.sc_node_table.specs.Values.{Draw, Noted, Op, Input, Got, Body, Command, Call, GiveUp, Base, Coordinating, OrderLine, Heard, AnswerBody, Value, NotLeader, NotMine, Gone, Stale, Mail, MailBody, Request, Answer, Prepare, Promise, Accept, Accepted, Nack, Learn, Ask, Install, TxPrepare, TxVote, TxOutcome, TxElsewhere, TxWatch, TxWatched, Told}
 use Rattle.sc_actor.specs.declared.rows.Input.TheVariants.{Tick, Go, Told as OrderInput}
-use Rattle.sc_words.specs.ideal.Definitions.{key_of, holds_key}
-use Rattle.sc_group_table.specs.machine.Definitions.{Group, state_after, applied}
-use Rattle.sc_words.specs.paxos.Definitions.{LogState, next_of, log_cut}
+use Rattle.sc_words.specs.ideal.IdealDefinitions.{key_of, holds_key}
+use Rattle.sc_group_table.specs.machine.MachineDefinitions.{Group, state_after, applied}
+use Rattle.sc_words.specs.paxos.PaxosDefinitions.{LogState, next_of, log_cut}
 use Rattle.sc_node_table.specs.declared.ReplicaInput.{ReplicaInput}
 use Rattle.sc_node_table.specs.declared.ReplicaInput.TheVariants as Given
-use Rattle.sc_node_table.specs.Definitions.{has_act, is_giving_up, answer_of, with_entry, answered, admits_requests, patience, ReplicaState, Place, floor_of, name_of, next, flying, listed, settled, stepped, same_command}
+use Rattle.sc_node_table.specs.NodeDefinitions.{has_act, is_giving_up, answer_of, with_entry, answered, admits_requests, patience, ReplicaState, Place, floor_of, name_of, next, flying, listed, settled, stepped, same_command}
 
 -- ---- what was asked
 

@@ -2,7 +2,7 @@
 use Rattle.std.specs.Prelude.{◌≡◌, ℕ, ◌+◌, nat_le, List, [], ◌∷◌, ◌++◌, length, Option, Some, None, ◌⊎◌, if◌then◌else◌}
 use Rattle.sc_node_table.specs.Values.{Op, Reply, Input, OrderLine, Mail}
 use Rattle.sc_actor.specs.declared.rows.Input.TheVariants.{Go}
-use Rattle.sc_client_table.specs.table.Definitions.{Client, InTurn, IsReplyTo, Waits}
+use Rattle.sc_client_table.specs.table.TableDefinitions.{Client, InTurn, IsReplyTo, Waits}
 
 -- a number, where there is a request with it
 abbrev pub number_in : List Op → ℕ → Option ℕ

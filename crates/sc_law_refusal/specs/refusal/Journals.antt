@@ -3,10 +3,10 @@ use Rattle.std.specs.Prelude.{◌≡◌, ℕ, ◌∷◌, ◌++◌}
 use Rattle.sc_base.specs.Definitions.{Among}
 use Rattle.sc_node_table.specs.Values.{Seat, Row, OrderLine, Mail, Node}
 use Rattle.sc_actor.specs.Definitions.{value}
-use Rattle.sc_node_table.specs.Definitions.{NodeState, slots_ahead}
+use Rattle.sc_node_table.specs.NodeDefinitions.{NodeState, slots_ahead}
 use Rattle.sc_scenario.specs.scenario.Definitions.{IsValid}
 use Rattle.sc_scenario.specs.declared.scenario.scenarios.Scenario.{Scenario}
-use Rattle.sc_meaning.specs.sound.Definitions.{Ahead, Lawful, Player, births, player_table}
+use Rattle.sc_meaning.specs.sound.SoundDefinitions.{Ahead, Lawful, Player, births, player_table}
 use Rattle.sc_law_refusal.specs.queue.OneCall.{EachKeepsOneCall}
 use Rattle.sc_law_refusal.specs.patience.Patience.{GivesUpInTime}
 use Rattle.sc_law_refusal.specs.refusal.RowCauses.{Rows, RowHasCauses}

@@ -3,7 +3,7 @@ use Rattle.std.specs.Prelude.{◌≡◌, ℕ, ◌≤◌, true, Option, None, Som
 use Rattle.sc_base.specs.Definitions.{Among, Each, client_actor}
 use Rattle.sc_node_table.specs.Values.{Draw, Op, Input, Got, GiveUp, OrderLine, AnswerBody, NotLeader, Mail, Request}
 use Rattle.sc_actor.specs.declared.rows.Input.TheVariants.{Tick, Go, Told}
-use Rattle.sc_node_table.specs.Definitions.{NodeState, group_of_mail, group_of_order, replica_of, node_table, ReplicaState, name_of, listed}
+use Rattle.sc_node_table.specs.NodeDefinitions.{NodeState, group_of_mail, group_of_order, replica_of, node_table, ReplicaState, name_of, listed}
 use Rattle.sc_law_refusal.specs.refusal.Causes.{IfAnswer, IsNotLeader, MayGiveUp, StepHasCauses, ends_queued}
 
 -- the replica of the group that an input is for, if it is for one and there is a replica

@@ -5,11 +5,11 @@ use Rattle.sc_base.specs.Definitions.{same_ballot, same_draw}
 use Rattle.sc_node_table.specs.Values.{Ballot, Draw, Seat, Event, Deliver, Tick, Go, Crash, Drop, Again, Input, Row, OrderLine, Mail, Node, Client}
 use Rattle.sc_actor.specs.declared.rows.Event.TheVariants.{Told}
 use Rattle.sc_actor.specs.Definitions.{mails, input_of, value}
-use Rattle.sc_group_table.specs.machine.Definitions.{is_coordinating}
-use Rattle.sc_client_table.specs.table.Definitions.{Client as ClientState}
-use Rattle.sc_node_table.specs.Definitions.{NodeState, ReplicaState, name_of, settled}
+use Rattle.sc_group_table.specs.machine.MachineDefinitions.{is_coordinating}
+use Rattle.sc_client_table.specs.table.TableDefinitions.{Client as ClientState}
+use Rattle.sc_node_table.specs.NodeDefinitions.{NodeState, ReplicaState, name_of, settled}
 use Rattle.sc_scenario.specs.declared.scenario.scenarios.Scenario.{Scenario}
-use Rattle.sc_meaning.specs.sound.Definitions.{Ahead, Player, births, player_table}
+use Rattle.sc_meaning.specs.sound.SoundDefinitions.{Ahead, Player, births, player_table}
 use Rattle.sc_law_refusal.specs.refusal.ClientTurns.{KeepsTurn}
 use Rattle.sc_law_refusal.specs.refusal.NodeCauses.{AnswersHaveCauses, ActsHaveCauses, TakesRequests}
 

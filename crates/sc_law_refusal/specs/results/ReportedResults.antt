@@ -5,10 +5,10 @@ use Rattle.sc_node_table.specs.Values.{Base, Command, Input, Mail, Node, OrderLi
 use Rattle.sc_actor.specs.declared.rows.Input.TheVariants.{Told}
 use Rattle.sc_words.specs.declared.commands.orders.OrderRefusal.TheVariants.{NotLeader}
 use Rattle.sc_words.specs.declared.commands.orders.OrderResult.TheVariants.{Done, Committed, Aborted, Refused}
-use Rattle.sc_group_table.specs.machine.Definitions.{group_of, refusal_of, state_after}
-use Rattle.sc_node_table.specs.Definitions.{NodeState, ReplicaState, group_of_order, ordered_command, replica_of, settled, takes_name}
+use Rattle.sc_group_table.specs.machine.MachineDefinitions.{group_of, refusal_of, state_after}
+use Rattle.sc_node_table.specs.NodeDefinitions.{NodeState, ReplicaState, group_of_order, ordered_command, replica_of, settled, takes_name}
 use Rattle.sc_scenario.specs.declared.scenario.scenarios.Scenario.{Scenario}
-use Rattle.sc_meaning.specs.sound.Definitions.{Ahead, Player, decided_log, groups_at}
+use Rattle.sc_meaning.specs.sound.SoundDefinitions.{Ahead, Player, decided_log, groups_at}
 use Rattle.sc_law_refusal.specs.refusal.Causes.{IsHeldOrBrought}
 use Rattle.sc_law_refusal.specs.refusal.NodeCauses.{Became, takers}
 use Rattle.sc_law_refusal.specs.refusal.RowCauses.{Rows, Acts}

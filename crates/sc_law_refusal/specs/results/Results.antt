@@ -6,9 +6,9 @@ use Rattle.sc_words.specs.declared.commands.effects.Effect.TheVariants as Was
 use Rattle.sc_words.specs.declared.commands.orders.OrderRefusal.TheVariants.{NotLeader}
 use Rattle.sc_words.specs.declared.commands.orders.OrderResult.TheVariants.{Done, Committed, Aborted, Refused}
 use Rattle.sc_words.specs.declared.commands.votes.Outcome.TheVariants as Is
-use Rattle.sc_words.specs.commands.Definitions.{is_alone}
-use Rattle.sc_group_table.specs.machine.Definitions.{Group, applied, refusal_of}
-use Rattle.sc_node_table.specs.Definitions.{ReplicaState, announced, before_of, ended, entered, ordered_row, spoken, result_sent, untaken}
+use Rattle.sc_words.specs.commands.CommandDefinitions.{is_alone}
+use Rattle.sc_group_table.specs.machine.MachineDefinitions.{Group, applied, refusal_of}
+use Rattle.sc_node_table.specs.NodeDefinitions.{ReplicaState, announced, before_of, ended, entered, ordered_row, spoken, result_sent, untaken}
 
 -- ---- how an entry ends an order
 

@@ -4,15 +4,15 @@ use Rattle.std.proofs.lemmas.Bool.{and_from, le-leb, lt-ltb}
 use Rattle.sc_base.specs.Definitions.{Each}
 use Rattle.sc_node_table.specs.Values.{Order, Merge, Repart, Migrate}
 use Rattle.sc_words.specs.declared.commands.orders.Order.TheVariants.{Join, Leave, Split}
-use Rattle.sc_live_orderly.specs.Definitions.{Nothing, LinesGiveAllowedOrders}
+use Rattle.sc_live_orderly.specs.OrderlyDefinitions.{Nothing, LinesGiveAllowedOrders}
 use Rattle.sc_live_orderly.proofs.GivenOrders.{spaced_are_calm, told_so}
-use Rattle.sc_words.proofs.PaxosProofs.Lemmas.{Each-from_All}
+use Rattle.sc_words.proofs.PaxosProofs.PaxosLemmas.{Each-from_All}
 use Rattle.sc_scenario.specs.scenario.Definitions.{IsUpTo, IsBoundedOrder, IsBoundedLine, ValidScenariosAreBounded}
 use Rattle.sc_scenario.specs.declared.scenario.scenarios.Scenario.{Scenario}
 use Rattle.sc_scenario.specs.declared.scenario.scenarios.SchedLine.{SchedLine}
 use Rattle.sc_scenario.specs.declared.scenario.scenarios.SchedLine.TheVariants.{Go, Deliver, Drop, Again, Tick, Crash, Told, Settle, Free, Storm}
-use Rattle.sc_meaning.specs.sound.Definitions.{line_of, schedule, as_nodes, system_of}
-use Rattle.sc_live_plain.specs.Definitions.{CalmLinesAreSpaced}
+use Rattle.sc_meaning.specs.sound.SoundDefinitions.{line_of, schedule, as_nodes, system_of}
+use Rattle.sc_live_plain.specs.PlainDefinitions.{CalmLinesAreSpaced}
 use Rattle.sc_live_answers.specs.GivenOrders.{names_nodes, may_be_given, OrdersMayBeGiven}
 
 up_to : (most n : ℕ) → IsUpTo most n → (leb 1 n && leb n most) ≡ true

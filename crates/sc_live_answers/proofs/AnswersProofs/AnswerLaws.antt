@@ -1,11 +1,11 @@
 -- What the budget of a calm scenario covers, and where its lines of deliveries end quiet: what is known of births, lines and orders, put together.
 use Rattle.sc_live_answers.proofs.AnswersProofs.AllowedOrders.{orders_so}
 use Rattle.sc_scenario.proofs.ScenarioProofs.Lemmas.{valid_scenarios_are_bounded}
-use Rattle.sc_live_plain.proofs.Lemmas.{calm_lines_are_spaced, plain_lines_end_quiet}
+use Rattle.sc_live_plain.proofs.PlainLemmas.{calm_lines_are_spaced, plain_lines_end_quiet}
 use Rattle.sc_live_answers.specs.GivenOrders.{OrdersMayBeGiven}
 use Rattle.sc_live_answers.proofs.AnswersProofs.LineEnds.{calm_end_quiet}
-use Rattle.sc_live_steps.proofs.CalmStepsProofs.Lemmas.{kept_calm_ends_quiet}
-use Rattle.sc_live_answers.specs.Definitions.{CalmLinesEndQuiet, QuietJournalsBegin, CalmJournalsAreShort}
+use Rattle.sc_live_steps.proofs.CalmStepsProofs.CalmStepLemmas.{kept_calm_ends_quiet}
+use Rattle.sc_live_answers.specs.AnswerDefinitions.{CalmLinesEndQuiet, QuietJournalsBegin, CalmJournalsAreShort}
 use Rattle.sc_live_answers.proofs.QuietProofs.QuietBeginnings.{journals_begin}
 use Rattle.sc_live_answers.proofs.AnswersProofs.ShortJournals.{journals_short}
 

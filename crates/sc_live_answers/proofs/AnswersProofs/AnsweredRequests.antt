@@ -9,20 +9,20 @@ use Rattle.sc_node_table.specs.Values.{Reply, Base, OrderLine, Mail, Seat, Row, 
 use Rattle.sc_actor.specs.declared.schedules.Line.TheVariants as line
 use Rattle.sc_actor.specs.Definitions.{value, System, has_started, IsLawful, is_quiet, unsettled}
 use Rattle.sc_actor.proofs.Lemmas.{lawful-prefix}
-use Rattle.sc_client_table.specs.table.Definitions.{Client as ClientState}
-use Rattle.sc_node_table.specs.Definitions.{numbers_from}
+use Rattle.sc_client_table.specs.table.TableDefinitions.{Client as ClientState}
+use Rattle.sc_node_table.specs.NodeDefinitions.{numbers_from}
 use Rattle.sc_paxos_law.proofs.Lemmas.{Among-left, Among-right}
-use Rattle.sc_words.proofs.PaxosProofs.Lemmas.{Each-among}
-use Rattle.sc_live_orderly.proofs.Lemmas.{was_quiet_started, seat_found}
+use Rattle.sc_words.proofs.PaxosProofs.PaxosLemmas.{Each-among}
+use Rattle.sc_live_orderly.proofs.OrderlyLemmas.{was_quiet_started, seat_found}
 use Rattle.sc_scenario.specs.scenario.Definitions.{IsValid, ValidScenariosAreBounded}
 use Rattle.sc_scenario.specs.declared.scenario.scenarios.Asks.{Asks}
 use Rattle.sc_scenario.specs.declared.scenario.scenarios.Scenario.{Scenario}
 use Rattle.sc_scenario.specs.declared.scenario.scenarios.SchedLine.TheVariants.{Go}
-use Rattle.sc_meaning.specs.sound.Definitions.{Player, player_table, node_seat, client_seat, route_of, births, line_of, schedule, system_of, as_nodes, replies_of, Lawful, Whole, kept_replies}
-use Rattle.sc_law_groups.specs.whole.Definitions.{ValidJournalsAreSound}
-use Rattle.sc_live_plain.specs.Definitions.{AreAnswered, IsQuietJournal}
-use Rattle.sc_live_plain.proofs.Lemmas.{IsStage, stage, map_among, replies_more, first_delivery, many_line}
-use Rattle.sc_live_steps.specs.calm.Definitions.{IsAnswered}
+use Rattle.sc_meaning.specs.sound.SoundDefinitions.{Player, player_table, node_seat, client_seat, route_of, births, line_of, schedule, system_of, as_nodes, replies_of, Lawful, Whole, kept_replies}
+use Rattle.sc_law_groups.specs.whole.WholeDefinitions.{ValidJournalsAreSound}
+use Rattle.sc_live_plain.specs.PlainDefinitions.{AreAnswered, IsQuietJournal}
+use Rattle.sc_live_plain.proofs.PlainLemmas.{IsStage, stage, map_among, replies_more, first_delivery, many_line}
+use Rattle.sc_live_steps.specs.calm.CalmDefinitions.{IsAnswered}
 
 abbrev Rows : Type 0
 Rows = List (Row Mail OrderLine)

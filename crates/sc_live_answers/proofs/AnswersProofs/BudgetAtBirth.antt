@@ -5,14 +5,14 @@ use Rattle.std.proofs.lemmas.Bool.{cond_both}
 use Rattle.std.proofs.lemmas.List.Sums.{sum_by-cons, sum_by-append}
 use Rattle.std.proofs.Math.Nat.{mul_comm, mul_left_comm, mul-add, mul-le-mul_left}
 use Rattle.sc_node_table.specs.Values.{Base, Seat}
-use Rattle.sc_node_table.specs.Definitions.{numbers_from}
+use Rattle.sc_node_table.specs.NodeDefinitions.{numbers_from}
 use Rattle.sc_scenario.specs.declared.scenario.scenarios.Asks.{Asks}
 use Rattle.sc_scenario.specs.declared.scenario.scenarios.Scenario.{Scenario}
-use Rattle.sc_meaning.specs.sound.Definitions.{Player, births, node_seat, client_seat, client_seats, route_of, as_nodes}
-use Rattle.sc_live_steps.specs.calm.Definitions.{Chart, birth_owes, births_owe}
-use Rattle.sc_live_plain.specs.Definitions.{requests_of, orders_of, calm_budget_of}
-use Rattle.sc_live_plain.proofs.Lemmas.{shares, sum_mapped, none_together}
-use Rattle.sc_live_answers.specs.Definitions.{IsFirstChart, BirthsAreCovered}
+use Rattle.sc_meaning.specs.sound.SoundDefinitions.{Player, births, node_seat, client_seat, client_seats, route_of, as_nodes}
+use Rattle.sc_live_steps.specs.calm.CalmDefinitions.{Chart, birth_owes, births_owe}
+use Rattle.sc_live_plain.specs.PlainDefinitions.{requests_of, orders_of, calm_budget_of}
+use Rattle.sc_live_plain.proofs.PlainLemmas.{shares, sum_mapped, none_together}
+use Rattle.sc_live_answers.specs.AnswerDefinitions.{IsFirstChart, BirthsAreCovered}
 
 -- a client with a request owes no more than its share: for each request, and for each order
 share_of : (share reach requests orders : ℕ) → requests + orders ≡ share → 1 ≤ requests

@@ -5,17 +5,17 @@ use Rattle.std.proofs.lemmas.Bool.{cond-true, cond-false, cases_Bool, or_left, o
 use Rattle.sc_base.proofs.Lemmas.{draw_is, same_name}
 use Rattle.sc_base.specs.Definitions.{Among, same_draw}
 use Rattle.sc_node_table.specs.Values.{Draw, Base, Route, Seat}
-use Rattle.sc_live_orderly.specs.Definitions.{orders}
+use Rattle.sc_live_orderly.specs.OrderlyDefinitions.{orders}
 use Rattle.sc_scenario.specs.scenario.Definitions.{IsValid, ValidScenariosAreBounded}
 use Rattle.sc_scenario.specs.declared.scenario.scenarios.Scenario.{Scenario}
-use Rattle.sc_node_table.specs.Definitions.{ReplicaState, name_of}
-use Rattle.sc_meaning.specs.sound.Definitions.{Player, births, as_nodes, Lawful}
-use Rattle.sc_live_steps.specs.calm.Definitions.{players, Ways, StandsQuiet, Rows}
-use Rattle.sc_live_journals.specs.rows.Definitions.{view_at}
-use Rattle.sc_live_journals.specs.charts.Definitions.{all_replicas, latest_in, way_by, far_at, chart_at, quiet_prefix}
-use Rattle.sc_live_plain.specs.Definitions.{replicas_after, setting_at, DoHintsRise, AreFramesOf, Frame}
-use Rattle.sc_live_plain.proofs.Lemmas.{some_is}
-use Rattle.sc_live_answers.specs.Definitions.{AreReached, LawfulReplicasAreNamedOnce, AreAtNodes, RestsAt, ChartHintsRise, ViewsAgree}
+use Rattle.sc_node_table.specs.NodeDefinitions.{ReplicaState, name_of}
+use Rattle.sc_meaning.specs.sound.SoundDefinitions.{Player, births, as_nodes, Lawful}
+use Rattle.sc_live_steps.specs.calm.CalmDefinitions.{players, Ways, StandsQuiet, Rows}
+use Rattle.sc_live_journals.specs.rows.RowDefinitions.{view_at}
+use Rattle.sc_live_journals.specs.charts.ChartDefinitions.{all_replicas, latest_in, way_by, far_at, chart_at, quiet_prefix}
+use Rattle.sc_live_plain.specs.PlainDefinitions.{replicas_after, setting_at, DoHintsRise, AreFramesOf, Frame}
+use Rattle.sc_live_plain.proofs.PlainLemmas.{some_is}
+use Rattle.sc_live_answers.specs.AnswerDefinitions.{AreReached, LawfulReplicasAreNamedOnce, AreAtNodes, RestsAt, ChartHintsRise, ViewsAgree}
 use Rattle.sc_live_answers.proofs.QuietProofs.QuietViews.{all_seen, seen_all}
 
 -- ---- ways

@@ -6,14 +6,14 @@ use Rattle.sc_base.proofs.Lemmas.{draw_is, same_name}
 use Rattle.sc_base.specs.Definitions.{Among, same_draw}
 use Rattle.sc_node_table.specs.Values.{Draw, Core, Lock, Free, Coordinating, Promised, Watching, Body, Heard, Seat}
 use Rattle.sc_words.specs.declared.commands.bodies.Body.TheVariants as At
-use Rattle.sc_node_table.specs.Definitions.{asked_link, watcher_link, ReplicaState, name_of}
-use Rattle.sc_meaning.specs.sound.Definitions.{Player}
-use Rattle.sc_live_steps.specs.calm.Definitions.{Rows}
-use Rattle.sc_live_journals.specs.charts.Definitions.{all_replicas, asked_by, asked_in}
-use Rattle.sc_live_steps.specs.orders.Definitions.{Turn, First, Lone, Next, is_watch, Bond, Unbound, Asking, Bound, Here, Scene, turn_of, bond_in, bond_of, Leg, Mailed, Filed, closing, heard, bound_by, parties_of, Stage, Still, Ordered, Asks, SentOn, Weighs, Replied, Recorded, Closes, ClosesBoth, IsAt}
-use Rattle.sc_live_steps.proofs.OrderStepsProofs.Lemmas.{tokens, tagged, found}
-use Rattle.sc_live_journals.specs.scenes.Definitions.{scene_at, ScenesDescribe}
-use Rattle.sc_live_answers.specs.Definitions.{AllLeadAlone, StagesAsk}
+use Rattle.sc_node_table.specs.NodeDefinitions.{asked_link, watcher_link, ReplicaState, name_of}
+use Rattle.sc_meaning.specs.sound.SoundDefinitions.{Player}
+use Rattle.sc_live_steps.specs.calm.CalmDefinitions.{Rows}
+use Rattle.sc_live_journals.specs.charts.ChartDefinitions.{all_replicas, asked_by, asked_in}
+use Rattle.sc_live_steps.specs.orders.OrderDefinitions.{Turn, First, Lone, Next, is_watch, Bond, Unbound, Asking, Bound, Here, Scene, turn_of, bond_in, bond_of, Leg, Mailed, Filed, closing, heard, bound_by, parties_of, Stage, Still, Ordered, Asks, SentOn, Weighs, Replied, Recorded, Closes, ClosesBoth, IsAt}
+use Rattle.sc_live_steps.proofs.OrderStepsProofs.OrderStepLemmas.{tokens, tagged, found}
+use Rattle.sc_live_journals.specs.scenes.SceneDefinitions.{scene_at, ScenesDescribe}
+use Rattle.sc_live_answers.specs.AnswerDefinitions.{AllLeadAlone, StagesAsk}
 
 -- ---- who asks in a stage
 

@@ -3,18 +3,18 @@ use Rattle.std.proofs.Common.{◌≡◌, ℕ, Bool, true, cond, List, [], ◌∷
 use Rattle.sc_base.specs.Definitions.{Among, Each}
 use Rattle.sc_node_table.specs.Values.{Draw, OrderLine, Mail, Seat, Event}
 use Rattle.sc_actor.specs.Definitions.{mails, copies, is_quiet, value, System, row_of, numbers_of}
-use Rattle.sc_live_orderly.specs.Definitions.{is_born, mail_with, under_way, AreInTime}
-use Rattle.sc_words.proofs.PaxosProofs.Lemmas.{Each-from}
+use Rattle.sc_live_orderly.specs.OrderlyDefinitions.{is_born, mail_with, under_way, AreInTime}
+use Rattle.sc_words.proofs.PaxosProofs.PaxosLemmas.{Each-from}
 use Rattle.sc_scenario.specs.declared.scenario.scenarios.Scenario.{Scenario}
-use Rattle.sc_meaning.specs.sound.Definitions.{Player, player_table, births, as_nodes}
-use Rattle.sc_live_steps.specs.calm.Definitions.{players, MayFollow, Rows}
-use Rattle.sc_live_journals.specs.rows.Definitions.{view_at, with_event}
-use Rattle.sc_live_journals.specs.charts.Definitions.{all_replicas, asked_in, chart_at, WaitsForNone, AsksSame, ChartsFollow}
-use Rattle.sc_live_steps.specs.orders.Definitions.{Turn, First, Lone, Next, is_watch, Elsewhere, Asking, Here, errand_by, Deal, Stage, Asks, SentOn, IsAt, closed, OfQuestion, OfVote, OfOutcome, LastTakes, OneTakes, TwoTakes, LastFreed, OneFreed, TwoFreed, IsStepOf, ByRest, ByOrder, ByChange, ByDeal, ByPassing, ByAsking, ByTaking, ByVote, ByNo, ByHearing, ByDeciding, ByEnd}
-use Rattle.sc_live_steps.proofs.OrderStepsProofs.Lemmas.{among-left, among-right}
-use Rattle.sc_live_journals.specs.scenes.Definitions.{StageAfter, left_after, scene_at}
-use Rattle.sc_live_journals.proofs.ScenesProofs.Lemmas.{lead_runs}
-use Rattle.sc_live_answers.specs.Definitions.{AllLeadAlone, StagesAsk, OrderChartsFollow}
+use Rattle.sc_meaning.specs.sound.SoundDefinitions.{Player, player_table, births, as_nodes}
+use Rattle.sc_live_steps.specs.calm.CalmDefinitions.{players, MayFollow, Rows}
+use Rattle.sc_live_journals.specs.rows.RowDefinitions.{view_at, with_event}
+use Rattle.sc_live_journals.specs.charts.ChartDefinitions.{all_replicas, asked_in, chart_at, WaitsForNone, AsksSame, ChartsFollow}
+use Rattle.sc_live_steps.specs.orders.OrderDefinitions.{Turn, First, Lone, Next, is_watch, Elsewhere, Asking, Here, errand_by, Deal, Stage, Asks, SentOn, IsAt, closed, OfQuestion, OfVote, OfOutcome, LastTakes, OneTakes, TwoTakes, LastFreed, OneFreed, TwoFreed, IsStepOf, ByRest, ByOrder, ByChange, ByDeal, ByPassing, ByAsking, ByTaking, ByVote, ByNo, ByHearing, ByDeciding, ByEnd}
+use Rattle.sc_live_steps.proofs.OrderStepsProofs.OrderStepLemmas.{among-left, among-right}
+use Rattle.sc_live_journals.specs.scenes.SceneDefinitions.{StageAfter, left_after, scene_at}
+use Rattle.sc_live_journals.proofs.ScenesProofs.SceneLemmas.{lead_runs}
+use Rattle.sc_live_answers.specs.AnswerDefinitions.{AllLeadAlone, StagesAsk, OrderChartsFollow}
 use Rattle.sc_live_answers.proofs.OrdersProofs.OrderDeliveries.{among_all, named_so, runs_there}
 use Rattle.sc_live_answers.proofs.ErrandsProofs.Questions.{elsewhere_stage}
 use Rattle.sc_live_answers.proofs.ErrandsProofs.QuestionTargets.{errand_there}

@@ -6,22 +6,22 @@ use Rattle.std.proofs.lemmas.Bool.{cases_lt}
 use Rattle.sc_base.specs.Definitions.{Each}
 use Rattle.sc_node_table.specs.Values.{Base, OrderLine, Mail, MailBody, Told, Node, Client, Seat, Row}
 use Rattle.sc_actor.specs.Definitions.{mails, copies, System, numbers_of, is_delivery, is_quiet, unsettled}
-use Rattle.sc_live_orderly.specs.Definitions.{deliveries, orders, is_born, HasRoom, under_way, AreInTime, AreSpaced, Nothing, IsMeasure, orders_given}
+use Rattle.sc_live_orderly.specs.OrderlyDefinitions.{deliveries, orders, is_born, HasRoom, under_way, AreInTime, AreSpaced, Nothing, IsMeasure, orders_given}
 use Rattle.sc_live_orderly.proofs.GivenOrders.{few_told, spaced_are_calm}
-use Rattle.sc_live_orderly.proofs.Lemmas.{count_push, rows_in_time, deliveries_and_orders, settled_in_time, uncut_before}
-use Rattle.sc_words.proofs.PaxosProofs.Lemmas.{Each-among, Each-from}
+use Rattle.sc_live_orderly.proofs.OrderlyLemmas.{count_push, rows_in_time, deliveries_and_orders, settled_in_time, uncut_before}
+use Rattle.sc_words.proofs.PaxosProofs.PaxosLemmas.{Each-among, Each-from}
 use Rattle.sc_actor.proofs.Lemmas.{journal_counts}
 use Rattle.sc_mail.specs.Weight.{body_weight}
 use Rattle.sc_scenario.specs.scenario.Definitions.{IsValid, ValidScenariosAreBounded}
 use Rattle.sc_scenario.specs.declared.scenario.scenarios.Scenario.{Scenario}
-use Rattle.sc_meaning.specs.sound.Definitions.{Player, births, schedule, as_nodes, Lawful, system_of}
-use Rattle.sc_law_groups.proofs.WholeProofs.Lemmas.{all_apart}
-use Rattle.sc_law_groups.specs.whole.Definitions.{ValidJournalsAreSound}
-use Rattle.sc_live_steps.specs.calm.Definitions.{Chart, players, run_owes, KeptCalmIsMeasured, IsDelivered, RestingOwesLittle, births_owe, Rows}
-use Rattle.sc_live_journals.specs.mail.Definitions.{IsPosted, IsPlayers, IsNodesBody, IsClientsBody, MailIsPosted, DesksAreNotBorn}
-use Rattle.sc_live_plain.specs.Definitions.{IsQuietJournal, budget_of, orders_of, calm_budget_of, IsCalm, IsCalmAtBudget, RoomyScenariosAreCalm, CalmLinesAreSpaced, PlainLinesEndQuiet, PlainJournalsAreLight, PlainRequestsAreAnswered}
-use Rattle.sc_live_plain.proofs.Lemmas.{IsStage, stage, roomy_scenarios_are_calm}
-use Rattle.sc_live_answers.specs.Definitions.{charts_of, CalmJournalsAreCharted, CalmJournalsGoOn, CalmLinesSettle, CalmJournalsRest, SettledJournalsRest, TimelyJournalsRest, SettledRequestsAreAnswered, CalmRequestsAreAnswered, IsCalmJournal, IsPrefixOf, calm_deliveries_of, AreCharted, CalmLinesEndQuiet, CalmJournalsAreShort, AreReported}
+use Rattle.sc_meaning.specs.sound.SoundDefinitions.{Player, births, schedule, as_nodes, Lawful, system_of}
+use Rattle.sc_law_groups.proofs.WholeProofs.WholeLemmas.{all_apart}
+use Rattle.sc_law_groups.specs.whole.WholeDefinitions.{ValidJournalsAreSound}
+use Rattle.sc_live_steps.specs.calm.CalmDefinitions.{Chart, players, run_owes, KeptCalmIsMeasured, IsDelivered, RestingOwesLittle, births_owe, Rows}
+use Rattle.sc_live_journals.specs.mail.MailDefinitions.{IsPosted, IsPlayers, IsNodesBody, IsClientsBody, MailIsPosted, DesksAreNotBorn}
+use Rattle.sc_live_plain.specs.PlainDefinitions.{IsQuietJournal, budget_of, orders_of, calm_budget_of, IsCalm, IsCalmAtBudget, RoomyScenariosAreCalm, CalmLinesAreSpaced, PlainLinesEndQuiet, PlainJournalsAreLight, PlainRequestsAreAnswered}
+use Rattle.sc_live_plain.proofs.PlainLemmas.{IsStage, stage, roomy_scenarios_are_calm}
+use Rattle.sc_live_answers.specs.AnswerDefinitions.{charts_of, CalmJournalsAreCharted, CalmJournalsGoOn, CalmLinesSettle, CalmJournalsRest, SettledJournalsRest, TimelyJournalsRest, SettledRequestsAreAnswered, CalmRequestsAreAnswered, IsCalmJournal, IsPrefixOf, calm_deliveries_of, AreCharted, CalmLinesEndQuiet, CalmJournalsAreShort, AreReported}
 use Rattle.sc_live_answers.specs.GivenOrders.{OrdersMayBeGiven}
 use Rattle.sc_live_answers.proofs.AnswersProofs.AnsweredRequests.{answered_calmly}
 use Rattle.sc_live_answers.proofs.AnswersProofs.BudgetAtBirth.{births_covered}

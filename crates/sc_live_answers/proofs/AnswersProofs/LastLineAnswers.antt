@@ -5,16 +5,16 @@ use Rattle.sc_base.specs.Definitions.{Among, client_actor}
 use Rattle.sc_node_table.specs.Values.{OrderLine, Mail, Seat, Line}
 use Rattle.sc_actor.specs.declared.schedules.Line.TheVariants as line
 use Rattle.sc_actor.specs.Definitions.{System}
-use Rattle.sc_node_table.specs.Definitions.{numbers_from}
+use Rattle.sc_node_table.specs.NodeDefinitions.{numbers_from}
 use Rattle.sc_paxos_law.proofs.Lemmas.{Among-right}
-use Rattle.sc_live_orderly.proofs.Lemmas.{started_when_whole, plain_in_time, seat_found}
+use Rattle.sc_live_orderly.proofs.OrderlyLemmas.{started_when_whole, plain_in_time, seat_found}
 use Rattle.sc_scenario.specs.scenario.Definitions.{ValidScenariosAreBounded}
 use Rattle.sc_scenario.specs.declared.scenario.scenarios.SchedLine.TheVariants.{Go}
-use Rattle.sc_meaning.specs.sound.Definitions.{Player, node_seat, client_seat, route_of, births, line_of, schedule, system_of, as_nodes}
-use Rattle.sc_law_groups.specs.whole.Definitions.{ValidJournalsAreSound}
-use Rattle.sc_live_plain.specs.Definitions.{LastLinesEndQuiet, LastLinesAnswer}
-use Rattle.sc_live_plain.proofs.Lemmas.{stage, map_among, all_plain, lines_plain, plain_lines_calm}
-use Rattle.sc_live_answers.specs.Definitions.{TimelyJournalsRest}
+use Rattle.sc_meaning.specs.sound.SoundDefinitions.{Player, node_seat, client_seat, route_of, births, line_of, schedule, system_of, as_nodes}
+use Rattle.sc_law_groups.specs.whole.WholeDefinitions.{ValidJournalsAreSound}
+use Rattle.sc_live_plain.specs.PlainDefinitions.{LastLinesEndQuiet, LastLinesAnswer}
+use Rattle.sc_live_plain.proofs.PlainLemmas.{stage, map_among, all_plain, lines_plain, plain_lines_calm}
+use Rattle.sc_live_answers.specs.AnswerDefinitions.{TimelyJournalsRest}
 use Rattle.sc_live_answers.proofs.AnswersProofs.AnsweredRequests.{answered_since}
 
 pub last_lines_answer : ValidScenariosAreBounded → ValidJournalsAreSound → LastLinesEndQuiet → TimelyJournalsRest → LastLinesAnswer

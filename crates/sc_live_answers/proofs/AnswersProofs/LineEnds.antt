@@ -7,16 +7,16 @@ use Rattle.std.proofs.Math.Nat.{mul-le-mul_left}
 use Rattle.sc_base.specs.Definitions.{Each}
 use Rattle.sc_node_table.specs.Values.{Line, OrderLine}
 use Rattle.sc_actor.specs.declared.schedules.Line.TheVariants as line
-use Rattle.sc_live_orderly.specs.Definitions.{HasRoom, gives_order as order_line, orders_given}
+use Rattle.sc_live_orderly.specs.OrderlyDefinitions.{HasRoom, gives_order as order_line, orders_given}
 use Rattle.sc_scenario.specs.scenario.Definitions.{ValidScenariosAreBounded}
 use Rattle.sc_scenario.specs.declared.scenario.scenarios.Scenario.{Scenario}
 use Rattle.sc_scenario.specs.declared.scenario.scenarios.SchedLine.{SchedLine}
 use Rattle.sc_scenario.specs.declared.scenario.scenarios.SchedLine.TheVariants.{Go, Deliver, Drop, Again, Tick, Crash, Told, Settle, Free, Storm}
-use Rattle.sc_meaning.specs.sound.Definitions.{births, line_of, schedule, as_nodes}
-use Rattle.sc_law_groups.proofs.WholeProofs.Lemmas.{all_apart}
-use Rattle.sc_live_steps.specs.calm.Definitions.{births_owe, KeptCalmEndsQuiet}
-use Rattle.sc_live_plain.specs.Definitions.{requests_of, budget_of, AllowsDeliveries, gives_order, orders_of, calm_budget_of, AllowsCalmly, CalmLinesAreSpaced, PlainLinesEndQuiet}
-use Rattle.sc_live_answers.specs.Definitions.{calm_deliveries_of, CalmLinesEndQuiet}
+use Rattle.sc_meaning.specs.sound.SoundDefinitions.{births, line_of, schedule, as_nodes}
+use Rattle.sc_law_groups.proofs.WholeProofs.WholeLemmas.{all_apart}
+use Rattle.sc_live_steps.specs.calm.CalmDefinitions.{births_owe, KeptCalmEndsQuiet}
+use Rattle.sc_live_plain.specs.PlainDefinitions.{requests_of, budget_of, AllowsDeliveries, gives_order, orders_of, calm_budget_of, AllowsCalmly, CalmLinesAreSpaced, PlainLinesEndQuiet}
+use Rattle.sc_live_answers.specs.AnswerDefinitions.{calm_deliveries_of, CalmLinesEndQuiet}
 use Rattle.sc_live_answers.proofs.AnswersProofs.BudgetAtBirth.{births_covered}
 
 -- one more that passes counts one more

@@ -9,11 +9,11 @@ use Rattle.sc_actor.specs.declared.schedules.Line.TheVariants.{Told as ToldLine}
 use Rattle.sc_actor.specs.Definitions.{System, acts, row_of, has_crashed, Once, MayAdd, IsLawful, IsWhole, is_over, unsettled, Task}
 use Rattle.sc_actor.proofs.Lemmas.{unless-some}
 use Rattle.sc_paxos_law.proofs.Lemmas.{Among-left, Among-right}
-use Rattle.sc_live_orderly.proofs.Lemmas.{IsManyLine, WasQuiet, was_quiet}
+use Rattle.sc_live_orderly.proofs.OrderlyLemmas.{IsManyLine, WasQuiet, was_quiet}
 use Rattle.sc_live_orderly.proofs.QuietLineEnds.{acts-event}
-use Rattle.sc_meaning.specs.sound.Definitions.{Player}
-use Rattle.sc_live_steps.specs.calm.Definitions.{Rows}
-use Rattle.sc_live_answers.specs.Definitions.{IsGiven}
+use Rattle.sc_meaning.specs.sound.SoundDefinitions.{Player}
+use Rattle.sc_live_steps.specs.calm.CalmDefinitions.{Rows}
+use Rattle.sc_live_answers.specs.AnswerDefinitions.{IsGiven}
 
 module _ (s : System Player Mail OrderLine) (who : ℕ) (order : OrderLine) (seat : Seat Player) (born : find (λ other. eqb other.who who) s.births ≡ Some seat) where
   -- the task of an order is never over before its row

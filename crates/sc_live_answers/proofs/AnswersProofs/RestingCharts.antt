@@ -4,25 +4,25 @@ use Rattle.std.specs.Prelude.{is_some}
 use Rattle.sc_base.specs.Definitions.{Among, Each, client_actor}
 use Rattle.sc_node_table.specs.Values.{Draw, Base, OrderLine, Mail, Node, Client, Seat, Row}
 use Rattle.sc_actor.specs.Definitions.{value, are_apart, has_started}
-use Rattle.sc_client_table.specs.table.Definitions.{Client as ClientState}
-use Rattle.sc_node_table.specs.Definitions.{NodeState, replica_of, born_node, ReplicaState, name_of, numbers_from, slots_ahead}
-use Rattle.sc_live_orderly.specs.Definitions.{AreInTime}
-use Rattle.sc_live_orderly.proofs.Lemmas.{by_time, seat_found}
+use Rattle.sc_client_table.specs.table.TableDefinitions.{Client as ClientState}
+use Rattle.sc_node_table.specs.NodeDefinitions.{NodeState, replica_of, born_node, ReplicaState, name_of, numbers_from, slots_ahead}
+use Rattle.sc_live_orderly.specs.OrderlyDefinitions.{AreInTime}
+use Rattle.sc_live_orderly.proofs.OrderlyLemmas.{by_time, seat_found}
 use Rattle.sc_paxos_law.proofs.Lemmas.{Among-either, from_map}
-use Rattle.sc_words.proofs.PaxosProofs.Lemmas.{Each-among, Each-append, Each-from, Each-passes, Each-weaker}
+use Rattle.sc_words.proofs.PaxosProofs.PaxosLemmas.{Each-among, Each-append, Each-from, Each-passes, Each-weaker}
 use Rattle.sc_scenario.specs.scenario.Definitions.{ValidScenariosAreBounded}
 use Rattle.sc_scenario.specs.declared.scenario.scenarios.Asks.{Asks}
 use Rattle.sc_scenario.specs.declared.scenario.scenarios.Scenario.{Scenario}
-use Rattle.sc_meaning.specs.sound.Definitions.{Player, player_table, births, as_nodes, node_seat, client_seat, client_seats, route_of}
-use Rattle.sc_live_steps.specs.calm.Definitions.{players, StandsQuiet, IsGoneQuiet, IsAtRest, IsAnswered, IsResting, RestsCalm, Rows, leads, is_leading, is_led}
-use Rattle.sc_live_journals.specs.rows.Definitions.{view_at, replica_in, replicas_of as view_replicas}
-use Rattle.sc_live_journals.specs.scenes.Definitions.{IsThere}
-use Rattle.sc_live_journals.specs.mail.Definitions.{ReplicasLast}
-use Rattle.sc_live_journals.specs.charts.Definitions.{replicas_of as chart_replicas, all_replicas, led_names, names_at, chart_at, AreAllLed, QuietChartsRest}
-use Rattle.sc_live_journals.proofs.ChartsProofs.Lemmas.{names_grow, more_names}
-use Rattle.sc_live_plain.specs.Definitions.{replicas_after}
-use Rattle.sc_live_plain.proofs.Lemmas.{stage}
-use Rattle.sc_live_answers.specs.Definitions.{LawfulReplicasAreNamedOnce, IsCalmJournal, PrefixesAreFound, RestsAt, ViewsAgree}
+use Rattle.sc_meaning.specs.sound.SoundDefinitions.{Player, player_table, births, as_nodes, node_seat, client_seat, client_seats, route_of}
+use Rattle.sc_live_steps.specs.calm.CalmDefinitions.{players, StandsQuiet, IsGoneQuiet, IsAtRest, IsAnswered, IsResting, RestsCalm, Rows, leads, is_leading, is_led}
+use Rattle.sc_live_journals.specs.rows.RowDefinitions.{view_at, replica_in, replicas_of as view_replicas}
+use Rattle.sc_live_journals.specs.scenes.SceneDefinitions.{IsThere}
+use Rattle.sc_live_journals.specs.mail.MailDefinitions.{ReplicasLast}
+use Rattle.sc_live_journals.specs.charts.ChartDefinitions.{replicas_of as chart_replicas, all_replicas, led_names, names_at, chart_at, AreAllLed, QuietChartsRest}
+use Rattle.sc_live_journals.proofs.ChartsProofs.ChartLemmas.{names_grow, more_names}
+use Rattle.sc_live_plain.specs.PlainDefinitions.{replicas_after}
+use Rattle.sc_live_plain.proofs.PlainLemmas.{stage}
+use Rattle.sc_live_answers.specs.AnswerDefinitions.{LawfulReplicasAreNamedOnce, IsCalmJournal, PrefixesAreFound, RestsAt, ViewsAgree}
 use Rattle.sc_live_answers.proofs.OrdersProofs.OrderDeliveries.{led_there, gone_leads}
 use Rattle.sc_live_answers.proofs.LedMailProofs.LeadersElsewhere.{any_found}
 use Rattle.sc_live_answers.proofs.ReplicasProofs.Nodes.{node_replays}

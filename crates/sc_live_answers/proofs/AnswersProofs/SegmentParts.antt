@@ -4,17 +4,17 @@ use Rattle.sc_base.specs.Definitions.{Each}
 use Rattle.sc_node_table.specs.Values.{Base, OrderLine, Mail, Seat, Event, Deliver, Row}
 use Rattle.sc_actor.specs.declared.rows.Event.TheVariants.{Told}
 use Rattle.sc_actor.specs.Definitions.{mails, System, row_of}
-use Rattle.sc_live_orderly.specs.Definitions.{IsInOrder, is_told, orders, AreInTime}
-use Rattle.sc_live_orderly.proofs.Lemmas.{last_in_time, count_push}
+use Rattle.sc_live_orderly.specs.OrderlyDefinitions.{IsInOrder, is_told, orders, AreInTime}
+use Rattle.sc_live_orderly.proofs.OrderlyLemmas.{last_in_time, count_push}
 use Rattle.sc_scenario.specs.declared.scenario.scenarios.Scenario.{Scenario}
-use Rattle.sc_meaning.specs.sound.Definitions.{Player, player_table, births, as_nodes}
-use Rattle.sc_live_steps.specs.calm.Definitions.{players, FindsCalm, Rows}
-use Rattle.sc_live_steps.specs.orders.Definitions.{Still}
-use Rattle.sc_live_journals.specs.scenes.Definitions.{IsThere, StageAfter, scene_at}
-use Rattle.sc_live_plain.specs.Definitions.{DoHintsRise, replicas_after}
-use Rattle.sc_live_journals.specs.rows.Definitions.{IsSeat, with_event}
-use Rattle.sc_live_journals.specs.charts.Definitions.{chart_at, names_at, quiet_prefix}
-use Rattle.sc_live_answers.specs.Definitions.{IsCalmJournal, IsPrefixOf, ContinuesBy, RestsAt, JournalsBeginResting, GoesToNode, RequestsSendNoErrands, NodeErrandsReachPlayers, IsAskedSince, RequestsBeginAsked, AskedRowsGoOn, AskedRowsFindCalm, RequestsKeepGroups, RequestsRestAgain, IsOrderedSince, OrdersBeginOrdered, DeliveriesKeepOrdered, OrdersLeaveResting, HasFewNames, ClientsAreNear, NamesStayFew, IsReported, AreReported}
+use Rattle.sc_meaning.specs.sound.SoundDefinitions.{Player, player_table, births, as_nodes}
+use Rattle.sc_live_steps.specs.calm.CalmDefinitions.{players, FindsCalm, Rows}
+use Rattle.sc_live_steps.specs.orders.OrderDefinitions.{Still}
+use Rattle.sc_live_journals.specs.scenes.SceneDefinitions.{IsThere, StageAfter, scene_at}
+use Rattle.sc_live_plain.specs.PlainDefinitions.{DoHintsRise, replicas_after}
+use Rattle.sc_live_journals.specs.rows.RowDefinitions.{IsSeat, with_event}
+use Rattle.sc_live_journals.specs.charts.ChartDefinitions.{chart_at, names_at, quiet_prefix}
+use Rattle.sc_live_answers.specs.AnswerDefinitions.{IsCalmJournal, IsPrefixOf, ContinuesBy, RestsAt, JournalsBeginResting, GoesToNode, RequestsSendNoErrands, NodeErrandsReachPlayers, IsAskedSince, RequestsBeginAsked, AskedRowsGoOn, AskedRowsFindCalm, RequestsKeepGroups, RequestsRestAgain, IsOrderedSince, OrdersBeginOrdered, DeliveriesKeepOrdered, OrdersLeaveResting, HasFewNames, ClientsAreNear, NamesStayFew, IsReported, AreReported}
 use Rattle.sc_live_answers.proofs.OrdersProofs.HeldOrders.{none_holds, reported_later}
 use Rattle.sc_live_answers.proofs.OrdersProofs.HeldOrdersAtStart.{given_rows}
 use Rattle.sc_live_answers.proofs.AnswersProofs.Segments.{Parts, IsSegment, segments}

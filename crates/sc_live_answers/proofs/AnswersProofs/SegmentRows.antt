@@ -5,22 +5,22 @@ use Rattle.sc_base.specs.Definitions.{Among, Each}
 use Rattle.sc_node_table.specs.Values.{Draw, Base, OrderLine, Mail, TxElsewhere, Node, Client, Seat, Event, Deliver, Tick, Go, Row}
 use Rattle.sc_actor.specs.declared.rows.Event.TheVariants.{Told}
 use Rattle.sc_actor.specs.Definitions.{mails, copies, value, System, row_of, is_quiet}
-use Rattle.sc_live_orderly.specs.Definitions.{IsCalmEvent, IsCalmRow, IsInOrder, is_told, is_born, mail_with, rest, under_way, AreInTime, ComesInTime}
-use Rattle.sc_live_orderly.proofs.Lemmas.{in_time_before, last_in_time}
-use Rattle.sc_words.proofs.PaxosProofs.Lemmas.{Each-among, Each-from, Each-weaker}
+use Rattle.sc_live_orderly.specs.OrderlyDefinitions.{IsCalmEvent, IsCalmRow, IsInOrder, is_told, is_born, mail_with, rest, under_way, AreInTime, ComesInTime}
+use Rattle.sc_live_orderly.proofs.OrderlyLemmas.{in_time_before, last_in_time}
+use Rattle.sc_words.proofs.PaxosProofs.PaxosLemmas.{Each-among, Each-from, Each-weaker}
 use Rattle.sc_scenario.specs.scenario.Definitions.{ValidScenariosAreBounded}
 use Rattle.sc_scenario.specs.declared.scenario.scenarios.Scenario.{Scenario}
-use Rattle.sc_meaning.specs.sound.Definitions.{Player, player_table, births, as_nodes}
-use Rattle.sc_live_steps.specs.calm.Definitions.{Chart, players, MayFollow, FindsCalm, KeepsCalm, IsResting, RestsCalm, Rows}
-use Rattle.sc_live_journals.specs.rows.Definitions.{IsSeat}
-use Rattle.sc_live_journals.specs.mail.Definitions.{ReplicasLast}
-use Rattle.sc_live_steps.specs.orders.Definitions.{Stage, Still, IsAt}
-use Rattle.sc_live_steps.proofs.OrderStepsProofs.Lemmas.{among-left, among-right}
-use Rattle.sc_live_plain.specs.Definitions.{Setting, IsAsideBody, IsCalmMail, Requests, IsPlainBody, DoHintsRise, replicas_after}
-use Rattle.sc_live_journals.specs.scenes.Definitions.{StageAfter, scene_at}
-use Rattle.sc_live_journals.proofs.ScenesProofs.Lemmas.{calm_is}
-use Rattle.sc_live_journals.specs.charts.Definitions.{chart_at, WaitsForNone, AsksSame, ChartsFollow, QuietChartsRest, quiet_prefix}
-use Rattle.sc_live_answers.specs.Definitions.{OrderChartsFollow, WellLedLeadAlone, IsPrefixOf, AreSent, AllLeadAlone, ChartHintsRise, PrefixesAreFound, IsOrderedSince, RestsAt, frames_after, QuietJournalsHaveFrames, LawfulReplicasAreNamedOnce, ViewsAgree}
+use Rattle.sc_meaning.specs.sound.SoundDefinitions.{Player, player_table, births, as_nodes}
+use Rattle.sc_live_steps.specs.calm.CalmDefinitions.{Chart, players, MayFollow, FindsCalm, KeepsCalm, IsResting, RestsCalm, Rows}
+use Rattle.sc_live_journals.specs.rows.RowDefinitions.{IsSeat}
+use Rattle.sc_live_journals.specs.mail.MailDefinitions.{ReplicasLast}
+use Rattle.sc_live_steps.specs.orders.OrderDefinitions.{Stage, Still, IsAt}
+use Rattle.sc_live_steps.proofs.OrderStepsProofs.OrderStepLemmas.{among-left, among-right}
+use Rattle.sc_live_plain.specs.PlainDefinitions.{Setting, IsAsideBody, IsCalmMail, Requests, IsPlainBody, DoHintsRise, replicas_after}
+use Rattle.sc_live_journals.specs.scenes.SceneDefinitions.{StageAfter, scene_at}
+use Rattle.sc_live_journals.proofs.ScenesProofs.SceneLemmas.{calm_is}
+use Rattle.sc_live_journals.specs.charts.ChartDefinitions.{chart_at, WaitsForNone, AsksSame, ChartsFollow, QuietChartsRest, quiet_prefix}
+use Rattle.sc_live_answers.specs.AnswerDefinitions.{OrderChartsFollow, WellLedLeadAlone, IsPrefixOf, AreSent, AllLeadAlone, ChartHintsRise, PrefixesAreFound, IsOrderedSince, RestsAt, frames_after, QuietJournalsHaveFrames, LawfulReplicasAreNamedOnce, ViewsAgree}
 use Rattle.sc_live_answers.proofs.AnswersProofs.RestingCharts.{all_rest, rests_by_chart}
 use Rattle.sc_live_answers.proofs.LinesProofs.LoneLeaders.{all_lead}
 use Rattle.sc_live_answers.proofs.AnswersProofs.SegmentParts as parts_of

@@ -6,12 +6,12 @@ use Rattle.sc_base.specs.Definitions.{Each}
 use Rattle.sc_node_table.specs.Values.{OrderLine, Mail, Event, Deliver, Go, Row}
 use Rattle.sc_actor.specs.declared.rows.Event.TheVariants.{Told}
 use Rattle.sc_actor.specs.Definitions.{System, is_quiet}
-use Rattle.sc_live_orderly.specs.Definitions.{IsCalmEvent, IsCalmRow, is_told, IsClear, ComesInTime, AreInTime}
-use Rattle.sc_live_orderly.proofs.Lemmas.{by_time, last_in_time}
-use Rattle.sc_meaning.specs.sound.Definitions.{Player}
-use Rattle.sc_live_steps.specs.calm.Definitions.{Rows}
-use Rattle.sc_live_journals.specs.charts.Definitions.{quiet_upto, quiet_prefix}
-use Rattle.sc_live_journals.proofs.ChartsProofs.Lemmas.{upto_low, prefix_stays}
+use Rattle.sc_live_orderly.specs.OrderlyDefinitions.{IsCalmEvent, IsCalmRow, is_told, IsClear, ComesInTime, AreInTime}
+use Rattle.sc_live_orderly.proofs.OrderlyLemmas.{by_time, last_in_time}
+use Rattle.sc_meaning.specs.sound.SoundDefinitions.{Player}
+use Rattle.sc_live_steps.specs.calm.CalmDefinitions.{Rows}
+use Rattle.sc_live_journals.specs.charts.ChartDefinitions.{quiet_upto, quiet_prefix}
+use Rattle.sc_live_journals.proofs.ChartsProofs.ChartLemmas.{upto_low, prefix_stays}
 
 -- ---- lists
 

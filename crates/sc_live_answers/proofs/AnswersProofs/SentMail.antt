@@ -2,7 +2,7 @@
 use Rattle.std.proofs.Common.{◌≡◌, ℕ, zero, suc, Bool, true, false, cond, List, [], ◌∷◌, replicate, inl, inr}
 use Rattle.sc_base.specs.Definitions.{Among}
 use Rattle.sc_node_table.specs.Values.{Mail}
-use Rattle.sc_live_orderly.specs.Definitions.{mail_with}
+use Rattle.sc_live_orderly.specs.OrderlyDefinitions.{mail_with}
 use Rattle.sc_paxos_law.proofs.Lemmas.{Among-either}
 
 -- what passes was there

@@ -5,17 +5,17 @@ use Rattle.std.proofs.lemmas.List.{take_all}
 use Rattle.sc_base.specs.Definitions.{Among, Each}
 use Rattle.sc_node_table.specs.Values.{Draw, Base, Route, OrderLine, Mail, Seat, Row}
 use Rattle.sc_actor.specs.Definitions.{value}
-use Rattle.sc_node_table.specs.Definitions.{replica_of, ReplicaState, name_of}
-use Rattle.sc_words.proofs.PaxosProofs.Lemmas.{Among-filter, Each-among, Each-from, Each-passes}
+use Rattle.sc_node_table.specs.NodeDefinitions.{replica_of, ReplicaState, name_of}
+use Rattle.sc_words.proofs.PaxosProofs.PaxosLemmas.{Among-filter, Each-among, Each-from, Each-passes}
 use Rattle.sc_scenario.specs.declared.scenario.scenarios.Scenario.{Scenario}
 use Rattle.sc_scenario.specs.scenario.Definitions.{IsValid, ValidScenariosAreBounded}
-use Rattle.sc_meaning.specs.sound.Definitions.{Player, player_table, node_seat, as_nodes, births, Lawful}
-use Rattle.sc_live_steps.specs.calm.Definitions.{players, HasReplica, StandsQuiet, leads, is_leading, is_led}
-use Rattle.sc_live_journals.proofs.ChartsProofs.Lemmas.{upto_low}
-use Rattle.sc_live_journals.specs.charts.Definitions.{all_replicas, went_in, ends_by, way_by, names_at, chart_at, reach_in, GoInTurn, EndsFall, LedStandOnce, quiet_upto, quiet_prefix}
-use Rattle.sc_live_journals.proofs.ChartsProofs.Lemmas.{led_by}
-use Rattle.sc_live_plain.specs.Definitions.{replicas_after, setting_at, AreFramesOf, IsQuietJournal, replicas_of, HasGoneTo, Frame}
-use Rattle.sc_live_answers.specs.Definitions.{CountsAs, LawfulReplicasAreNamedOnce, GoneAgree, QuietChartsCount, AreAtNodes, AreReachable}
+use Rattle.sc_meaning.specs.sound.SoundDefinitions.{Player, player_table, node_seat, as_nodes, births, Lawful}
+use Rattle.sc_live_steps.specs.calm.CalmDefinitions.{players, HasReplica, StandsQuiet, leads, is_leading, is_led}
+use Rattle.sc_live_journals.proofs.ChartsProofs.ChartLemmas.{upto_low}
+use Rattle.sc_live_journals.specs.charts.ChartDefinitions.{all_replicas, went_in, ends_by, way_by, names_at, chart_at, reach_in, GoInTurn, EndsFall, LedStandOnce, quiet_upto, quiet_prefix}
+use Rattle.sc_live_journals.proofs.ChartsProofs.ChartLemmas.{led_by}
+use Rattle.sc_live_plain.specs.PlainDefinitions.{replicas_after, setting_at, AreFramesOf, IsQuietJournal, replicas_of, HasGoneTo, Frame}
+use Rattle.sc_live_answers.specs.AnswerDefinitions.{CountsAs, LawfulReplicasAreNamedOnce, GoneAgree, QuietChartsCount, AreAtNodes, AreReachable}
 use Rattle.sc_live_answers.proofs.LinesProofs.Frames.{nodes_numbered}
 use Rattle.sc_live_answers.proofs.RestProofs.GoneGroupsInPrefixes.{once_among, went_none, went_found, went_some}
 use Rattle.sc_live_answers.proofs.OrdersProofs.OrderDeliveries.{gone_leads}

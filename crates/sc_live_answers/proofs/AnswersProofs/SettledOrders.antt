@@ -7,15 +7,15 @@ use Rattle.sc_actor.specs.declared.schedules.Line.TheVariants as line
 use Rattle.sc_actor.specs.Definitions.{has_crashed, System, IsLawful, unsettled}
 use Rattle.sc_actor.proofs.Lemmas.{lawful-prefix}
 use Rattle.sc_paxos_law.proofs.Lemmas.{Among-right}
-use Rattle.sc_words.proofs.PaxosProofs.Lemmas.{Each-among, Each-from_All}
-use Rattle.sc_live_orderly.proofs.Lemmas.{in_time_tidy, settled_in_time, uncut_before}
+use Rattle.sc_words.proofs.PaxosProofs.PaxosLemmas.{Each-among, Each-from_All}
+use Rattle.sc_live_orderly.proofs.OrderlyLemmas.{in_time_tidy, settled_in_time, uncut_before}
 use Rattle.sc_scenario.specs.scenario.Definitions.{ValidScenariosAreBounded, IsBoundedLine}
 use Rattle.sc_scenario.specs.declared.scenario.scenarios.SchedLine.{SchedLine}
 use Rattle.sc_scenario.specs.declared.scenario.scenarios.SchedLine.TheVariants.{Told}
-use Rattle.sc_meaning.specs.sound.Definitions.{Player, node_seat, births, line_of, schedule, system_of, as_nodes}
-use Rattle.sc_live_steps.specs.calm.Definitions.{Rows}
-use Rattle.sc_live_plain.proofs.Lemmas.{first_delivery, many_line, calm_lines_are_spaced}
-use Rattle.sc_live_answers.specs.Definitions.{IsReported, SettledJournalsReport, SettledOrdersAreReported}
+use Rattle.sc_meaning.specs.sound.SoundDefinitions.{Player, node_seat, births, line_of, schedule, system_of, as_nodes}
+use Rattle.sc_live_steps.specs.calm.CalmDefinitions.{Rows}
+use Rattle.sc_live_plain.proofs.PlainLemmas.{first_delivery, many_line, calm_lines_are_spaced}
+use Rattle.sc_live_answers.specs.AnswerDefinitions.{IsReported, SettledJournalsReport, SettledOrdersAreReported}
 use Rattle.sc_live_answers.proofs.ErrandsProofs.ErrandReceivers.{node_seated}
 use Rattle.sc_live_answers.proofs.AnswersProofs.PassedOrders.{was_quiet_given}
 use Rattle.sc_live_answers.proofs.OrdersProofs.HeldOrders.{reported_later}

@@ -7,23 +7,23 @@ use Rattle.std.proofs.lemmas.List.Sums.{sum_by-cons}
 use Rattle.std.proofs.Math.Nat.{mul-le-mul}
 use Rattle.sc_base.specs.Definitions.{Each}
 use Rattle.sc_node_table.specs.Values.{Base}
-use Rattle.sc_node_table.specs.Definitions.{numbers_from}
-use Rattle.sc_live_orderly.specs.Definitions.{Nothing}
-use Rattle.sc_live_orderly.proofs.Lemmas.{rows_of_all, goes_in_time}
+use Rattle.sc_node_table.specs.NodeDefinitions.{numbers_from}
+use Rattle.sc_live_orderly.specs.OrderlyDefinitions.{Nothing}
+use Rattle.sc_live_orderly.proofs.OrderlyLemmas.{rows_of_all, goes_in_time}
 use Rattle.sc_live_orderly.proofs.GivenOrders.{few_told, spaced_are_calm}
-use Rattle.sc_words.proofs.PaxosProofs.Lemmas.{Each-from_All}
+use Rattle.sc_words.proofs.PaxosProofs.PaxosLemmas.{Each-from_All}
 use Rattle.sc_scenario.specs.scenario.Definitions.{most_deliveries, IsBoundedLine, ValidScenariosAreBounded}
 use Rattle.sc_scenario.specs.declared.scenario.scenarios.Asks.{Asks}
 use Rattle.sc_scenario.specs.declared.scenario.scenarios.Scenario.{Scenario}
 use Rattle.sc_scenario.specs.declared.scenario.scenarios.SchedLine.{SchedLine}
 use Rattle.sc_scenario.specs.declared.scenario.scenarios.SchedLine.TheVariants.{Go, Deliver, Told, Settle, Free}
-use Rattle.sc_meaning.specs.sound.Definitions.{client_seats, client_seat, node_seat, route_of, schedule, as_nodes, system_of}
-use Rattle.sc_law_groups.proofs.WholeProofs.Lemmas.{all_apart}
-use Rattle.sc_live_plain.specs.Definitions.{delivers, gives_order, orders_of, calm_budget_of, AllowsCalmly, CalmLinesAreSpaced}
-use Rattle.sc_live_plain.proofs.Lemmas.{few_clients}
-use Rattle.sc_live_answers.specs.Definitions.{CalmJournalsAreShort}
+use Rattle.sc_meaning.specs.sound.SoundDefinitions.{client_seats, client_seat, node_seat, route_of, schedule, as_nodes, system_of}
+use Rattle.sc_law_groups.proofs.WholeProofs.WholeLemmas.{all_apart}
+use Rattle.sc_live_plain.specs.PlainDefinitions.{delivers, gives_order, orders_of, calm_budget_of, AllowsCalmly, CalmLinesAreSpaced}
+use Rattle.sc_live_plain.proofs.PlainLemmas.{few_clients}
+use Rattle.sc_live_answers.specs.AnswerDefinitions.{CalmJournalsAreShort}
 use Rattle.sc_live_answers.proofs.AnswersProofs.LineEnds.{orders_same}
-use Rattle.sc_live_steps.proofs.CalmStepsProofs.Lemmas.{count_numbers}
+use Rattle.sc_live_steps.proofs.CalmStepsProofs.CalmStepLemmas.{count_numbers}
 
 -- ---- an order, and a line of deliveries behind it
 

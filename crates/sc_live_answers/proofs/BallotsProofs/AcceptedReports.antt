@@ -4,14 +4,14 @@ use Rattle.sc_base.specs.Definitions.{Each, Drawer, same_ballot, is_majority, is
 use Rattle.sc_node_table.specs.Values.{Ballot, Draw, Command, Base, OrderLine, MailBody, Request, Answer, Prepare, Promise, Accept, Accepted, Nack, Learn, Ask, Install, TxPrepare, TxVote, TxOutcome, TxElsewhere, TxWatch, TxWatched, Told, Flight, Report, AcceptAnswer, Counted, PrepareAnswer}
 use Rattle.sc_words.specs.declared.paxos.answers.AcceptAnswer.TheVariants as Asked
 use Rattle.sc_words.specs.declared.paxos.answers.PrepareAnswer.TheVariants as Prepared
-use Rattle.sc_words.specs.paxos.Definitions.{accepted as accepted_by, AcceptorState, reports_from, may_promise, may_accept, after_promise, after_accept, below, LeaderState, flight_at, promise_counted, prepared, counted, vote_at, voters_after, kept_voters}
-use Rattle.sc_words.proofs.PaxosProofs.Lemmas.{Each-filter}
-use Rattle.sc_node_table.specs.Definitions.{stopped, saw, named, install_to, ordered_row, ReplicaState, Place, forgotten, floor_of, installed_replica, mailed, made_by, slots_ahead, hinted, promise_to, promised, prepare_row, accepted_to, took, accept_row, nack_row}
-use Rattle.sc_law_walks.specs.Definitions.{GoesOn}
-use Rattle.sc_law_walks.proofs.Lemmas.{promised_place, either_way}
-use Rattle.sc_live_steps.proofs.FollowingProofs.Lemmas.{saw_either}
-use Rattle.sc_live_journals.specs.mail.Definitions.{IsPlainlyKept}
-use Rattle.sc_live_journals.proofs.MailProofs.Lemmas.{reports_more, takes_mail, orders, looks_up, PartWalk, Part, part, next_in, IsReported, Hears}
+use Rattle.sc_words.specs.paxos.PaxosDefinitions.{accepted as accepted_by, AcceptorState, reports_from, may_promise, may_accept, after_promise, after_accept, below, LeaderState, flight_at, promise_counted, prepared, counted, vote_at, voters_after, kept_voters}
+use Rattle.sc_words.proofs.PaxosProofs.PaxosLemmas.{Each-filter}
+use Rattle.sc_node_table.specs.NodeDefinitions.{stopped, saw, named, install_to, ordered_row, ReplicaState, Place, forgotten, floor_of, installed_replica, mailed, made_by, slots_ahead, hinted, promise_to, promised, prepare_row, accepted_to, took, accept_row, nack_row}
+use Rattle.sc_law_walks.specs.WalkDefinitions.{GoesOn}
+use Rattle.sc_law_walks.proofs.WalkLemmas.{promised_place, either_way}
+use Rattle.sc_live_steps.proofs.FollowingProofs.FollowingLemmas.{saw_either}
+use Rattle.sc_live_journals.specs.mail.MailDefinitions.{IsPlainlyKept}
+use Rattle.sc_live_journals.proofs.MailProofs.MailLemmas.{reports_more, takes_mail, orders, looks_up, PartWalk, Part, part, next_in, IsReported, Hears}
 
 -- ---- what a leader counts leaves its reports
 

@@ -2,11 +2,11 @@
 use Rattle.std.proofs.Common.{◌≡◌, ℕ, [], Some, None, ◌⊎◌, inl, inr, refl, sym, ◌∙◌, ap, subst}
 use Rattle.sc_base.specs.Definitions.{Each, Drawer}
 use Rattle.sc_node_table.specs.Values.{Ballot, Command, OrderLine, MailBody, Prepare, Promise, Accept, Nack, Learn, Install, Report}
-use Rattle.sc_words.specs.paxos.Definitions.{IsAtLeast}
-use Rattle.sc_words.proofs.PaxosProofs.Lemmas.{at_least_itself}
-use Rattle.sc_node_table.specs.Definitions.{ordered_row, ReplicaState, mailed, at_slot}
-use Rattle.sc_live_journals.specs.mail.Definitions.{IsPlainlyKept}
-use Rattle.sc_live_journals.proofs.MailProofs.Lemmas.{takes_mail, orders, PartWalk, Part, next_in, IsReported, Hears}
+use Rattle.sc_words.specs.paxos.PaxosDefinitions.{IsAtLeast}
+use Rattle.sc_words.proofs.PaxosProofs.PaxosLemmas.{at_least_itself}
+use Rattle.sc_node_table.specs.NodeDefinitions.{ordered_row, ReplicaState, mailed, at_slot}
+use Rattle.sc_live_journals.specs.mail.MailDefinitions.{IsPlainlyKept}
+use Rattle.sc_live_journals.proofs.MailProofs.MailLemmas.{takes_mail, orders, PartWalk, Part, next_in, IsReported, Hears}
 use Rattle.sc_live_answers.proofs.BallotsProofs.AcceptedReports.{IsPlainMail}
 
 abbrev pub All_ : Report Command → Type 0

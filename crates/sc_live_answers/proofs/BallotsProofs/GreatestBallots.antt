@@ -3,12 +3,12 @@ use Rattle.std.proofs.Common.{◌≡◌, ℕ, ◌-◌, ◌^◌, ◌<◌, ◌≤�
 use Rattle.std.proofs.lemmas.Bool.{cond_both, and_parts, eqb-true, eq-eqb}
 use Rattle.sc_base.specs.Definitions.{Drawer, same_ballot, is_member, least_of}
 use Rattle.sc_node_table.specs.Values.{Ballot, Draw, Command, Base, Route, OrderLine, Mail, MailBody, Promise, Accepted, Learn, Install, Report}
-use Rattle.sc_node_table.specs.Definitions.{elected, stopped, entered, is_among, looked_for, looked, executed_one, executed_ready, executed, named, jumped, ordered_row, pumped, ReplicaState, Place, Executed, childless, next, members, set_at, last_slot, forgotten, first_ballot, installed_replica, looked_up, took_over, install_row, mailed, made_by, leads, promise_row, voted, accepted_row}
-use Rattle.sc_law_walks.proofs.Lemmas.{idle_ready, idle_pump, either_way}
-use Rattle.sc_law_walks.proofs.Lemmas.{grows}
+use Rattle.sc_node_table.specs.NodeDefinitions.{elected, stopped, entered, is_among, looked_for, looked, executed_one, executed_ready, executed, named, jumped, ordered_row, pumped, ReplicaState, Place, Executed, childless, next, members, set_at, last_slot, forgotten, first_ballot, installed_replica, looked_up, took_over, install_row, mailed, made_by, leads, promise_row, voted, accepted_row}
+use Rattle.sc_law_walks.proofs.WalkLemmas.{idle_ready, idle_pump, either_way}
+use Rattle.sc_law_walks.proofs.WalkLemmas.{grows}
 use Rattle.sc_live_journals.proofs.RowsProofs.StillReplicas as beside
-use Rattle.sc_live_steps.specs.following.Definitions.{Stays, MayElect}
-use Rattle.sc_live_steps.proofs.FollowingProofs.Lemmas.{looked_same, place2, over, over_off, looks, told_is}
+use Rattle.sc_live_steps.specs.following.FollowingDefinitions.{Stays, MayElect}
+use Rattle.sc_live_steps.proofs.FollowingProofs.FollowingLemmas.{looked_same, place2, over, over_off, looks, told_is}
 
 -- ---- one that looks for a leader keeps what it saw, or runs then
 

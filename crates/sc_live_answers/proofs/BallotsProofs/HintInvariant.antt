@@ -4,24 +4,24 @@ use Rattle.sc_base.specs.Definitions.{same_draw, is_member}
 use Rattle.sc_node_table.specs.Values.{Ballot, Draw, Command, Base, OrderLine, Mail, MailBody, Prepare, Promise, Accept, Accepted, Learn, Install, Seat, Event, Row}
 use Rattle.sc_base.proofs.Lemmas.{draw_is}
 use Rattle.sc_actor.specs.Definitions.{mails, row_of}
-use Rattle.sc_live_orderly.specs.Definitions.{IsCalmEvent, AreInTime}
-use Rattle.sc_words.specs.paxos.Definitions.{IsAtLeast}
+use Rattle.sc_live_orderly.specs.OrderlyDefinitions.{IsCalmEvent, AreInTime}
+use Rattle.sc_words.specs.paxos.PaxosDefinitions.{IsAtLeast}
 use Rattle.sc_scenario.specs.declared.scenario.scenarios.Scenario.{Scenario}
-use Rattle.sc_node_table.specs.Definitions.{ReplicaState, Place, listed, next, mailed, made_by}
-use Rattle.sc_meaning.specs.sound.Definitions.{Player, player_table, births, as_nodes}
-use Rattle.sc_live_steps.specs.calm.Definitions.{players, Rows}
-use Rattle.sc_live_steps.specs.following.Definitions.{Mark, Asks, Votes, Teaches, Installs, Prepares, Promises, mark_of, pledged, Course, Progress, Sets, members_at, IsOpen, SlotLeaders, hint_by, AreHeeded, GoesBy, AreLearntLast, IsRow, marks_for, next_ballot}
-use Rattle.sc_live_steps.proofs.FollowingProofs.Lemmas.{tables_elect, least_in, hints_follow}
-use Rattle.sc_live_journals.specs.rows.Definitions.{view_at, marks_at, mark_in, taken_mark, promise_in, progress_at, led_course, elected_course, IsSeat, with_event, IsReplicasRow}
-use Rattle.sc_live_journals.proofs.RowsProofs.Lemmas.{entered_name, rows_are, view_others}
-use Rattle.sc_live_journals.specs.groups.Definitions.{IsGroupRow, RowPasses, RowRests, RowTakes, RowMakes, RowLeads, RowElects, Ends, hint_in, hints_at, IsWellLed, IsLogsState, ElectsWell, AreWellBorn, HasOneLog, IsSentSo}
-use Rattle.sc_live_journals.proofs.GroupsProofs.Lemmas.{pledged_none}
-use Rattle.sc_live_journals.specs.mail.Definitions.{JournalsKeepIdle}
+use Rattle.sc_node_table.specs.NodeDefinitions.{ReplicaState, Place, listed, next, mailed, made_by}
+use Rattle.sc_meaning.specs.sound.SoundDefinitions.{Player, player_table, births, as_nodes}
+use Rattle.sc_live_steps.specs.calm.CalmDefinitions.{players, Rows}
+use Rattle.sc_live_steps.specs.following.FollowingDefinitions.{Mark, Asks, Votes, Teaches, Installs, Prepares, Promises, mark_of, pledged, Course, Progress, Sets, members_at, IsOpen, SlotLeaders, hint_by, AreHeeded, GoesBy, AreLearntLast, IsRow, marks_for, next_ballot}
+use Rattle.sc_live_steps.proofs.FollowingProofs.FollowingLemmas.{tables_elect, least_in, hints_follow}
+use Rattle.sc_live_journals.specs.rows.RowDefinitions.{view_at, marks_at, mark_in, taken_mark, promise_in, progress_at, led_course, elected_course, IsSeat, with_event, IsReplicasRow}
+use Rattle.sc_live_journals.proofs.RowsProofs.RowLemmas.{entered_name, rows_are, view_others}
+use Rattle.sc_live_journals.specs.groups.GroupDefinitions.{IsGroupRow, RowPasses, RowRests, RowTakes, RowMakes, RowLeads, RowElects, Ends, hint_in, hints_at, IsWellLed, IsLogsState, ElectsWell, AreWellBorn, HasOneLog, IsSentSo}
+use Rattle.sc_live_journals.proofs.GroupsProofs.GroupLemmas.{pledged_none}
+use Rattle.sc_live_journals.specs.mail.MailDefinitions.{JournalsKeepIdle}
 use Rattle.sc_live_answers.proofs.BallotsProofs.PrepareSlots.{MovesLast}
 use Rattle.sc_live_answers.proofs.BallotsProofs.PrepareSlotRows.{turn, leader_last}
 use Rattle.sc_live_answers.proofs.BallotsProofs.GreatestBallots.{told_idly}
 use Rattle.sc_live_answers.proofs.ReplicasProofs.PlayerEvents.{IsTurn, TurnRests, TurnCreates, TurnTakes, TurnMakes, TurnTold}
-use Rattle.sc_live_answers.specs.Definitions.{AreFated}
+use Rattle.sc_live_answers.specs.AnswerDefinitions.{AreFated}
 use Rattle.sc_live_answers.proofs.LedMailProofs.FormerMembers.{idle_fates, takes_fates, leads_fates, elects_fates}
 use Rattle.sc_live_answers.proofs.BallotsProofs.RowHints.{told_fit, own_body, none_flies, told_or, takes_by}
 use Rattle.sc_live_answers.proofs.BallotsProofs.HintedMarks.{round_most, member_open}

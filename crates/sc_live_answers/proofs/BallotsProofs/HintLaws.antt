@@ -1,9 +1,9 @@
 -- That hints rise in quiet prefixes of a calm journal, and that rounds are few: what is kept of each group row by row, and what follows of it in quiet.
 use Rattle.sc_live_answers.proofs.BallotsProofs.JournalHints.{groups_begin, next_rows}
 use Rattle.sc_live_answers.proofs.LedMailProofs.GroupMailLaws.{groups_are_born_as_begun}
-use Rattle.sc_live_answers.specs.Definitions.{GroupsBeginRising, NextRowsRise, OrdersKeepRounds, RequestsKeepBallots}
-use Rattle.sc_live_journals.proofs.MailProofs.Lemmas.{journals_keep_idle}
-use Rattle.sc_live_journals.proofs.GroupsProofs.Lemmas.{scenarios_are_well_born}
+use Rattle.sc_live_answers.specs.AnswerDefinitions.{GroupsBeginRising, NextRowsRise, OrdersKeepRounds, RequestsKeepBallots}
+use Rattle.sc_live_journals.proofs.MailProofs.MailLemmas.{journals_keep_idle}
+use Rattle.sc_live_journals.proofs.GroupsProofs.GroupLemmas.{scenarios_are_well_born}
 use Rattle.sc_live_answers.proofs.RestProofs.RoundsSinceQuiet.{orders_keep, requests_keep}
 
 -- At the births each node takes the first member for the leader, and has promised its ballot.

@@ -3,12 +3,12 @@ use Rattle.std.proofs.Common.{◌≡◌, ℕ, zero, suc, ◌+◌, ◌<◌, ◌�
 use Rattle.std.proofs.lemmas.Bool.{cases_Bool, cases_eq, cases_lt, cond-true, cond-false, cond_both, eqb-true}
 use Rattle.sc_base.specs.Definitions.{Each, is_member}
 use Rattle.sc_node_table.specs.Values.{Ballot}
-use Rattle.sc_node_table.specs.Definitions.{slots_ahead}
-use Rattle.sc_words.specs.paxos.Definitions.{IsAtLeast}
-use Rattle.sc_words.proofs.PaxosProofs.Lemmas.{at_least_itself, at_least_trans}
-use Rattle.sc_live_steps.specs.following.Definitions.{Mark, Asks, Votes, Teaches, Installs, Prepares, Promises, next_by, promise_by, reached, pledged, IsFit, AreFit, Course, Sets, members_at, IsOpen, SlotLeaders, hinted, IsCount, IsOffer, reported_of, taught_from}
-use Rattle.sc_live_steps.proofs.FollowingProofs.Lemmas.{count-hinted, reached-append, count-reached, count-pledged}
-pub use Rattle.sc_law_walks.proofs.Lemmas.{at_least_round as round_most}
+use Rattle.sc_node_table.specs.NodeDefinitions.{slots_ahead}
+use Rattle.sc_words.specs.paxos.PaxosDefinitions.{IsAtLeast}
+use Rattle.sc_words.proofs.PaxosProofs.PaxosLemmas.{at_least_itself, at_least_trans}
+use Rattle.sc_live_steps.specs.following.FollowingDefinitions.{Mark, Asks, Votes, Teaches, Installs, Prepares, Promises, next_by, promise_by, reached, pledged, IsFit, AreFit, Course, Sets, members_at, IsOpen, SlotLeaders, hinted, IsCount, IsOffer, reported_of, taught_from}
+use Rattle.sc_live_steps.proofs.FollowingProofs.FollowingLemmas.{count-hinted, reached-append, count-reached, count-pledged}
+pub use Rattle.sc_law_walks.proofs.WalkLemmas.{at_least_round as round_most}
 pub use Rattle.sc_live_steps.proofs.FollowingProofs.LearningMembers.{fit_behind}
 
 -- ---- marks that change nothing

@@ -4,21 +4,21 @@ use Rattle.std.proofs.lemmas.Bool.{cases_Bool, cond-true, cond-false}
 use Rattle.sc_node_table.specs.Values.{Ballot, Base, OrderLine, Mail, Seat, Event, Row}
 use Rattle.sc_base.specs.Definitions.{is_member, least_of}
 use Rattle.sc_actor.specs.Definitions.{row_of}
-use Rattle.sc_live_orderly.specs.Definitions.{IsCalmEvent, AreInTime}
-use Rattle.sc_live_orderly.proofs.Lemmas.{last_in_time}
-use Rattle.sc_words.specs.paxos.Definitions.{IsAtLeast}
-use Rattle.sc_words.proofs.PaxosProofs.Lemmas.{at_least_itself}
+use Rattle.sc_live_orderly.specs.OrderlyDefinitions.{IsCalmEvent, AreInTime}
+use Rattle.sc_live_orderly.proofs.OrderlyLemmas.{last_in_time}
+use Rattle.sc_words.specs.paxos.PaxosDefinitions.{IsAtLeast}
+use Rattle.sc_words.proofs.PaxosProofs.PaxosLemmas.{at_least_itself}
 use Rattle.sc_scenario.specs.declared.scenario.scenarios.Scenario.{Scenario}
-use Rattle.sc_node_table.specs.Definitions.{ReplicaState, first_ballot, born_replica, slots_ahead}
-use Rattle.sc_meaning.specs.sound.Definitions.{Player, player_table, births, as_nodes}
-use Rattle.sc_live_steps.specs.calm.Definitions.{players, Rows}
-use Rattle.sc_live_steps.specs.following.Definitions.{Course, Progress, Sets, members_at, IsOpen, IsFollowing, SlotLeaders}
-use Rattle.sc_live_steps.proofs.FollowingProofs.Lemmas.{least_in}
-use Rattle.sc_live_journals.specs.rows.Definitions.{view_at, marks_at, next_in, promise_in, progress_at, with_event}
-use Rattle.sc_live_journals.specs.groups.Definitions.{Ends, hint_in, hints_at, ScenariosAreWellBorn}
-use Rattle.sc_live_journals.specs.logs.Definitions.{logged_sets}
-use Rattle.sc_live_answers.specs.Definitions.{over_at, slot_leaders_at, AreBornAsBegun, GroupsAreBornAsBegun, IsSentThrough, top_in, IsSeen, GroupsBeginRising, NextRowsRise, IsRisingOn}
-use Rattle.sc_live_journals.specs.mail.Definitions.{JournalsKeepIdle}
+use Rattle.sc_node_table.specs.NodeDefinitions.{ReplicaState, first_ballot, born_replica, slots_ahead}
+use Rattle.sc_meaning.specs.sound.SoundDefinitions.{Player, player_table, births, as_nodes}
+use Rattle.sc_live_steps.specs.calm.CalmDefinitions.{players, Rows}
+use Rattle.sc_live_steps.specs.following.FollowingDefinitions.{Course, Progress, Sets, members_at, IsOpen, IsFollowing, SlotLeaders}
+use Rattle.sc_live_steps.proofs.FollowingProofs.FollowingLemmas.{least_in}
+use Rattle.sc_live_journals.specs.rows.RowDefinitions.{view_at, marks_at, next_in, promise_in, progress_at, with_event}
+use Rattle.sc_live_journals.specs.groups.GroupDefinitions.{Ends, hint_in, hints_at, ScenariosAreWellBorn}
+use Rattle.sc_live_journals.specs.logs.LogDefinitions.{logged_sets}
+use Rattle.sc_live_answers.specs.AnswerDefinitions.{over_at, slot_leaders_at, AreBornAsBegun, GroupsAreBornAsBegun, IsSentThrough, top_in, IsSeen, GroupsBeginRising, NextRowsRise, IsRisingOn}
+use Rattle.sc_live_journals.specs.mail.MailDefinitions.{JournalsKeepIdle}
 use Rattle.sc_live_answers.proofs.BallotsProofs.SeenBallots.{refuses_old, seen_then}
 use Rattle.sc_live_answers.proofs.BallotsProofs.HintedMarks.{member_open}
 use Rattle.sc_live_answers.proofs.BallotsProofs.HintInvariant.{fated_then}

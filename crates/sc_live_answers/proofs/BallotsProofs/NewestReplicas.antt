@@ -4,18 +4,18 @@ use Rattle.std.proofs.lemmas.Bool.{cases_eq}
 use Rattle.std.proofs.lemmas.Option.{same_Some}
 use Rattle.sc_actor.specs.Definitions.{mails, row_of}
 use Rattle.sc_node_table.specs.Values.{Seat, Event, Row, Ballot, Base, OrderLine, Mail}
-use Rattle.sc_live_answers.specs.Definitions.{AreBoundBy, IsGuided, IsReached, NewestStay}
-use Rattle.sc_live_journals.specs.groups.Definitions.{RowElects, RowLeads, RowMakes, RowPasses, RowRests, RowTakes, Ends, IsWellLed}
-use Rattle.sc_live_steps.specs.calm.Definitions.{players, Rows}
-use Rattle.sc_live_steps.specs.orders.Definitions.{Bond}
-use Rattle.sc_live_journals.proofs.RowsProofs.Lemmas.{same_some, rows_are, view_others}
-use Rattle.sc_live_journals.specs.rows.Definitions.{marks_at, next_in, progress_at, taken_mark, view_at, elected_course, IsReplicasRow, with_event}
-use Rattle.sc_live_journals.specs.scenes.Definitions.{IsThere, NewestAreBound, NoneRuns}
-use Rattle.sc_live_steps.proofs.FollowingProofs.Lemmas.{reached-least}
-use Rattle.sc_live_steps.specs.following.Definitions.{AreFit, Course, IsFit, Mark, Sets, next_by, SlotLeaders, StepsBy}
-use Rattle.sc_node_table.specs.Definitions.{Place, ReplicaState, listed, next}
-use Rattle.sc_live_orderly.specs.Definitions.{AreInTime}
-use Rattle.sc_meaning.specs.sound.Definitions.{Player, player_table}
+use Rattle.sc_live_answers.specs.AnswerDefinitions.{AreBoundBy, IsGuided, IsReached, NewestStay}
+use Rattle.sc_live_journals.specs.groups.GroupDefinitions.{RowElects, RowLeads, RowMakes, RowPasses, RowRests, RowTakes, Ends, IsWellLed}
+use Rattle.sc_live_steps.specs.calm.CalmDefinitions.{players, Rows}
+use Rattle.sc_live_steps.specs.orders.OrderDefinitions.{Bond}
+use Rattle.sc_live_journals.proofs.RowsProofs.RowLemmas.{same_some, rows_are, view_others}
+use Rattle.sc_live_journals.specs.rows.RowDefinitions.{marks_at, next_in, progress_at, taken_mark, view_at, elected_course, IsReplicasRow, with_event}
+use Rattle.sc_live_journals.specs.scenes.SceneDefinitions.{IsThere, NewestAreBound, NoneRuns}
+use Rattle.sc_live_steps.proofs.FollowingProofs.FollowingLemmas.{reached-least}
+use Rattle.sc_live_steps.specs.following.FollowingDefinitions.{AreFit, Course, IsFit, Mark, Sets, next_by, SlotLeaders, StepsBy}
+use Rattle.sc_node_table.specs.NodeDefinitions.{Place, ReplicaState, listed, next}
+use Rattle.sc_live_orderly.specs.OrderlyDefinitions.{AreInTime}
+use Rattle.sc_meaning.specs.sound.SoundDefinitions.{Player, player_table}
 
 -- no replica of a well led group is further than its newest state
 pub no_further : (at : Sets) (over : Ends) (by : SlotLeaders) (words : ℕ → ℕ → ℕ × ℕ) (births : List (Seat Player)) (rows : Rows) (base : Base) (course : Course) (node : ℕ) (r : ReplicaState) → IsWellLed at over by words births rows base course

@@ -2,12 +2,12 @@
 use Rattle.std.proofs.Common.{◌≡◌, ℕ, ◌||◌, not, nat_lt, eqb, refl, List, [], length, Option, Some, None, sym, subst}
 use Rattle.sc_node_table.specs.Values.{Ballot, Draw, OrderLine, Mail, MailBody, Request, Prepare, Accept, Learn, Install, TxPrepare, TxWatch, Node, Client, Input, Got}
 use Rattle.sc_actor.specs.declared.rows.Input.TheVariants.{Tick, Go as GoInput, Told as ToldInput}
-use Rattle.sc_client_table.specs.table.Definitions.{table}
-use Rattle.sc_node_table.specs.Definitions.{NodeState, replica_of, group_of_mail, with_made, unknown, may_come, taken_by, routed, on_mail, group_of_order, ordered_of, ReplicaState, name_of, last_slot, made_by, slots_ahead}
-use Rattle.sc_words.proofs.PaxosProofs.Lemmas.{Each-weaker}
-use Rattle.sc_law_walks.proofs.Lemmas.{either_way}
-use Rattle.sc_meaning.specs.sound.Definitions.{Player, player_table}
-use Rattle.sc_live_journals.proofs.MailProofs.Lemmas.{IsRequestOf, clients_ask}
+use Rattle.sc_client_table.specs.table.TableDefinitions.{table}
+use Rattle.sc_node_table.specs.NodeDefinitions.{NodeState, replica_of, group_of_mail, with_made, unknown, may_come, taken_by, routed, on_mail, group_of_order, ordered_of, ReplicaState, name_of, last_slot, made_by, slots_ahead}
+use Rattle.sc_words.proofs.PaxosProofs.PaxosLemmas.{Each-weaker}
+use Rattle.sc_law_walks.proofs.WalkLemmas.{either_way}
+use Rattle.sc_meaning.specs.sound.SoundDefinitions.{Player, player_table}
+use Rattle.sc_live_journals.proofs.MailProofs.MailLemmas.{IsRequestOf, clients_ask}
 use Rattle.sc_live_answers.proofs.BallotsProofs.Refusals.{IsSaid, AreSaid, mailed_keeps, order_keeps, made_keeps}
 use Rattle.sc_live_journals.proofs.RowsProofs.OwnGroupMail.{Refuses}
 

@@ -5,23 +5,23 @@ use Rattle.std.proofs.lemmas.Bool.{cases_eq}
 use Rattle.sc_base.specs.Definitions.{Each}
 use Rattle.sc_node_table.specs.Values.{Ballot, Draw, Command, Base, OrderLine, Mail, MailBody, Prepare, Promise, Accept, Accepted, Nack, Learn, Ask, Install, Seat, Event, Row, Report}
 use Rattle.sc_actor.specs.Definitions.{mails, row_of}
-use Rattle.sc_live_orderly.specs.Definitions.{IsCalmEvent, rest, AreInTime}
-use Rattle.sc_live_orderly.proofs.Lemmas.{in_time_before}
-use Rattle.sc_words.specs.paxos.Definitions.{IsAtLeast}
-use Rattle.sc_words.proofs.PaxosProofs.Lemmas.{Each-weaker}
+use Rattle.sc_live_orderly.specs.OrderlyDefinitions.{IsCalmEvent, rest, AreInTime}
+use Rattle.sc_live_orderly.proofs.OrderlyLemmas.{in_time_before}
+use Rattle.sc_words.specs.paxos.PaxosDefinitions.{IsAtLeast}
+use Rattle.sc_words.proofs.PaxosProofs.PaxosLemmas.{Each-weaker}
 use Rattle.sc_scenario.specs.declared.scenario.scenarios.Scenario.{Scenario}
-use Rattle.sc_node_table.specs.Definitions.{NodeState, group_of_mail, ordered_row, ReplicaState, Place, listed, name_of, next, born_replica, mailed, made_by, slots_ahead}
-use Rattle.sc_law_walks.specs.Definitions.{GoesOn}
-use Rattle.sc_meaning.specs.sound.Definitions.{Player, player_table, births, as_nodes}
-use Rattle.sc_live_steps.specs.calm.Definitions.{players, Rows}
-use Rattle.sc_live_steps.specs.following.Definitions.{Dated, dated_for, marks_in, AreLow, from_slot_of, IsDatedRow, Mark, Asks, Teaches, Installs, Prepares, mark_of, Course, Progress, Sets, IsKnown, IsFit, SlotLeaders, IsLeadOf, IsAside, IsCount, answered, marks_for}
-use Rattle.sc_live_steps.proofs.FollowingProofs.Lemmas.{prepares_are_known, counts_of, same_mark, order_is_kept}
-use Rattle.sc_live_journals.specs.rows.Definitions.{view_at, mark_in, taken_mark, promise_in, progress_at, led_course, LedBy, IsSeat, with_event, IsReplicasRow}
-use Rattle.sc_live_journals.proofs.RowsProofs.Lemmas.{fit, goes_on, known as known_here, told_is, found_name, view_others}
-use Rattle.sc_live_journals.specs.groups.Definitions.{IsGroupRow, RowPasses, RowRests, RowTakes, RowMakes, RowLeads, RowElects, Ends, dated_at, IsWellLed, IsLedScene, AreWellBorn, HasOneLog, IsSentSo}
-use Rattle.sc_live_journals.proofs.GroupsProofs.Lemmas.{dated_in, taken_dated, rows_dated, asides_stay, orders_stay, promises_stay, scene, marks_all}
-use Rattle.sc_live_journals.specs.mail.Definitions.{IsPlainlyKept, JournalsKeepIdle}
-use Rattle.sc_live_answers.specs.Definitions.{AreAbove, HasBelow, IsAskedOn}
+use Rattle.sc_node_table.specs.NodeDefinitions.{NodeState, group_of_mail, ordered_row, ReplicaState, Place, listed, name_of, next, born_replica, mailed, made_by, slots_ahead}
+use Rattle.sc_law_walks.specs.WalkDefinitions.{GoesOn}
+use Rattle.sc_meaning.specs.sound.SoundDefinitions.{Player, player_table, births, as_nodes}
+use Rattle.sc_live_steps.specs.calm.CalmDefinitions.{players, Rows}
+use Rattle.sc_live_steps.specs.following.FollowingDefinitions.{Dated, dated_for, marks_in, AreLow, from_slot_of, IsDatedRow, Mark, Asks, Teaches, Installs, Prepares, mark_of, Course, Progress, Sets, IsKnown, IsFit, SlotLeaders, IsLeadOf, IsAside, IsCount, answered, marks_for}
+use Rattle.sc_live_steps.proofs.FollowingProofs.FollowingLemmas.{prepares_are_known, counts_of, same_mark, order_is_kept}
+use Rattle.sc_live_journals.specs.rows.RowDefinitions.{view_at, mark_in, taken_mark, promise_in, progress_at, led_course, LedBy, IsSeat, with_event, IsReplicasRow}
+use Rattle.sc_live_journals.proofs.RowsProofs.RowLemmas.{fit, goes_on, known as known_here, told_is, found_name, view_others}
+use Rattle.sc_live_journals.specs.groups.GroupDefinitions.{IsGroupRow, RowPasses, RowRests, RowTakes, RowMakes, RowLeads, RowElects, Ends, dated_at, IsWellLed, IsLedScene, AreWellBorn, HasOneLog, IsSentSo}
+use Rattle.sc_live_journals.proofs.GroupsProofs.GroupLemmas.{dated_in, taken_dated, rows_dated, asides_stay, orders_stay, promises_stay, scene, marks_all}
+use Rattle.sc_live_journals.specs.mail.MailDefinitions.{IsPlainlyKept, JournalsKeepIdle}
+use Rattle.sc_live_answers.specs.AnswerDefinitions.{AreAbove, HasBelow, IsAskedOn}
 use Rattle.sc_live_answers.proofs.BallotsProofs.PrepareSlots.{MovesLast, top_of, tops_after, own_top, others_top, own_up, low_after, sent_above, counts_asked, leads_asked, elects_asked}
 use Rattle.sc_live_answers.proofs.BallotsProofs.AcceptedReports.{IsPlainMail, RestsAt, mail_rests, order_rests, made_rests, asked_stands, polled_stands, nacked_stands}
 use Rattle.sc_live_answers.proofs.LedGroupsProofs.JoiningMembers.{HasAct, GoesFrom, votes_go}

@@ -2,9 +2,9 @@
 use Rattle.std.proofs.Common.{◌≡◌, ℕ, suc, zero, ◌+◌, ◌<◌, ◌≤◌, eqb, cond, Bool, true, false, true≢false, List, [], ◌∷◌, ◌++◌, Option, Some, None, ◌⊎◌, inl, inr, refl, sym, ◌∙◌, ap, subst, append_assoc, arith}
 use Rattle.std.proofs.lemmas.Bool.{cases_eq, cond-true, cond-false, eq-eqb, ne_eqb}
 use Rattle.sc_base.specs.Definitions.{Each, is_member}
-use Rattle.sc_node_table.specs.Definitions.{listed}
-use Rattle.sc_live_steps.specs.following.Definitions.{Dated, marks_in, IsLow, AreLow, IsDatedRow, Mark, Asks, Teaches, Installs, Prepares, next_by, Course, Progress, Sets, members_at, IsKnown, IsCount, IsOffer, taught_from}
-use Rattle.sc_live_answers.specs.Definitions.{IsAbove, top_by, AreAbove}
+use Rattle.sc_node_table.specs.NodeDefinitions.{listed}
+use Rattle.sc_live_steps.specs.following.FollowingDefinitions.{Dated, marks_in, IsLow, AreLow, IsDatedRow, Mark, Asks, Teaches, Installs, Prepares, next_by, Course, Progress, Sets, members_at, IsKnown, IsCount, IsOffer, taught_from}
+use Rattle.sc_live_answers.specs.AnswerDefinitions.{IsAbove, top_by, AreAbove}
 
 -- ---- lists
 

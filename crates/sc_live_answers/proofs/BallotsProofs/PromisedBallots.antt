@@ -3,20 +3,20 @@ use Rattle.std.proofs.Common.{◌≡◌, ℕ, true, true≢false, List, [], ◌�
 use Rattle.std.proofs.lemmas.Bool.{cases_eq}
 use Rattle.sc_node_table.specs.Values.{Ballot, Draw, Base, OrderLine, Mail, Seat, Event, Row}
 use Rattle.sc_actor.specs.Definitions.{mails, row_of}
-use Rattle.sc_live_orderly.specs.Definitions.{IsCalmEvent, AreInTime}
-use Rattle.sc_words.specs.paxos.Definitions.{IsAtLeast}
-use Rattle.sc_words.proofs.PaxosProofs.Lemmas.{at_least_itself, at_least_trans}
+use Rattle.sc_live_orderly.specs.OrderlyDefinitions.{IsCalmEvent, AreInTime}
+use Rattle.sc_words.specs.paxos.PaxosDefinitions.{IsAtLeast}
+use Rattle.sc_words.proofs.PaxosProofs.PaxosLemmas.{at_least_itself, at_least_trans}
 use Rattle.sc_scenario.specs.declared.scenario.scenarios.Scenario.{Scenario}
-use Rattle.sc_node_table.specs.Definitions.{ReplicaState, listed, first_ballot}
-use Rattle.sc_meaning.specs.sound.Definitions.{Player, player_table, births, as_nodes}
-use Rattle.sc_live_steps.specs.calm.Definitions.{players, Rows}
-use Rattle.sc_live_steps.specs.following.Definitions.{Mark, Prepares, reached, pledged, AreFit, Course, Progress, Sets, IsOpen, SlotLeaders, IsRow, marks_for}
-use Rattle.sc_live_steps.proofs.FollowingProofs.Lemmas.{pledged-append}
-use Rattle.sc_live_journals.specs.rows.Definitions.{view_at, marks_at, taken_mark, promise_in, progress_at, IsSeat, with_event}
-use Rattle.sc_live_journals.proofs.RowsProofs.Lemmas.{rows_are, view_others}
-use Rattle.sc_live_journals.specs.groups.Definitions.{IsLedStep, Ends, IsWellLed, AreWellBorn, HasOneLog, IsSentSo}
-use Rattle.sc_live_journals.proofs.GroupsProofs.Lemmas.{replicas_kept, scenarios_kept_born}
-use Rattle.sc_live_journals.specs.mail.Definitions.{JournalsKeepIdle}
+use Rattle.sc_node_table.specs.NodeDefinitions.{ReplicaState, listed, first_ballot}
+use Rattle.sc_meaning.specs.sound.SoundDefinitions.{Player, player_table, births, as_nodes}
+use Rattle.sc_live_steps.specs.calm.CalmDefinitions.{players, Rows}
+use Rattle.sc_live_steps.specs.following.FollowingDefinitions.{Mark, Prepares, reached, pledged, AreFit, Course, Progress, Sets, IsOpen, SlotLeaders, IsRow, marks_for}
+use Rattle.sc_live_steps.proofs.FollowingProofs.FollowingLemmas.{pledged-append}
+use Rattle.sc_live_journals.specs.rows.RowDefinitions.{view_at, marks_at, taken_mark, promise_in, progress_at, IsSeat, with_event}
+use Rattle.sc_live_journals.proofs.RowsProofs.RowLemmas.{rows_are, view_others}
+use Rattle.sc_live_journals.specs.groups.GroupDefinitions.{IsLedStep, Ends, IsWellLed, AreWellBorn, HasOneLog, IsSentSo}
+use Rattle.sc_live_journals.proofs.GroupsProofs.GroupLemmas.{replicas_kept, scenarios_kept_born}
+use Rattle.sc_live_journals.specs.mail.MailDefinitions.{JournalsKeepIdle}
 use Rattle.sc_live_answers.proofs.BallotsProofs.SeenBallotBounds.{Shows, ShowsNone, ShowsAsked, ShowsRefused, ShowsOwn, shown}
 use Rattle.sc_live_answers.proofs.BallotsProofs.SeenBallots.{RefusesOld, promise_then}
 use Rattle.sc_live_answers.proofs.BallotsProofs.HintedMarks.{member_open, pledged_rises, fit_behind}

@@ -4,17 +4,17 @@ use Rattle.std.specs.Prelude.{is_some}
 use Rattle.std.proofs.lemmas.Bool.{cases_Bool}
 use Rattle.sc_node_table.specs.Values.{Ballot, Draw, Base, Route, Seat}
 use Rattle.sc_base.specs.Definitions.{is_member}
-use Rattle.sc_words.specs.paxos.Definitions.{IsAtLeast}
-use Rattle.sc_words.proofs.PaxosProofs.Lemmas.{same_from_at_least}
+use Rattle.sc_words.specs.paxos.PaxosDefinitions.{IsAtLeast}
+use Rattle.sc_words.proofs.PaxosProofs.PaxosLemmas.{same_from_at_least}
 use Rattle.sc_scenario.specs.declared.scenario.scenarios.Scenario.{Scenario}
-use Rattle.sc_node_table.specs.Definitions.{ReplicaState, next}
-use Rattle.sc_meaning.specs.sound.Definitions.{Player, births, as_nodes}
-use Rattle.sc_live_steps.specs.calm.Definitions.{players, HasReplica, RisesAt, Rows}
-use Rattle.sc_live_steps.specs.following.Definitions.{Mark, reached, pledged, Course, Progress, Sets, IsOpen, IsFollowing, SlotLeaders, hinted}
-use Rattle.sc_live_journals.specs.rows.Definitions.{view_at, marks_at, next_in, promise_in, progress_at}
-use Rattle.sc_live_journals.specs.groups.Definitions.{Ends, hint_in, hints_at, IsTopKept}
-use Rattle.sc_live_journals.proofs.GroupsProofs.Lemmas.{replicas_kept, scenarios_kept_born}
-use Rattle.sc_live_answers.specs.Definitions.{IsSentThrough, IsPassed, IsFated, QuietHintsRise, IsRisingOn}
+use Rattle.sc_node_table.specs.NodeDefinitions.{ReplicaState, next}
+use Rattle.sc_meaning.specs.sound.SoundDefinitions.{Player, births, as_nodes}
+use Rattle.sc_live_steps.specs.calm.CalmDefinitions.{players, HasReplica, RisesAt, Rows}
+use Rattle.sc_live_steps.specs.following.FollowingDefinitions.{Mark, reached, pledged, Course, Progress, Sets, IsOpen, IsFollowing, SlotLeaders, hinted}
+use Rattle.sc_live_journals.specs.rows.RowDefinitions.{view_at, marks_at, next_in, promise_in, progress_at}
+use Rattle.sc_live_journals.specs.groups.GroupDefinitions.{Ends, hint_in, hints_at, IsTopKept}
+use Rattle.sc_live_journals.proofs.GroupsProofs.GroupLemmas.{replicas_kept, scenarios_kept_born}
+use Rattle.sc_live_answers.specs.AnswerDefinitions.{IsSentThrough, IsPassed, IsFated, QuietHintsRise, IsRisingOn}
 use Rattle.sc_live_answers.proofs.QuietProofs.EvenReplicas.{has_one as even_has, leader as even_leader, over_then as even_over}
 use Rattle.sc_live_answers.proofs.BallotsProofs.HintedMarks.{round_most, open_or}
 use Rattle.std.proofs.lemmas.Option.{same_Some}

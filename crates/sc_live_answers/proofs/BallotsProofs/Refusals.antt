@@ -2,8 +2,8 @@
 use Rattle.std.proofs.Common.{◌≡◌, ℕ, List, refl, sym, subst}
 use Rattle.sc_base.specs.Definitions.{Drawer, Each}
 use Rattle.sc_node_table.specs.Values.{Ballot, Draw, Command, Base, OrderLine, Mail, MailBody, Nack}
-use Rattle.sc_words.specs.paxos.Definitions.{AcceptorState}
-use Rattle.sc_node_table.specs.Definitions.{ordered_row, mailed, made_by, ReplicaState, Place, name_of}
+use Rattle.sc_words.specs.paxos.PaxosDefinitions.{AcceptorState}
+use Rattle.sc_node_table.specs.NodeDefinitions.{ordered_row, mailed, made_by, ReplicaState, Place, name_of}
 use Rattle.sc_live_journals.proofs.RowsProofs.OwnGroupMail as own
 
 module _ (may : Draw → ℕ → Ballot → Type 0) where

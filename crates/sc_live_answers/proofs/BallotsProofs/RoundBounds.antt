@@ -5,19 +5,19 @@ use Rattle.sc_base.specs.Definitions.{Among}
 use Rattle.sc_node_table.specs.Values.{Ballot, Draw, Base, OrderLine, Seat, Event}
 use Rattle.sc_actor.specs.declared.rows.Event.TheVariants.{Told}
 use Rattle.sc_actor.specs.Definitions.{mails, numbers_of}
-use Rattle.sc_live_orderly.specs.Definitions.{IsCalmEvent, AreInTime}
+use Rattle.sc_live_orderly.specs.OrderlyDefinitions.{IsCalmEvent, AreInTime}
 use Rattle.sc_scenario.specs.declared.scenario.scenarios.Scenario.{Scenario}
-use Rattle.sc_node_table.specs.Definitions.{ReplicaState, Place}
-use Rattle.sc_meaning.specs.sound.Definitions.{Player, births, as_nodes}
-use Rattle.sc_live_steps.specs.calm.Definitions.{players, Rows}
-use Rattle.sc_live_steps.specs.following.Definitions.{Course, Sets, SlotLeaders}
-use Rattle.sc_live_steps.specs.orders.Definitions.{works, Work, Deal, Stage, Still, Asks, IsAt}
-use Rattle.sc_live_journals.specs.rows.Definitions.{view_at, taken_mark, led_course, elected_course, IsSeat, with_event, IsReplicasRow}
-use Rattle.sc_live_journals.specs.groups.Definitions.{IsGroupRow, RowPasses, RowRests, RowTakes, RowMakes, RowLeads, RowElects, Ends, LeadsWell, ElectsWell, AreWellBorn}
-use Rattle.sc_live_journals.specs.mail.Definitions.{JournalsKeepIdle}
-use Rattle.sc_live_journals.specs.scenes.Definitions.{GivesAnOrder, GoesBy, is_running, lead_of, works_of, work_at, scene_at}
-use Rattle.sc_live_journals.proofs.ScenesProofs.Lemmas.{lead_found, lead_runs, seat_among}
-use Rattle.sc_live_answers.specs.Definitions.{IsSentThrough, IsSentStep, MustLead, HasOneRound, StaysGone}
+use Rattle.sc_node_table.specs.NodeDefinitions.{ReplicaState, Place}
+use Rattle.sc_meaning.specs.sound.SoundDefinitions.{Player, births, as_nodes}
+use Rattle.sc_live_steps.specs.calm.CalmDefinitions.{players, Rows}
+use Rattle.sc_live_steps.specs.following.FollowingDefinitions.{Course, Sets, SlotLeaders}
+use Rattle.sc_live_steps.specs.orders.OrderDefinitions.{works, Work, Deal, Stage, Still, Asks, IsAt}
+use Rattle.sc_live_journals.specs.rows.RowDefinitions.{view_at, taken_mark, led_course, elected_course, IsSeat, with_event, IsReplicasRow}
+use Rattle.sc_live_journals.specs.groups.GroupDefinitions.{IsGroupRow, RowPasses, RowRests, RowTakes, RowMakes, RowLeads, RowElects, Ends, LeadsWell, ElectsWell, AreWellBorn}
+use Rattle.sc_live_journals.specs.mail.MailDefinitions.{JournalsKeepIdle}
+use Rattle.sc_live_journals.specs.scenes.SceneDefinitions.{GivesAnOrder, GoesBy, is_running, lead_of, works_of, work_at, scene_at}
+use Rattle.sc_live_journals.proofs.ScenesProofs.SceneLemmas.{lead_found, lead_runs, seat_among}
+use Rattle.sc_live_answers.specs.AnswerDefinitions.{IsSentThrough, IsSentStep, MustLead, HasOneRound, StaysGone}
 use Rattle.sc_live_answers.proofs.BallotsProofs.PrepareSlotRows.{leader_moves}
 use Rattle.sc_live_answers.proofs.LedGroupsProofs.JoiningMembers.{HasAct}
 use Rattle.sc_live_answers.proofs.OrdersProofs.ActsUnderOrders.{has_work}

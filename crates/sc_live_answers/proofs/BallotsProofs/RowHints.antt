@@ -5,24 +5,24 @@ use Rattle.std.proofs.lemmas.Bool.{cond-false}
 use Rattle.sc_base.specs.Definitions.{same_ballot, is_member}
 use Rattle.sc_node_table.specs.Values.{Ballot, Draw, Command, Base, Route, OrderLine, Mail, MailBody, Prepare, Promise, Accept, Accepted, Nack, Learn, Install, Seat, Event, Report}
 use Rattle.sc_actor.specs.Definitions.{mails, row_of}
-use Rattle.sc_live_orderly.specs.Definitions.{IsCalmEvent, AreInTime}
-use Rattle.sc_live_orderly.proofs.Lemmas.{in_time_before}
-use Rattle.sc_words.specs.paxos.Definitions.{IsAtLeast, promise_counted}
+use Rattle.sc_live_orderly.specs.OrderlyDefinitions.{IsCalmEvent, AreInTime}
+use Rattle.sc_live_orderly.proofs.OrderlyLemmas.{in_time_before}
+use Rattle.sc_words.specs.paxos.PaxosDefinitions.{IsAtLeast, promise_counted}
 use Rattle.sc_scenario.specs.declared.scenario.scenarios.Scenario.{Scenario}
-use Rattle.sc_node_table.specs.Definitions.{entered, NodeState, group_of_mail, pumped, ReplicaState, Place, Executed, childless, listed, name_of, next, set_at, mailed, leads, promise_row, voted, accepted_row}
-use Rattle.sc_law_walks.specs.Definitions.{GoesOn}
-use Rattle.sc_law_walks.proofs.Lemmas.{entered_next}
-use Rattle.sc_meaning.specs.sound.Definitions.{Player, player_table, births, as_nodes}
-use Rattle.sc_live_steps.specs.calm.Definitions.{players, Rows}
-use Rattle.sc_live_steps.specs.following.Definitions.{from_slot_of, next_by, Mark, Asks, Votes, Teaches, Installs, Prepares, Promises, mark_of, Course, Progress, Sets, members_at, IsFit, SlotLeaders, hint_by, AreHeeded, GoesBy, StepsBy, Stays, MayElect}
-use Rattle.sc_live_steps.proofs.FollowingProofs.Lemmas.{prepares_are_known, tables_elect, same_mark, hints_follow}
-use Rattle.sc_live_journals.specs.rows.Definitions.{view_at, mark_in, taken_mark, next_in, promise_in, progress_at, IsScene, IsSeat, with_event, IsReplicasRow}
+use Rattle.sc_node_table.specs.NodeDefinitions.{entered, NodeState, group_of_mail, pumped, ReplicaState, Place, Executed, childless, listed, name_of, next, set_at, mailed, leads, promise_row, voted, accepted_row}
+use Rattle.sc_law_walks.specs.WalkDefinitions.{GoesOn}
+use Rattle.sc_law_walks.proofs.WalkLemmas.{entered_next}
+use Rattle.sc_meaning.specs.sound.SoundDefinitions.{Player, player_table, births, as_nodes}
+use Rattle.sc_live_steps.specs.calm.CalmDefinitions.{players, Rows}
+use Rattle.sc_live_steps.specs.following.FollowingDefinitions.{from_slot_of, next_by, Mark, Asks, Votes, Teaches, Installs, Prepares, Promises, mark_of, Course, Progress, Sets, members_at, IsFit, SlotLeaders, hint_by, AreHeeded, GoesBy, StepsBy, Stays, MayElect}
+use Rattle.sc_live_steps.proofs.FollowingProofs.FollowingLemmas.{prepares_are_known, tables_elect, same_mark, hints_follow}
+use Rattle.sc_live_journals.specs.rows.RowDefinitions.{view_at, mark_in, taken_mark, next_in, promise_in, progress_at, IsScene, IsSeat, with_event, IsReplicasRow}
 use Rattle.sc_live_journals.proofs.RowsProofs.RowMarks.{HasMark}
 use Rattle.sc_live_journals.proofs.GroupsProofs.JournalEvents.{asks_own}
-use Rattle.sc_live_journals.proofs.RowsProofs.Lemmas.{entered_name, apart_off, head, within, fit, known}
-use Rattle.sc_live_journals.specs.groups.Definitions.{Ends, hint_in, hints_at, dated_at, IsWellLed, IsOfLog, AreWellBorn, HasOneLog, IsSentSo}
-use Rattle.sc_live_journals.proofs.GroupsProofs.Lemmas.{rows_dated, scene}
-use Rattle.sc_live_journals.specs.mail.Definitions.{JournalsKeepIdle}
+use Rattle.sc_live_journals.proofs.RowsProofs.RowLemmas.{entered_name, apart_off, head, within, fit, known}
+use Rattle.sc_live_journals.specs.groups.GroupDefinitions.{Ends, hint_in, hints_at, dated_at, IsWellLed, IsOfLog, AreWellBorn, HasOneLog, IsSentSo}
+use Rattle.sc_live_journals.proofs.GroupsProofs.GroupLemmas.{rows_dated, scene}
+use Rattle.sc_live_journals.specs.mail.MailDefinitions.{JournalsKeepIdle}
 use Rattle.sc_live_answers.proofs.BallotsProofs.PrepareSlotRows.{NamesAlone, FitsMail, kept_of, turn, s, named_is, own_name, marked, dated_is, most, goes}
 use Rattle.sc_live_answers.proofs.BallotsProofs.GreatestBallots.{stays_or_may, entered_top}
 use Rattle.sc_live_answers.proofs.ReplicasProofs.PlayerEvents.{TurnsMail, IsTurn, TurnRests, TurnCreates, TurnTakes, TurnMakes, TurnTold}

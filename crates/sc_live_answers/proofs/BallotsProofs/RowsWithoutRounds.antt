@@ -4,20 +4,20 @@ use Rattle.std.proofs.lemmas.Bool.{cases_eq, cases_lt, cond_both}
 use Rattle.sc_base.specs.Definitions.{Each, is_member}
 use Rattle.sc_node_table.specs.Values.{Ballot, Seat, Event, Command, Noop, Call, Base, OrderLine, Flight}
 use Rattle.sc_actor.specs.Definitions.{row_of, mails}
-use Rattle.sc_node_table.specs.Definitions.{is_act, ReplicaState, flying, listed, next, at_slot}
-use Rattle.sc_live_orderly.proofs.Lemmas.{Each-behind}
-use Rattle.sc_live_orderly.specs.Definitions.{AreInTime}
-use Rattle.sc_words.specs.paxos.Definitions.{flight_at}
-use Rattle.sc_words.proofs.PaxosProofs.Lemmas.{Each-among, Each-append, Each-weaker, find_found}
-use Rattle.sc_meaning.specs.sound.Definitions.{Player, player_table}
-use Rattle.sc_live_steps.specs.following.Definitions.{Asks, Course, Mark, Prepares, Progress, Sets, Teaches, Votes, members_at, SlotLeaders, ActsAlone, IsLeadOf, IsLed, IsOrderly, IsOffer, IsRow, answered, taught_from, reported_of, welcome}
-use Rattle.sc_live_steps.specs.calm.Definitions.{players, Rows}
-use Rattle.sc_live_steps.specs.orders.Definitions.{work_by, Work}
-use Rattle.sc_live_journals.specs.rows.Definitions.{progress_at, view_at, led_course, with_event, taken_mark}
-use Rattle.sc_live_journals.proofs.RowsProofs.Lemmas.{rows_are}
-use Rattle.sc_live_journals.specs.scenes.Definitions.{IsWork}
-use Rattle.sc_live_journals.specs.groups.Definitions.{IsGroupRow, IsLedStep, RowElects, RowLeads, RowMakes, RowPasses, RowRests, RowTakes, Ends, IsWellLed}
-use Rattle.sc_live_answers.specs.Definitions.{IsOrdersAlone, HasNoRounds, IsNoRound}
+use Rattle.sc_node_table.specs.NodeDefinitions.{is_act, ReplicaState, flying, listed, next, at_slot}
+use Rattle.sc_live_orderly.proofs.OrderlyLemmas.{Each-behind}
+use Rattle.sc_live_orderly.specs.OrderlyDefinitions.{AreInTime}
+use Rattle.sc_words.specs.paxos.PaxosDefinitions.{flight_at}
+use Rattle.sc_words.proofs.PaxosProofs.PaxosLemmas.{Each-among, Each-append, Each-weaker, find_found}
+use Rattle.sc_meaning.specs.sound.SoundDefinitions.{Player, player_table}
+use Rattle.sc_live_steps.specs.following.FollowingDefinitions.{Asks, Course, Mark, Prepares, Progress, Sets, Teaches, Votes, members_at, SlotLeaders, ActsAlone, IsLeadOf, IsLed, IsOrderly, IsOffer, IsRow, answered, taught_from, reported_of, welcome}
+use Rattle.sc_live_steps.specs.calm.CalmDefinitions.{players, Rows}
+use Rattle.sc_live_steps.specs.orders.OrderDefinitions.{work_by, Work}
+use Rattle.sc_live_journals.specs.rows.RowDefinitions.{progress_at, view_at, led_course, with_event, taken_mark}
+use Rattle.sc_live_journals.proofs.RowsProofs.RowLemmas.{rows_are}
+use Rattle.sc_live_journals.specs.scenes.SceneDefinitions.{IsWork}
+use Rattle.sc_live_journals.specs.groups.GroupDefinitions.{IsGroupRow, IsLedStep, RowElects, RowLeads, RowMakes, RowPasses, RowRests, RowTakes, Ends, IsWellLed}
+use Rattle.sc_live_answers.specs.AnswerDefinitions.{IsOrdersAlone, HasNoRounds, IsNoRound}
 
 -- ---- lists of marks
 

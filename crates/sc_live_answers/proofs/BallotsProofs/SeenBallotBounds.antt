@@ -4,23 +4,23 @@ use Rattle.std.proofs.lemmas.Bool.{cases_Bool, cases_eq}
 use Rattle.sc_base.specs.Definitions.{Each}
 use Rattle.sc_node_table.specs.Values.{Ballot, Draw, Command, Base, OrderLine, Mail, MailBody, Prepare, Promise, Accept, Accepted, Nack, Learn, Ask, Install, Seat, Event, Deliver, Report}
 use Rattle.sc_actor.specs.Definitions.{mails, numbered, row_of}
-use Rattle.sc_live_orderly.specs.Definitions.{IsCalmEvent, AreInTime}
-use Rattle.sc_words.specs.paxos.Definitions.{below, IsAtLeast}
-use Rattle.sc_words.proofs.PaxosProofs.Lemmas.{at_least_itself, at_least_trans, Each-among}
+use Rattle.sc_live_orderly.specs.OrderlyDefinitions.{IsCalmEvent, AreInTime}
+use Rattle.sc_words.specs.paxos.PaxosDefinitions.{below, IsAtLeast}
+use Rattle.sc_words.proofs.PaxosProofs.PaxosLemmas.{at_least_itself, at_least_trans, Each-among}
 use Rattle.sc_scenario.specs.declared.scenario.scenarios.Scenario.{Scenario}
-use Rattle.sc_node_table.specs.Definitions.{entered, NodeState, group_of_mail, ordered_row, ReplicaState, listed, name_of, next, first_ballot, born_replica, mailed, made_by, slots_ahead}
-use Rattle.sc_law_groups.proofs.GroupProofs.Lemmas.{number_among}
-use Rattle.sc_law_walks.specs.Definitions.{GoesOn}
-use Rattle.sc_meaning.specs.sound.Definitions.{Player, player_table, births, as_nodes}
-use Rattle.sc_live_steps.specs.calm.Definitions.{players, Rows}
-use Rattle.sc_live_steps.specs.following.Definitions.{Asks, Teaches, Prepares, mark_of, Course, Sets, IsKnown, IsFit, SlotLeaders}
-use Rattle.sc_live_steps.proofs.FollowingProofs.Lemmas.{tables_elect, same_mark}
-use Rattle.sc_live_journals.specs.rows.Definitions.{view_at, taken_mark, promise_in, IsSeat, with_event}
-use Rattle.sc_live_journals.proofs.RowsProofs.Lemmas.{entered_name, rows_are, fit, known, view_others}
-use Rattle.sc_live_journals.specs.groups.Definitions.{IsGroupRow, RowPasses, RowRests, RowTakes, RowMakes, RowLeads, RowElects, IsLedStep, Ends, IsWellLed, AreWellBorn, HasOneLog, IsSentSo, IsTopKept}
-use Rattle.sc_live_journals.proofs.GroupsProofs.Lemmas.{replicas_kept, scenarios_kept_born, scene}
-use Rattle.sc_live_journals.specs.mail.Definitions.{JournalsKeepIdle}
-use Rattle.sc_live_answers.specs.Definitions.{IsAskedOn, IsSentOn, SaysWell}
+use Rattle.sc_node_table.specs.NodeDefinitions.{entered, NodeState, group_of_mail, ordered_row, ReplicaState, listed, name_of, next, first_ballot, born_replica, mailed, made_by, slots_ahead}
+use Rattle.sc_law_groups.proofs.GroupProofs.GroupLemmas.{number_among}
+use Rattle.sc_law_walks.specs.WalkDefinitions.{GoesOn}
+use Rattle.sc_meaning.specs.sound.SoundDefinitions.{Player, player_table, births, as_nodes}
+use Rattle.sc_live_steps.specs.calm.CalmDefinitions.{players, Rows}
+use Rattle.sc_live_steps.specs.following.FollowingDefinitions.{Asks, Teaches, Prepares, mark_of, Course, Sets, IsKnown, IsFit, SlotLeaders}
+use Rattle.sc_live_steps.proofs.FollowingProofs.FollowingLemmas.{tables_elect, same_mark}
+use Rattle.sc_live_journals.specs.rows.RowDefinitions.{view_at, taken_mark, promise_in, IsSeat, with_event}
+use Rattle.sc_live_journals.proofs.RowsProofs.RowLemmas.{entered_name, rows_are, fit, known, view_others}
+use Rattle.sc_live_journals.specs.groups.GroupDefinitions.{IsGroupRow, RowPasses, RowRests, RowTakes, RowMakes, RowLeads, RowElects, IsLedStep, Ends, IsWellLed, AreWellBorn, HasOneLog, IsSentSo, IsTopKept}
+use Rattle.sc_live_journals.proofs.GroupsProofs.GroupLemmas.{replicas_kept, scenarios_kept_born, scene}
+use Rattle.sc_live_journals.specs.mail.MailDefinitions.{JournalsKeepIdle}
+use Rattle.sc_live_answers.specs.AnswerDefinitions.{IsAskedOn, IsSentOn, SaysWell}
 use Rattle.sc_live_answers.proofs.BallotsProofs.AcceptedReports.{IsPlainMail, StandsAt, asked_low, polled_stands, nacked_low, nacked_stands}
 use Rattle.sc_live_answers.proofs.BallotsProofs.PrepareSlotRows.{NamesAlone, FitsMail, kept_of, turn, s, named_is, own_name, marked, most, goes, leader_moves, some_none}
 use Rattle.sc_live_answers.proofs.BallotsProofs.Ballots.{All_, mail_sees, order_sees}

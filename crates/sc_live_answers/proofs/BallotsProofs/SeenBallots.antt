@@ -8,24 +8,24 @@ use Rattle.sc_actor.specs.declared.rows.Event.TheVariants.{Told}
 use Rattle.sc_actor.specs.declared.rows.Input.TheVariants.{Tick}
 use Rattle.sc_actor.specs.Definitions.{mails, numbered, value, acted, input_of, row_of}
 use Rattle.sc_actor.proofs.Lemmas.{mails-snoc}
-use Rattle.sc_law_groups.proofs.GroupProofs.Lemmas.{number_among}
-use Rattle.sc_live_orderly.specs.Definitions.{IsCalmEvent, AreInTime}
-use Rattle.sc_live_orderly.proofs.Lemmas.{in_time_before, in_time_tidy, takes_first, is_born-from}
-use Rattle.sc_words.specs.paxos.Definitions.{below, IsAtLeast}
-use Rattle.sc_words.proofs.PaxosProofs.Lemmas.{at_least_itself, at_least_trans, same_from_at_least, Each-among, Each-append, Each-weaker}
+use Rattle.sc_law_groups.proofs.GroupProofs.GroupLemmas.{number_among}
+use Rattle.sc_live_orderly.specs.OrderlyDefinitions.{IsCalmEvent, AreInTime}
+use Rattle.sc_live_orderly.proofs.OrderlyLemmas.{in_time_before, in_time_tidy, takes_first, is_born-from}
+use Rattle.sc_words.specs.paxos.PaxosDefinitions.{below, IsAtLeast}
+use Rattle.sc_words.proofs.PaxosProofs.PaxosLemmas.{at_least_itself, at_least_trans, same_from_at_least, Each-among, Each-append, Each-weaker}
 use Rattle.sc_scenario.specs.declared.scenario.scenarios.Scenario.{Scenario}
-use Rattle.sc_node_table.specs.Definitions.{NodeState, replica_of, group_of_mail, ReplicaState, listed, first_ballot}
-use Rattle.sc_meaning.specs.sound.Definitions.{Player, player_table, births, as_nodes}
-use Rattle.sc_law_walks.proofs.Lemmas.{either_way}
-use Rattle.sc_live_steps.specs.calm.Definitions.{players, Rows}
-use Rattle.sc_live_steps.specs.following.Definitions.{Mark, Asks, Votes, Teaches, Prepares, Promises, promise_by, pledged, mark_of, AreFit, Course, Progress, Sets, members_at, SlotLeaders, IsRow, answered, welcome, reported_of, taught_from, IsOffer, marks_for}
-use Rattle.sc_live_steps.proofs.FollowingProofs.Lemmas.{count-pledged, same_mark, last_promise as last_pledged}
-use Rattle.sc_live_journals.specs.rows.Definitions.{view_at, marks_at, taken_mark, promise_in, progress_at, IsOwnMail, IsOwnAsking, led_course, IsSeat, with_event}
-use Rattle.sc_live_journals.proofs.RowsProofs.Lemmas.{rows_are, ballots_own, births_alone, view_others, view_was, found_name}
-use Rattle.sc_live_journals.specs.groups.Definitions.{IsGroupRow, RowPasses, RowRests, RowTakes, RowMakes, RowLeads, RowElects, IsLedStep, Ends, IsWellLed}
-use Rattle.sc_live_journals.proofs.GroupsProofs.Lemmas.{replicas_kept, scenarios_kept_born}
-use Rattle.sc_live_journals.proofs.MailProofs.Lemmas.{replicas_last}
-use Rattle.sc_live_answers.specs.Definitions.{top_in, IsSeen, AsksSeen, RefusesSeen}
+use Rattle.sc_node_table.specs.NodeDefinitions.{NodeState, replica_of, group_of_mail, ReplicaState, listed, first_ballot}
+use Rattle.sc_meaning.specs.sound.SoundDefinitions.{Player, player_table, births, as_nodes}
+use Rattle.sc_law_walks.proofs.WalkLemmas.{either_way}
+use Rattle.sc_live_steps.specs.calm.CalmDefinitions.{players, Rows}
+use Rattle.sc_live_steps.specs.following.FollowingDefinitions.{Mark, Asks, Votes, Teaches, Prepares, Promises, promise_by, pledged, mark_of, AreFit, Course, Progress, Sets, members_at, SlotLeaders, IsRow, answered, welcome, reported_of, taught_from, IsOffer, marks_for}
+use Rattle.sc_live_steps.proofs.FollowingProofs.FollowingLemmas.{count-pledged, same_mark, last_promise as last_pledged}
+use Rattle.sc_live_journals.specs.rows.RowDefinitions.{view_at, marks_at, taken_mark, promise_in, progress_at, IsOwnMail, IsOwnAsking, led_course, IsSeat, with_event}
+use Rattle.sc_live_journals.proofs.RowsProofs.RowLemmas.{rows_are, ballots_own, births_alone, view_others, view_was, found_name}
+use Rattle.sc_live_journals.specs.groups.GroupDefinitions.{IsGroupRow, RowPasses, RowRests, RowTakes, RowMakes, RowLeads, RowElects, IsLedStep, Ends, IsWellLed}
+use Rattle.sc_live_journals.proofs.GroupsProofs.GroupLemmas.{replicas_kept, scenarios_kept_born}
+use Rattle.sc_live_journals.proofs.MailProofs.MailLemmas.{replicas_last}
+use Rattle.sc_live_answers.specs.AnswerDefinitions.{top_in, IsSeen, AsksSeen, RefusesSeen}
 use Rattle.sc_live_answers.specs.SeenBallots.{AreSeen}
 use Rattle.sc_live_answers.proofs.BallotsProofs.HintedMarks.{pledged_rises}
 use Rattle.sc_live_answers.proofs.BallotsProofs.Refusals.{IsRefusal, AreSaid}

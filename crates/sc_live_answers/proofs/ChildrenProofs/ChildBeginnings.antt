@@ -4,22 +4,22 @@ use Rattle.sc_base.specs.Definitions.{Among, Each, same_draw, is_member}
 use Rattle.sc_node_table.specs.Values.{Draw, Command, Base, Route, Mail, MailBody, Accepted as AcceptedMail, Learn, Node, Seat}
 use Rattle.sc_base.proofs.Lemmas.{same_name, draw_is}
 use Rattle.sc_actor.specs.Definitions.{mails, numbered, value}
-use Rattle.sc_group_table.specs.machine.Definitions.{group_of, state_after}
-use Rattle.sc_meaning.proofs.EntriesProofs.Lemmas.{births_are_children}
-use Rattle.sc_words.proofs.PaxosProofs.Lemmas.{Each-among, Each-weaker, find_found}
-use Rattle.sc_paxos_law.specs.Definitions.{IsLawfulHistory}
+use Rattle.sc_group_table.specs.machine.MachineDefinitions.{group_of, state_after}
+use Rattle.sc_meaning.proofs.EntriesProofs.EntryLemmas.{births_are_children}
+use Rattle.sc_words.proofs.PaxosProofs.PaxosLemmas.{Each-among, Each-weaker, find_found}
+use Rattle.sc_paxos_law.specs.PaxosLawDefinitions.{IsLawfulHistory}
 use Rattle.sc_paxos_law.proofs.Lemmas.{Among-either, from_map}
 use Rattle.sc_scenario.specs.declared.scenario.scenarios.Scenario.{Scenario}
-use Rattle.sc_node_table.specs.Definitions.{NodeState, replica_of, group_of_mail, ReplicaState, name_of, mailed, numbers_from}
-use Rattle.sc_meaning.specs.sound.Definitions.{groups_at, entries_at, decided_log, Ahead, Player, Lawful, births, node_seat, client_seat, player_table}
-use Rattle.sc_law_entries.specs.ring.Definitions.{Sources}
-use Rattle.sc_law_entries.specs.logs.Definitions.{Rows, AreFound, StayRecorded, DecideInTurn}
-use Rattle.sc_law_entries.proofs.LogsProofs.Lemmas.{deciding_rows, groups_are_found, deciding_rows_stay, Told}
-use Rattle.sc_law_groups.proofs.GroupProofs.Lemmas.{first_of, h_of, held, IsOneOf, Fine, Steps, rule, first, IsReplica, IsTrue, OffersMade, IsChildOf, learnt_are, accepted_are, among_numbers, number_among, Speaks}
-use Rattle.sc_law_groups.specs.whole.Definitions.{BeginsWell, OrdersAreAllowed, stories_at, MayQueue, IsHeardAt, PartiesAreApart, MergesFit}
-use Rattle.sc_law_groups.proofs.WholeProofs.Lemmas.{parties_are_apart, merges_fit, goes_on_from, speaks, members_stay_rosters, Holds}
-use Rattle.sc_live_journals.specs.rows.Definitions.{IsSeat, made_children, AreAsBegun}
-use Rattle.sc_live_journals.proofs.LogsProofs.Lemmas.{no_client, one_node, whole, prefix}
+use Rattle.sc_node_table.specs.NodeDefinitions.{NodeState, replica_of, group_of_mail, ReplicaState, name_of, mailed, numbers_from}
+use Rattle.sc_meaning.specs.sound.SoundDefinitions.{groups_at, entries_at, decided_log, Ahead, Player, Lawful, births, node_seat, client_seat, player_table}
+use Rattle.sc_law_entries.specs.ring.RingDefinitions.{Sources}
+use Rattle.sc_law_entries.specs.logs.LogDefinitions.{Rows, AreFound, StayRecorded, DecideInTurn}
+use Rattle.sc_law_entries.proofs.LogsProofs.LogLemmas.{deciding_rows, groups_are_found, deciding_rows_stay, Told}
+use Rattle.sc_law_groups.proofs.GroupProofs.GroupLemmas.{first_of, h_of, held, IsOneOf, Fine, Steps, rule, first, IsReplica, IsTrue, OffersMade, IsChildOf, learnt_are, accepted_are, among_numbers, number_among, Speaks}
+use Rattle.sc_law_groups.specs.whole.WholeDefinitions.{BeginsWell, OrdersAreAllowed, stories_at, MayQueue, IsHeardAt, PartiesAreApart, MergesFit}
+use Rattle.sc_law_groups.proofs.WholeProofs.WholeLemmas.{parties_are_apart, merges_fit, goes_on_from, speaks, members_stay_rosters, Holds}
+use Rattle.sc_live_journals.specs.rows.RowDefinitions.{IsSeat, made_children, AreAsBegun}
+use Rattle.sc_live_journals.proofs.LogsProofs.GroupLogLemmas.{no_client, one_node, whole, prefix}
 pub use Rattle.sc_live_journals.proofs.LogsProofs.LoggedChildren.{child_in}
 
 -- a replica's part of a row begins

@@ -5,24 +5,24 @@ use Rattle.std.specs.Prelude.{is_some}
 use Rattle.std.proofs.lemmas.Bool.{cases_eq, cases_lt, cond-true, cond-false, ne_eqb}
 use Rattle.sc_base.specs.Definitions.{Among, is_member}
 use Rattle.sc_node_table.specs.Values.{Draw, Base, OrderLine, Seat, Event}
-use Rattle.sc_group_table.specs.machine.Definitions.{group_of, state_after}
+use Rattle.sc_group_table.specs.machine.MachineDefinitions.{group_of, state_after}
 use Rattle.sc_actor.specs.Definitions.{mails, row_of}
-use Rattle.sc_live_orderly.specs.Definitions.{IsCalmEvent, AreInTime}
+use Rattle.sc_live_orderly.specs.OrderlyDefinitions.{IsCalmEvent, AreInTime}
 use Rattle.sc_paxos_law.proofs.Lemmas.{Among-left, Among-right, Among-either}
 use Rattle.sc_scenario.specs.scenario.Definitions.{ValidScenariosAreBounded}
 use Rattle.sc_scenario.specs.declared.scenario.scenarios.Scenario.{Scenario}
-use Rattle.sc_node_table.specs.Definitions.{ReplicaState, listed}
-use Rattle.sc_meaning.specs.sound.Definitions.{decided_log, Player, player_table, births, as_nodes}
-use Rattle.sc_live_steps.specs.calm.Definitions.{players, HasReplica}
-use Rattle.sc_law_entries.specs.logs.Definitions.{Rows}
-use Rattle.sc_live_steps.specs.following.Definitions.{Mark, Teaches, Course, Sets, members_at, SlotLeaders, IsRow, reported_of, taught_from, marks_for}
-use Rattle.sc_live_journals.specs.rows.Definitions.{view_at, progress_at, marks_at, taken_mark, begun_course, IsSeat, with_event}
-use Rattle.sc_live_journals.proofs.RowsProofs.Lemmas.{rows_are}
-use Rattle.sc_live_journals.proofs.MailProofs.Lemmas.{replicas_last}
-use Rattle.sc_live_journals.specs.logs.Definitions.{logged_sets, IsGroupOf}
-use Rattle.sc_live_journals.specs.groups.Definitions.{BeginsSo, IsGroupRow, RowPasses, RowRests, RowTakes, RowMakes, RowLeads, RowElects, IsWellLed, ScenariosAreWellBorn, IsRowOf, HasOneLog, IsSentSo}
-use Rattle.sc_live_journals.proofs.GroupsProofs.Lemmas.{scenarios_begin_led, children_begin_led, events_go_on}
-use Rattle.sc_live_answers.specs.Definitions.{over_at, GroupsAreBornOrNot, IsBirth, EntriesCreateChildren, AreBorn, IsBornOn, ChildrenAreMade}
+use Rattle.sc_node_table.specs.NodeDefinitions.{ReplicaState, listed}
+use Rattle.sc_meaning.specs.sound.SoundDefinitions.{decided_log, Player, player_table, births, as_nodes}
+use Rattle.sc_live_steps.specs.calm.CalmDefinitions.{players, HasReplica}
+use Rattle.sc_law_entries.specs.logs.LogDefinitions.{Rows}
+use Rattle.sc_live_steps.specs.following.FollowingDefinitions.{Mark, Teaches, Course, Sets, members_at, SlotLeaders, IsRow, reported_of, taught_from, marks_for}
+use Rattle.sc_live_journals.specs.rows.RowDefinitions.{view_at, progress_at, marks_at, taken_mark, begun_course, IsSeat, with_event}
+use Rattle.sc_live_journals.proofs.RowsProofs.RowLemmas.{rows_are}
+use Rattle.sc_live_journals.proofs.MailProofs.MailLemmas.{replicas_last}
+use Rattle.sc_live_journals.specs.logs.LogDefinitions.{logged_sets, IsGroupOf}
+use Rattle.sc_live_journals.specs.groups.GroupDefinitions.{BeginsSo, IsGroupRow, RowPasses, RowRests, RowTakes, RowMakes, RowLeads, RowElects, IsWellLed, ScenariosAreWellBorn, IsRowOf, HasOneLog, IsSentSo}
+use Rattle.sc_live_journals.proofs.GroupsProofs.GroupLemmas.{scenarios_begin_led, children_begin_led, events_go_on}
+use Rattle.sc_live_answers.specs.AnswerDefinitions.{over_at, GroupsAreBornOrNot, IsBirth, EntriesCreateChildren, AreBorn, IsBornOn, ChildrenAreMade}
 use Rattle.sc_live_answers.proofs.ChildrenProofs.ChildRows.{learnt_creates, lead_creates}
 use Rattle.sc_live_answers.proofs.ChildrenProofs.NamedChildren.{child_members, no_birth}
 

@@ -8,22 +8,22 @@ use Rattle.sc_node_table.specs.Values.{Draw, Command, Base, OrderLine, Mail, Mai
 use Rattle.sc_base.proofs.Lemmas.{draw_is, same_name}
 use Rattle.sc_actor.specs.declared.rows.Event.TheVariants.{Told}
 use Rattle.sc_actor.specs.Definitions.{mails, value, row_of}
-use Rattle.sc_live_orderly.specs.Definitions.{IsTidy, IsCalmEvent, AreInTime}
-use Rattle.sc_live_orderly.proofs.Lemmas.{in_time_before, in_time_tidy, takes_first, is_born-from}
+use Rattle.sc_live_orderly.specs.OrderlyDefinitions.{IsTidy, IsCalmEvent, AreInTime}
+use Rattle.sc_live_orderly.proofs.OrderlyLemmas.{in_time_before, in_time_tidy, takes_first, is_born-from}
 use Rattle.sc_scenario.specs.declared.scenario.scenarios.Scenario.{Scenario}
-use Rattle.sc_node_table.specs.Definitions.{NodeState, replica_of, with_replica, with_new, with_born, with_children, group_of_mail, may_come, taken_by, routed, on_mail, group_of_order, ordered_row, ReplicaState, Executed, listed, name_of, next, born_replica, mailed, stepped, slots_ahead}
-use Rattle.sc_meaning.specs.sound.Definitions.{decided_log, Player, player_table, births, as_nodes}
-use Rattle.sc_live_steps.specs.calm.Definitions.{players}
-use Rattle.sc_live_steps.proofs.CalmStepsProofs.Lemmas.{children_found}
-use Rattle.sc_law_entries.specs.logs.Definitions.{Rows}
-use Rattle.sc_live_steps.specs.following.Definitions.{Mark, Asks, Votes, Teaches, Installs, Prepares, Promises, mark_of, Course, Sets, SlotLeaders, IsLeadOf, IsAside, IsCount}
-use Rattle.sc_live_steps.proofs.FollowingProofs.Lemmas.{same_mark}
-use Rattle.sc_live_journals.specs.rows.Definitions.{view_at, progress_at, mark_in, taken_mark, TakesMail, HoldsReplica as Holds, IsScene, IsSeat, with_event, IsReplicasRow}
-use Rattle.sc_live_journals.proofs.RowsProofs.Lemmas.{fit, delivered, others_idle, rows_replicas, found_name, new_is, view_is, view_was, Plays, Found, found_well, replay_well}
-use Rattle.sc_live_journals.specs.logs.Definitions.{IsGroupOf, HasReplica}
-use Rattle.sc_live_journals.specs.groups.Definitions.{Ends, IsWellLed, AreWellBorn, IsRowOf, Delivers, HasOneLog, IsSentSo}
-use Rattle.sc_live_journals.proofs.GroupsProofs.Lemmas.{asides_stay, orders_stay, promises_stay}
-use Rattle.sc_live_answers.specs.Definitions.{IsBirth, EntriesCreateChildren}
+use Rattle.sc_node_table.specs.NodeDefinitions.{NodeState, replica_of, with_replica, with_new, with_born, with_children, group_of_mail, may_come, taken_by, routed, on_mail, group_of_order, ordered_row, ReplicaState, Executed, listed, name_of, next, born_replica, mailed, stepped, slots_ahead}
+use Rattle.sc_meaning.specs.sound.SoundDefinitions.{decided_log, Player, player_table, births, as_nodes}
+use Rattle.sc_live_steps.specs.calm.CalmDefinitions.{players}
+use Rattle.sc_live_steps.proofs.CalmStepsProofs.CalmStepLemmas.{children_found}
+use Rattle.sc_law_entries.specs.logs.LogDefinitions.{Rows}
+use Rattle.sc_live_steps.specs.following.FollowingDefinitions.{Mark, Asks, Votes, Teaches, Installs, Prepares, Promises, mark_of, Course, Sets, SlotLeaders, IsLeadOf, IsAside, IsCount}
+use Rattle.sc_live_steps.proofs.FollowingProofs.FollowingLemmas.{same_mark}
+use Rattle.sc_live_journals.specs.rows.RowDefinitions.{view_at, progress_at, mark_in, taken_mark, TakesMail, HoldsReplica as Holds, IsScene, IsSeat, with_event, IsReplicasRow}
+use Rattle.sc_live_journals.proofs.RowsProofs.RowLemmas.{fit, delivered, others_idle, rows_replicas, found_name, new_is, view_is, view_was, Plays, Found, found_well, replay_well}
+use Rattle.sc_live_journals.specs.logs.LogDefinitions.{IsGroupOf, HasReplica}
+use Rattle.sc_live_journals.specs.groups.GroupDefinitions.{Ends, IsWellLed, AreWellBorn, IsRowOf, Delivers, HasOneLog, IsSentSo}
+use Rattle.sc_live_journals.proofs.GroupsProofs.GroupLemmas.{asides_stay, orders_stay, promises_stay}
+use Rattle.sc_live_answers.specs.AnswerDefinitions.{IsBirth, EntriesCreateChildren}
 use Rattle.sc_live_answers.proofs.BallotsProofs.WellPlayers.{plays_of}
 
 -- ---- children of a node

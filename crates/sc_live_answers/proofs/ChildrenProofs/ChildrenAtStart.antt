@@ -6,17 +6,17 @@ use Rattle.sc_node_table.specs.Values.{Draw, OrderLine, OrderRefusal, Mail, Node
 use Rattle.sc_actor.specs.declared.rows.Event.TheVariants.{Told}
 use Rattle.sc_actor.specs.declared.rows.Input.TheVariants.{Told as ToldInput}
 use Rattle.sc_actor.specs.Definitions.{value, row_of}
-use Rattle.sc_live_orderly.specs.Definitions.{AreInTime}
+use Rattle.sc_live_orderly.specs.OrderlyDefinitions.{AreInTime}
 use Rattle.sc_scenario.specs.declared.scenario.scenarios.Scenario.{Scenario}
-use Rattle.sc_node_table.specs.Definitions.{NodeState, replica_of, group_of_order, ordered_of, ordered_command, untaken, queued_or_refused, ordered_row, with_order_queued, ReplicaState, next}
-use Rattle.sc_meaning.specs.sound.Definitions.{Player, player_table, births, as_nodes}
-use Rattle.sc_live_steps.specs.calm.Definitions.{players, Rows}
-use Rattle.sc_live_steps.proofs.CalmStepsProofs.Lemmas.{put_others}
-use Rattle.sc_live_steps.proofs.OrderStepsProofs.Lemmas.{cases-draw}
-use Rattle.sc_live_journals.specs.rows.Definitions.{view_at, IsSeat, with_event}
-use Rattle.sc_live_journals.proofs.RowsProofs.Lemmas.{names_stay, found_name, rows_replicas, view_others, view_was, none_some}
-use Rattle.sc_live_journals.proofs.ScenesProofs.Lemmas.{client_leaves, now_is}
-use Rattle.sc_live_answers.specs.Definitions.{Task, IsTaskOf, AreCreatedByOrder}
+use Rattle.sc_node_table.specs.NodeDefinitions.{NodeState, replica_of, group_of_order, ordered_of, ordered_command, untaken, queued_or_refused, ordered_row, with_order_queued, ReplicaState, next}
+use Rattle.sc_meaning.specs.sound.SoundDefinitions.{Player, player_table, births, as_nodes}
+use Rattle.sc_live_steps.specs.calm.CalmDefinitions.{players, Rows}
+use Rattle.sc_live_steps.proofs.CalmStepsProofs.CalmStepLemmas.{put_others}
+use Rattle.sc_live_steps.proofs.OrderStepsProofs.OrderStepLemmas.{cases-draw}
+use Rattle.sc_live_journals.specs.rows.RowDefinitions.{view_at, IsSeat, with_event}
+use Rattle.sc_live_journals.proofs.RowsProofs.RowLemmas.{names_stay, found_name, rows_replicas, view_others, view_was, none_some}
+use Rattle.sc_live_journals.proofs.ScenesProofs.SceneLemmas.{client_leaves, now_is}
+use Rattle.sc_live_answers.specs.AnswerDefinitions.{Task, IsTaskOf, AreCreatedByOrder}
 use Rattle.sc_live_answers.proofs.ChildrenProofs.KnownChildren.{HasCreated}
 use Rattle.sc_live_answers.proofs.LedMailProofs.MailEntries.{At}
 use Rattle.sc_live_answers.proofs.ReplicasProofs.Parts.{pumps}

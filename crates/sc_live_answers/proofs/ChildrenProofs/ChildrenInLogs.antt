@@ -3,21 +3,21 @@ use Rattle.std.proofs.Common.{◌≡◌, ◌⊎◌, ℕ, zero, suc, ◌+◌, ◌
 use Rattle.std.proofs.lemmas.List.{take-append-drop}
 use Rattle.sc_base.specs.Definitions.{Among}
 use Rattle.sc_node_table.specs.Values.{Draw, Command, Base, Route}
-use Rattle.sc_group_table.specs.machine.Definitions.{child_by, Group, group_of, state_after, right_members}
+use Rattle.sc_group_table.specs.machine.MachineDefinitions.{child_by, Group, group_of, state_after, right_members}
 use Rattle.sc_scenario.specs.scenario.Definitions.{ValidScenariosAreBounded}
 use Rattle.sc_scenario.specs.declared.scenario.scenarios.Scenario.{Scenario}
-use Rattle.sc_node_table.specs.Definitions.{ReplicaState, next}
-use Rattle.sc_meaning.specs.sound.Definitions.{groups_at, children_of, decided_log, births, as_nodes, route_of}
-use Rattle.sc_law_entries.specs.logs.Definitions.{AreFound}
-use Rattle.sc_law_entries.specs.ring.Definitions.{Sources}
-use Rattle.sc_law_entries.specs.names.Definitions.{OtherNamesAreFree, TakenOrdersAreAllowed, TakenWishesAreAllowed, WishesAreAtPositions, owner_in}
-use Rattle.sc_law_groups.specs.whole.Definitions.{BeginsWell, section_op, OrdersAreAllowed, ValidScenariosBeginWell}
-use Rattle.sc_law_groups.proofs.WholeProofs.Lemmas.{orders_allowed}
-use Rattle.sc_live_steps.specs.calm.Definitions.{Rows}
-use Rattle.sc_live_journals.specs.rows.Definitions.{view_at}
-use Rattle.sc_live_journals.specs.logs.Definitions.{ViewsAreReplicas}
-use Rattle.sc_live_journals.proofs.LogsProofs.Lemmas.{found}
-use Rattle.sc_live_answers.specs.Definitions.{ReplicasRunLogs, IsCalmJournal, IsPrefixOf}
+use Rattle.sc_node_table.specs.NodeDefinitions.{ReplicaState, next}
+use Rattle.sc_meaning.specs.sound.SoundDefinitions.{groups_at, children_of, decided_log, births, as_nodes, route_of}
+use Rattle.sc_law_entries.specs.logs.LogDefinitions.{AreFound}
+use Rattle.sc_law_entries.specs.ring.RingDefinitions.{Sources}
+use Rattle.sc_law_entries.specs.names.NameDefinitions.{OtherNamesAreFree, TakenOrdersAreAllowed, TakenWishesAreAllowed, WishesAreAtPositions, owner_in}
+use Rattle.sc_law_groups.specs.whole.WholeDefinitions.{BeginsWell, section_op, OrdersAreAllowed, ValidScenariosBeginWell}
+use Rattle.sc_law_groups.proofs.WholeProofs.WholeLemmas.{orders_allowed}
+use Rattle.sc_live_steps.specs.calm.CalmDefinitions.{Rows}
+use Rattle.sc_live_journals.specs.rows.RowDefinitions.{view_at}
+use Rattle.sc_live_journals.specs.logs.LogDefinitions.{ViewsAreReplicas}
+use Rattle.sc_live_journals.proofs.LogsProofs.GroupLogLemmas.{found}
+use Rattle.sc_live_answers.specs.AnswerDefinitions.{ReplicasRunLogs, IsCalmJournal, IsPrefixOf}
 use Rattle.sc_live_answers.proofs.ChildrenProofs.KnownChildren.{HasCreated, stays_born, kid_members, new_born}
 use Rattle.sc_live_answers.proofs.ChildrenProofs.Lineage.{log_gains, take_more, last_child}
 use Rattle.sc_live_answers.proofs.LedGroupsProofs.JournalGroups.{calm_group}

@@ -5,15 +5,15 @@ use Rattle.std.proofs.lemmas.Bool.{cases_Bool, eqb-true}
 use Rattle.sc_base.specs.Definitions.{Each, same_draw}
 use Rattle.sc_node_table.specs.Values.{Draw, Base, MailBody, Prepare, Promise, Accept, Accepted, Learn, Install, Seat}
 use Rattle.sc_base.proofs.Lemmas.{draw_is}
-use Rattle.sc_live_orderly.specs.Definitions.{AreInTime}
-use Rattle.sc_words.proofs.PaxosProofs.Lemmas.{Each-among, Each-weaker, find_found}
-use Rattle.sc_node_table.specs.Definitions.{group_of_mail, ReplicaState, mailed}
-use Rattle.sc_meaning.specs.sound.Definitions.{Player, births, as_nodes}
-use Rattle.sc_live_steps.specs.calm.Definitions.{players, Rows}
-use Rattle.sc_live_steps.specs.following.Definitions.{Mark, named_mark, mark_of}
-use Rattle.sc_live_journals.specs.rows.Definitions.{view_at, replica_in}
-use Rattle.sc_live_journals.specs.scenes.Definitions.{IsThere, IsNowhere}
-use Rattle.sc_live_answers.specs.Definitions.{Creates, CreatesBy, DeliveriesKeepWork, ChildrenWereNowhere}
+use Rattle.sc_live_orderly.specs.OrderlyDefinitions.{AreInTime}
+use Rattle.sc_words.proofs.PaxosProofs.PaxosLemmas.{Each-among, Each-weaker, find_found}
+use Rattle.sc_node_table.specs.NodeDefinitions.{group_of_mail, ReplicaState, mailed}
+use Rattle.sc_meaning.specs.sound.SoundDefinitions.{Player, births, as_nodes}
+use Rattle.sc_live_steps.specs.calm.CalmDefinitions.{players, Rows}
+use Rattle.sc_live_steps.specs.following.FollowingDefinitions.{Mark, named_mark, mark_of}
+use Rattle.sc_live_journals.specs.rows.RowDefinitions.{view_at, replica_in}
+use Rattle.sc_live_journals.specs.scenes.SceneDefinitions.{IsThere, IsNowhere}
+use Rattle.sc_live_answers.specs.AnswerDefinitions.{Creates, CreatesBy, DeliveriesKeepWork, ChildrenWereNowhere}
 
 pub none_some : {X P : Type 0} {x : X} → None ≡ Some x → P
 none_some e = absurd (let bad : None ≡ Some _ = e in cc)

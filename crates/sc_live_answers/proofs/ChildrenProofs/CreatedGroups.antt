@@ -3,17 +3,17 @@ use Rattle.std.proofs.Common.{◌≡◌, ◌⊎◌, ℕ, Bool, true, false, true
 use Rattle.std.specs.List.{list_any}
 use Rattle.sc_base.specs.Definitions.{Among, Each, same_draw, is_member}
 use Rattle.sc_node_table.specs.Values.{Draw, Base, Free, OrderLine, Mail, MailBody, Install, Seat, Deliver, Go, Node}
-use Rattle.sc_group_table.specs.machine.Definitions.{Group, group_of}
+use Rattle.sc_group_table.specs.machine.MachineDefinitions.{Group, group_of}
 use Rattle.sc_scenario.specs.declared.scenario.scenarios.Scenario.{Scenario}
-use Rattle.sc_node_table.specs.Definitions.{NodeState, replica_of, ReplicaState, Executed, born_replica, mailed, slots_ahead}
-use Rattle.sc_words.proofs.PaxosProofs.Lemmas.{Each-among, Each-from}
-use Rattle.sc_meaning.specs.sound.Definitions.{groups_at, decided_log, Player, births, as_nodes}
-use Rattle.sc_live_steps.specs.calm.Definitions.{Rows}
-use Rattle.sc_live_journals.specs.rows.Definitions.{view_at, with_event, AreAsBegun, made_children}
-use Rattle.sc_live_journals.proofs.RowsProofs.Lemmas.{rows_replicas, view_was, none_some}
-use Rattle.sc_live_steps.specs.orders.Definitions.{bond_of, Unbound}
-use Rattle.sc_live_answers.specs.Definitions.{ChildrenAreBegun, IsYoung, Task, Creates, CreatesBy, DeliveriesKeepWork, IsPrefixOf, AreCreatedByOrder, IsWorkingRow}
-use Rattle.sc_live_journals.specs.scenes.Definitions.{IsNowhere, IsTaking}
+use Rattle.sc_node_table.specs.NodeDefinitions.{NodeState, replica_of, ReplicaState, Executed, born_replica, mailed, slots_ahead}
+use Rattle.sc_words.proofs.PaxosProofs.PaxosLemmas.{Each-among, Each-from}
+use Rattle.sc_meaning.specs.sound.SoundDefinitions.{groups_at, decided_log, Player, births, as_nodes}
+use Rattle.sc_live_steps.specs.calm.CalmDefinitions.{Rows}
+use Rattle.sc_live_journals.specs.rows.RowDefinitions.{view_at, with_event, AreAsBegun, made_children}
+use Rattle.sc_live_journals.proofs.RowsProofs.RowLemmas.{rows_replicas, view_was, none_some}
+use Rattle.sc_live_steps.specs.orders.OrderDefinitions.{bond_of, Unbound}
+use Rattle.sc_live_answers.specs.AnswerDefinitions.{ChildrenAreBegun, IsYoung, Task, Creates, CreatesBy, DeliveriesKeepWork, IsPrefixOf, AreCreatedByOrder, IsWorkingRow}
+use Rattle.sc_live_journals.specs.scenes.SceneDefinitions.{IsNowhere, IsTaking}
 use Rattle.sc_live_answers.proofs.ChildrenProofs.KnownChildren.{HasCreated}
 use Rattle.sc_live_answers.proofs.ChildrenProofs.Lineage.{log_stays, kids_known}
 use Rattle.sc_live_answers.proofs.LedMailProofs.MailEntries.{IsStateless, mailed_goes}

@@ -8,19 +8,19 @@ use Rattle.sc_node_table.specs.Values.{Draw, Base, OrderLine, Node, Client, Seat
 use Rattle.sc_base.specs.Definitions.{Among, Each, next_name, same_draw}
 use Rattle.sc_actor.specs.declared.rows.Event.TheVariants.{Told}
 use Rattle.sc_actor.specs.Definitions.{value, row_of}
-use Rattle.sc_law_entries.specs.names.Definitions.{BeginsUndrawn, AllNames, PlayerNames, ReplicaNames, owned_by, drawn_for, names_drawn, is_node_of, drawn_at}
-use Rattle.sc_law_entries.proofs.NamesProofs.Lemmas.{drawn_are_new}
-use Rattle.sc_words.proofs.PaxosProofs.Lemmas.{Each-among, Each-append, find_found}
+use Rattle.sc_law_entries.specs.names.NameDefinitions.{BeginsUndrawn, AllNames, PlayerNames, ReplicaNames, owned_by, drawn_for, names_drawn, is_node_of, drawn_at}
+use Rattle.sc_law_entries.proofs.NamesProofs.NameLemmas.{drawn_are_new}
+use Rattle.sc_words.proofs.PaxosProofs.PaxosLemmas.{Each-among, Each-append, find_found}
 use Rattle.sc_scenario.specs.scenario.Definitions.{base_at, bases_up_to, IsBounded}
 use Rattle.sc_scenario.specs.declared.scenario.drafts.GroupLine.{GroupLine}
 use Rattle.sc_scenario.specs.declared.scenario.scenarios.Asks.{Asks}
 use Rattle.sc_scenario.specs.declared.scenario.scenarios.Scenario.{Scenario}
-use Rattle.sc_node_table.specs.Definitions.{NodeState, replica_of, group_of_order, takes_name, untaken, ReplicaState, name_of, numbers_from}
-use Rattle.sc_meaning.specs.sound.Definitions.{Player, player_table, node_seat, client_seat, client_seats, route_of, births, as_nodes, Lawful}
-use Rattle.sc_live_steps.specs.calm.Definitions.{Rows}
-use Rattle.sc_live_journals.specs.rows.Definitions.{view_at, replicas_of, replica_in, IsSeat}
-use Rattle.sc_live_journals.proofs.RowsProofs.Lemmas.{found_name}
-use Rattle.sc_live_journals.specs.scenes.Definitions.{IsNowhere}
+use Rattle.sc_node_table.specs.NodeDefinitions.{NodeState, replica_of, group_of_order, takes_name, untaken, ReplicaState, name_of, numbers_from}
+use Rattle.sc_meaning.specs.sound.SoundDefinitions.{Player, player_table, node_seat, client_seat, client_seats, route_of, births, as_nodes, Lawful}
+use Rattle.sc_live_steps.specs.calm.CalmDefinitions.{Rows}
+use Rattle.sc_live_journals.specs.rows.RowDefinitions.{view_at, replicas_of, replica_in, IsSeat}
+use Rattle.sc_live_journals.proofs.RowsProofs.RowLemmas.{found_name}
+use Rattle.sc_live_journals.specs.scenes.SceneDefinitions.{IsNowhere}
 use Rattle.sc_live_journals.proofs.MailProofs.MailSenders.{numbers_in}
 
 -- ---- the groups of a scenario have no name that nodes draw

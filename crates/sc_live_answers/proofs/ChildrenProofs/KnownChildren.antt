@@ -5,14 +5,14 @@ use Rattle.std.proofs.lemmas.Bool.{cond_both}
 use Rattle.sc_base.specs.Definitions.{same_draw, holds, united}
 use Rattle.sc_base.proofs.Lemmas.{draw_is, same_name}
 use Rattle.sc_node_table.specs.Values.{Draw, Body, Offer, Command, Noop, Call, Join, Leave, Split, Begin, Prepared, RecordVote, GiveUp, Finish, Watched, RecordWatch, Base, Lock, Free, Coordinating, Promised, Watching, Effect, NoEffect, Route, OrderRefusal, Heard, Outcome, Past, Vote, Frozen, Gift, Core}
-use Rattle.sc_words.specs.commands.Definitions.{is_alone}
+use Rattle.sc_words.specs.commands.CommandDefinitions.{is_alone}
 use Rattle.sc_words.specs.declared.commands.bodies.Body.TheVariants as At
 use Rattle.sc_words.specs.declared.commands.votes.Outcome.TheVariants as Is
 use Rattle.sc_words.specs.declared.commands.votes.Past.TheVariants as Cast
 use Rattle.sc_words.specs.declared.commands.votes.Vote.TheVariants as Votes
-use Rattle.sc_group_table.specs.machine.Definitions.{ordered_child, answered_child, watched_child, child_by, participant_after, moved, can_gain, gained_group, lost_group, welcomed_group, settled_in, watch_ended, finished, Group, applied, split_group, Plan, can_cut, has_key_of, taken, can_split, may_merge, merge_plan, closing_plan, can_repart, giving_plan, taking_plan, repart_plan, can_migrate, migrate_plan, refusal_of, with_node, without_node, ordered, left_group, right_members, child_of, has_named, begun_group, committed, granted, participant_answered, asks_watcher, vote_recorded, watch_answered, watch_recorded, is_coordinating, has_voted}
+use Rattle.sc_group_table.specs.machine.MachineDefinitions.{ordered_child, answered_child, watched_child, child_by, participant_after, moved, can_gain, gained_group, lost_group, welcomed_group, settled_in, watch_ended, finished, Group, applied, split_group, Plan, can_cut, has_key_of, taken, can_split, may_merge, merge_plan, closing_plan, can_repart, giving_plan, taking_plan, repart_plan, can_migrate, migrate_plan, refusal_of, with_node, without_node, ordered, left_group, right_members, child_of, has_named, begun_group, committed, granted, participant_answered, asks_watcher, vote_recorded, watch_answered, watch_recorded, is_coordinating, has_voted}
 use Rattle.sc_live_answers.proofs.ReplicasProofs.Cores.{called_core}
-use Rattle.sc_law_entries.proofs.RingProofs.Lemmas.{any_keeps, any_new}
+use Rattle.sc_law_entries.proofs.RingProofs.RingLemmas.{any_keeps, any_new}
 
 -- a group's own part of a step
 module _ (group : Group) where

@@ -4,12 +4,12 @@ use Rattle.std.specs.Option.{option_to_list}
 use Rattle.std.proofs.lemmas.Bool.{cond_both}
 use Rattle.sc_base.specs.Definitions.{Among, is_member}
 use Rattle.sc_node_table.specs.Values.{Draw, Command, Base}
-use Rattle.sc_meaning.specs.entries.Definitions.{birth_of}
-use Rattle.sc_meaning.proofs.EntriesProofs.Lemmas.{births_are_children}
-use Rattle.sc_group_table.specs.machine.Definitions.{child_by, Group, state_after, applied}
-use Rattle.sc_node_table.specs.Definitions.{child_at}
-use Rattle.sc_meaning.specs.sound.Definitions.{children_of}
-use Rattle.sc_live_steps.proofs.OrderStepsProofs.Lemmas.{among-left, among-right}
+use Rattle.sc_meaning.specs.entries.EntryDefinitions.{birth_of}
+use Rattle.sc_meaning.proofs.EntriesProofs.EntryLemmas.{births_are_children}
+use Rattle.sc_group_table.specs.machine.MachineDefinitions.{child_by, Group, state_after, applied}
+use Rattle.sc_node_table.specs.NodeDefinitions.{child_at}
+use Rattle.sc_meaning.specs.sound.SoundDefinitions.{children_of}
+use Rattle.sc_live_steps.proofs.OrderStepsProofs.OrderStepLemmas.{among-left, among-right}
 use Rattle.sc_live_answers.proofs.ChildrenProofs.KnownChildren.{HasCreated, stays_born, creates_child, new_born}
 use Rattle.sc_live_answers.proofs.LedMailProofs.MailEntries.{kids_of}
 use Rattle.sc_paxos_law.proofs.Lemmas.{Among-either}

@@ -4,20 +4,20 @@ use Rattle.sc_base.specs.Definitions.{Among, IsRoster, is_member}
 use Rattle.sc_node_table.specs.Values.{Ballot, Command, Base, Route, Mail, MailBody, Accepted as AcceptedMail, Learn, Seat}
 use Rattle.sc_base.proofs.Lemmas.{same_name}
 use Rattle.sc_actor.specs.Definitions.{mails, numbered}
-use Rattle.sc_paxos_law.specs.Definitions.{Accepted, IsLawfulHistory}
+use Rattle.sc_paxos_law.specs.PaxosLawDefinitions.{Accepted, IsLawfulHistory}
 use Rattle.sc_scenario.specs.scenario.Definitions.{ValidScenariosAreBounded}
 use Rattle.sc_scenario.specs.declared.scenario.scenarios.Scenario.{Scenario}
-use Rattle.sc_node_table.specs.Definitions.{NodeState, ReplicaState, next, last_slot, mailed}
-use Rattle.sc_meaning.specs.sound.Definitions.{decided_log, Ahead, Player, route_of}
-use Rattle.sc_law_entries.specs.logs.Definitions.{Rows}
-use Rattle.sc_law_entries.specs.ring.Definitions.{Sources}
-use Rattle.sc_law_entries.specs.names.Definitions.{OtherNamesAreFree, TakenOrdersAreAllowed, TakenWishesAreAllowed, WishesAreAtPositions, owner_in}
-use Rattle.sc_law_groups.proofs.GroupProofs.Lemmas.{h_of, IsLearnt, Steps, rule, first}
-use Rattle.sc_law_groups.specs.whole.Definitions.{BeginsWell, section_op, OrdersAreAllowed, ValidScenariosBeginWell}
-use Rattle.sc_law_groups.proofs.WholeProofs.Lemmas.{orders_allowed}
-use Rattle.sc_live_journals.specs.logs.Definitions.{IsGroupOf, HasReplica}
-use Rattle.sc_live_journals.proofs.LogsProofs.Lemmas.{ArePrefixes, said_in, IsAlong, part, roster, prefixes, along, opens, flying}
-use Rattle.sc_live_answers.specs.Definitions.{IsBirth, EntriesCreateChildren}
+use Rattle.sc_node_table.specs.NodeDefinitions.{NodeState, ReplicaState, next, last_slot, mailed}
+use Rattle.sc_meaning.specs.sound.SoundDefinitions.{decided_log, Ahead, Player, route_of}
+use Rattle.sc_law_entries.specs.logs.LogDefinitions.{Rows}
+use Rattle.sc_law_entries.specs.ring.RingDefinitions.{Sources}
+use Rattle.sc_law_entries.specs.names.NameDefinitions.{OtherNamesAreFree, TakenOrdersAreAllowed, TakenWishesAreAllowed, WishesAreAtPositions, owner_in}
+use Rattle.sc_law_groups.proofs.GroupProofs.GroupLemmas.{h_of, IsLearnt, Steps, rule, first}
+use Rattle.sc_law_groups.specs.whole.WholeDefinitions.{BeginsWell, section_op, OrdersAreAllowed, ValidScenariosBeginWell}
+use Rattle.sc_law_groups.proofs.WholeProofs.WholeLemmas.{orders_allowed}
+use Rattle.sc_live_journals.specs.logs.LogDefinitions.{IsGroupOf, HasReplica}
+use Rattle.sc_live_journals.proofs.LogsProofs.GroupLogLemmas.{ArePrefixes, said_in, IsAlong, part, roster, prefixes, along, opens, flying}
+use Rattle.sc_live_answers.specs.AnswerDefinitions.{IsBirth, EntriesCreateChildren}
 use Rattle.sc_live_answers.proofs.ChildrenProofs.ReplicaChildren.{learn_creates, vote_creates}
 
 -- what the laws under this one say of valid scenarios

@@ -6,14 +6,14 @@ use Rattle.std.proofs.lemmas.List.{length_push}
 use Rattle.std.proofs.lemmas.Option.{none-some, same_Some}
 use Rattle.sc_base.specs.Definitions.{Among, is_member}
 use Rattle.sc_node_table.specs.Values.{Command, Base}
-use Rattle.sc_group_table.specs.machine.Definitions.{child_by, Group, group_of, state_after, applied, staying, child_of}
-use Rattle.sc_meaning.specs.entries.Definitions.{birth_of, division_of}
+use Rattle.sc_group_table.specs.machine.MachineDefinitions.{child_by, Group, group_of, state_after, applied, staying, child_of}
+use Rattle.sc_meaning.specs.entries.EntryDefinitions.{birth_of, division_of}
 use Rattle.sc_meaning.specs.declared.entries.Division.{Division}
-use Rattle.sc_meaning.proofs.EntriesProofs.Lemmas.{births_are_children}
+use Rattle.sc_meaning.proofs.EntriesProofs.EntryLemmas.{births_are_children}
 use Rattle.sc_paxos_law.proofs.Lemmas.{Among-either}
-use Rattle.sc_meaning.specs.sound.Definitions.{children_of}
-use Rattle.sc_live_answers.specs.Definitions.{IsBirth}
-use Rattle.sc_law_groups.proofs.WholeProofs.Lemmas.{listed as option_is}
+use Rattle.sc_meaning.specs.sound.SoundDefinitions.{children_of}
+use Rattle.sc_live_answers.specs.AnswerDefinitions.{IsBirth}
+use Rattle.sc_law_groups.proofs.WholeProofs.WholeLemmas.{listed as option_is}
 
 -- ---- members
 

@@ -5,22 +5,22 @@ use Rattle.std.proofs.lemmas.Bool.{cases_Bool, cond-false, eqb-true, cases_eq}
 use Rattle.sc_base.specs.Definitions.{Among, same_ballot, same_draw, is_member}
 use Rattle.sc_node_table.specs.Values.{Ballot, Draw, Command, Base, OrderLine, Mail, MailBody, Accepted, Learn, Install, Seat, Deliver, Node, NotYet}
 use Rattle.sc_actor.specs.Definitions.{row_of}
-use Rattle.sc_live_orderly.proofs.Lemmas.{is_born-from}
-use Rattle.sc_group_table.specs.machine.Definitions.{child_by, Group, group_of, state_after, applied, right_members}
+use Rattle.sc_live_orderly.proofs.OrderlyLemmas.{is_born-from}
+use Rattle.sc_group_table.specs.machine.MachineDefinitions.{child_by, Group, group_of, state_after, applied, right_members}
 use Rattle.sc_scenario.specs.declared.scenario.scenarios.Scenario.{Scenario}
-use Rattle.sc_node_table.specs.Definitions.{child_at, group_of_mail, ReplicaState, Executed, born_replica, next, last_slot, set_at, childless, learn_row, mailed, slots_ahead, leads, vote_tallied, voted, accepted_row}
-use Rattle.sc_words.specs.paxos.Definitions.{flight_at, counted, vote_at}
-use Rattle.sc_words.proofs.PaxosProofs.Lemmas.{Each-among}
-use Rattle.sc_law_walks.proofs.Lemmas.{either_way}
-use Rattle.sc_meaning.specs.sound.Definitions.{groups_at, decided_log, Player, player_table, births, as_nodes}
-use Rattle.sc_live_steps.specs.calm.Definitions.{players, HasReplica, Rows}
-use Rattle.sc_live_steps.proofs.OrderStepsProofs.Lemmas.{cases-draw}
-use Rattle.sc_live_journals.specs.rows.Definitions.{view_at, with_event, IsWellKept}
-use Rattle.sc_live_journals.proofs.RowsProofs.Lemmas.{view_others, Plays, Found, found_well, replay_well, none_some}
-use Rattle.sc_live_journals.specs.groups.Definitions.{ScenariosAreWellBorn}
-use Rattle.sc_live_journals.specs.scenes.Definitions.{LeaderFinds, BesideFinds, FindsReplica, AtLeader, AtAnother, FindsFlight, Late, Leaves, Changed, Opened, Voted, Aborted, Decided, Heard, Ended, IsThere, IsNowhere}
-use Rattle.sc_live_journals.proofs.ScenesProofs.Lemmas.{OneOf}
-use Rattle.sc_live_answers.specs.Definitions.{Task, Creates, SaysWork, IsOff, DeliveriesKeepWork, Knows, AreCreatedByOrder, IsWorkingRow}
+use Rattle.sc_node_table.specs.NodeDefinitions.{child_at, group_of_mail, ReplicaState, Executed, born_replica, next, last_slot, set_at, childless, learn_row, mailed, slots_ahead, leads, vote_tallied, voted, accepted_row}
+use Rattle.sc_words.specs.paxos.PaxosDefinitions.{flight_at, counted, vote_at}
+use Rattle.sc_words.proofs.PaxosProofs.PaxosLemmas.{Each-among}
+use Rattle.sc_law_walks.proofs.WalkLemmas.{either_way}
+use Rattle.sc_meaning.specs.sound.SoundDefinitions.{groups_at, decided_log, Player, player_table, births, as_nodes}
+use Rattle.sc_live_steps.specs.calm.CalmDefinitions.{players, HasReplica, Rows}
+use Rattle.sc_live_steps.proofs.OrderStepsProofs.OrderStepLemmas.{cases-draw}
+use Rattle.sc_live_journals.specs.rows.RowDefinitions.{view_at, with_event, IsWellKept}
+use Rattle.sc_live_journals.proofs.RowsProofs.RowLemmas.{view_others, Plays, Found, found_well, replay_well, none_some}
+use Rattle.sc_live_journals.specs.groups.GroupDefinitions.{ScenariosAreWellBorn}
+use Rattle.sc_live_journals.specs.scenes.SceneDefinitions.{LeaderFinds, BesideFinds, FindsReplica, AtLeader, AtAnother, FindsFlight, Late, Leaves, Changed, Opened, Voted, Aborted, Decided, Heard, Ended, IsThere, IsNowhere}
+use Rattle.sc_live_journals.proofs.ScenesProofs.SceneLemmas.{OneOf}
+use Rattle.sc_live_answers.specs.AnswerDefinitions.{Task, Creates, SaysWork, IsOff, DeliveriesKeepWork, Knows, AreCreatedByOrder, IsWorkingRow}
 use Rattle.sc_live_answers.proofs.ChildrenProofs.KnownChildren.{HasCreated, kid_members, new_born}
 use Rattle.sc_live_answers.proofs.WorkProofs.WorkInPrefixes.{takes_one, taken_mail}
 use Rattle.sc_live_answers.proofs.ChildrenProofs.YoungGroupRows.{node_number}

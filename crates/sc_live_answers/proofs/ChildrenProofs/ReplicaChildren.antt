@@ -4,19 +4,19 @@ use Rattle.std.proofs.lemmas.Bool.{cases_eq, cond_both, cond-true, eq-eqb, ltb-t
 use Rattle.std.proofs.lemmas.List.{length_push}
 use Rattle.sc_base.specs.Definitions.{Among, Each, IsRoster, is_member}
 use Rattle.sc_node_table.specs.Values.{Ballot, Command, Base, Mail}
-use Rattle.sc_group_table.specs.machine.Definitions.{child_by, Group, group_of, state_after, applied}
-use Rattle.sc_words.specs.paxos.Definitions.{without_flight_at, counted}
-use Rattle.sc_words.proofs.PaxosProofs.Lemmas.{Each-among}
-use Rattle.sc_paxos_law.specs.Definitions.{IsLog, IsLawfulHistory, Accepted}
+use Rattle.sc_group_table.specs.machine.MachineDefinitions.{child_by, Group, group_of, state_after, applied}
+use Rattle.sc_words.specs.paxos.PaxosDefinitions.{without_flight_at, counted}
+use Rattle.sc_words.proofs.PaxosProofs.PaxosLemmas.{Each-among}
+use Rattle.sc_paxos_law.specs.PaxosLawDefinitions.{IsLog, IsLawfulHistory, Accepted}
 use Rattle.sc_paxos_law.proofs.Lemmas.{Among-left, Among-right, earlier, longer_log}
-use Rattle.sc_node_table.specs.Definitions.{ended, entered, learnt_to, welcomed, landed, left, looked, child_at, executed_one, next_child, next_ready, ending, all_ready, executed_ready, executed, ReplicaState, Place, Executed, childless, name_of, next, members, last_slot, learn_row, slots_ahead, without_slot, before_of, spoken, accepted_row}
-use Rattle.sc_meaning.specs.sound.Definitions.{Ahead}
-use Rattle.sc_law_groups.proofs.GroupProofs.Lemmas.{IsLearnt, by_own_log, Steps, rule, first, IsFlying}
-use Rattle.sc_live_steps.specs.following.Definitions.{AreAt}
-use Rattle.sc_live_steps.proofs.FollowingProofs.Lemmas.{told_state, landed_is, entered_keeps, ends, announced_keeps, spoken_same}
-use Rattle.sc_live_journals.proofs.LogsProofs.Lemmas.{at, IsAlong, is_next, next_ready_is, one_past}
+use Rattle.sc_node_table.specs.NodeDefinitions.{ended, entered, learnt_to, welcomed, landed, left, looked, child_at, executed_one, next_child, next_ready, ending, all_ready, executed_ready, executed, ReplicaState, Place, Executed, childless, name_of, next, members, last_slot, learn_row, slots_ahead, without_slot, before_of, spoken, accepted_row}
+use Rattle.sc_meaning.specs.sound.SoundDefinitions.{Ahead}
+use Rattle.sc_law_groups.proofs.GroupProofs.GroupLemmas.{IsLearnt, by_own_log, Steps, rule, first, IsFlying}
+use Rattle.sc_live_steps.specs.following.FollowingDefinitions.{AreAt}
+use Rattle.sc_live_steps.proofs.FollowingProofs.FollowingLemmas.{told_state, landed_is, entered_keeps, ends, announced_keeps, spoken_same}
+use Rattle.sc_live_journals.proofs.LogsProofs.GroupLogLemmas.{at, IsAlong, is_next, next_ready_is, one_past}
 use Rattle.sc_live_answers.proofs.ReplicasProofs.Pumps.{pump_next}
-use Rattle.sc_live_answers.specs.Definitions.{IsBirth}
+use Rattle.sc_live_answers.specs.AnswerDefinitions.{IsBirth}
 use Rattle.sc_live_answers.proofs.LedGroupsProofs.VoteEntries.{past_next, vote_executes}
 
 -- the last of two lists that go on the same

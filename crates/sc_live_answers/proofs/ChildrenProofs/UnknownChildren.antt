@@ -4,12 +4,12 @@ use Rattle.std.specs.List.{list_any}
 use Rattle.std.proofs.lemmas.Bool.{cond_both, cases_Bool}
 use Rattle.sc_base.specs.Definitions.{Each, same_draw}
 use Rattle.sc_node_table.specs.Values.{Draw, Body, Command, Split, RecordWatch, Base, Core, Lock, Free, Coordinating, Promised, Watching, Route, OrderRefusal, Past, MailBody, Accepted, Learn}
-use Rattle.sc_words.specs.commands.Definitions.{is_alone}
+use Rattle.sc_words.specs.commands.CommandDefinitions.{is_alone}
 use Rattle.sc_words.specs.declared.commands.bodies.Body.TheVariants as At
 use Rattle.sc_words.specs.declared.commands.votes.Past.TheVariants as Cast
-use Rattle.sc_group_table.specs.machine.Definitions.{ordered_child, released_child, answered_child, watched_child, child_by, Group, applied, locked_in, refusal_of, can_split, child_of, has_named, is_locked_in}
-use Rattle.sc_node_table.specs.Definitions.{ReplicaState, mailed}
-use Rattle.sc_live_answers.specs.Definitions.{SplitsInto, LockSplits}
+use Rattle.sc_group_table.specs.machine.MachineDefinitions.{ordered_child, released_child, answered_child, watched_child, child_by, Group, applied, locked_in, refusal_of, can_split, child_of, has_named, is_locked_in}
+use Rattle.sc_node_table.specs.NodeDefinitions.{ReplicaState, mailed}
+use Rattle.sc_live_answers.specs.AnswerDefinitions.{SplitsInto, LockSplits}
 use Rattle.sc_live_answers.proofs.WorkProofs.Affairs.{Affair}
 use Rattle.sc_live_answers.proofs.ChildrenProofs.KnownChildren.{HasCreated, stays_born}
 use Rattle.sc_live_answers.proofs.WorkProofs.AffairParts.{Held, Kids}

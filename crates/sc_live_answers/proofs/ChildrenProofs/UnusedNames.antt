@@ -4,18 +4,18 @@ use Rattle.std.specs.List.{find, list_any}
 use Rattle.sc_base.specs.Definitions.{Each, same_draw}
 use Rattle.sc_node_table.specs.Values.{Draw, Command, Core, Lock, Free, Coordinating, Promised, Watching, Outcome, Node, Client, Seat}
 use Rattle.sc_actor.specs.Definitions.{value}
-use Rattle.sc_law_entries.specs.names.Definitions.{AllNames, PlayerNames, ReplicaNames, CoreNames, LockNames, OutcomeNames, IsUsed}
-use Rattle.sc_law_entries.proofs.NamesProofs.Lemmas.{drawn_names_are_new_drawn}
-use Rattle.sc_words.proofs.PaxosProofs.Lemmas.{Each-among, Each-weaker, find_found}
-use Rattle.sc_group_table.specs.machine.Definitions.{Group, locked_in, has_named, is_locked_in, state_after}
+use Rattle.sc_law_entries.specs.names.NameDefinitions.{AllNames, PlayerNames, ReplicaNames, CoreNames, LockNames, OutcomeNames, IsUsed}
+use Rattle.sc_law_entries.proofs.NamesProofs.NameLemmas.{drawn_names_are_new_drawn}
+use Rattle.sc_words.proofs.PaxosProofs.PaxosLemmas.{Each-among, Each-weaker, find_found}
+use Rattle.sc_group_table.specs.machine.MachineDefinitions.{Group, locked_in, has_named, is_locked_in, state_after}
 use Rattle.sc_scenario.specs.scenario.Definitions.{IsBounded}
 use Rattle.sc_scenario.specs.declared.scenario.scenarios.Scenario.{Scenario}
-use Rattle.sc_node_table.specs.Definitions.{ReplicaState, name_of, listed}
-use Rattle.sc_meaning.specs.sound.Definitions.{Player, player_table, births, as_nodes, Lawful}
-use Rattle.sc_live_steps.specs.calm.Definitions.{Rows}
-use Rattle.sc_live_steps.specs.orders.Definitions.{Stage, Ordered, Opens}
-use Rattle.sc_live_journals.specs.rows.Definitions.{view_at, replicas_of, replica_in}
-use Rattle.sc_live_answers.specs.Definitions.{AreDeeds, HasDone, doer, doers_of, IsUnused, tx_of, IsTrueSince}
+use Rattle.sc_node_table.specs.NodeDefinitions.{ReplicaState, name_of, listed}
+use Rattle.sc_meaning.specs.sound.SoundDefinitions.{Player, player_table, births, as_nodes, Lawful}
+use Rattle.sc_live_steps.specs.calm.CalmDefinitions.{Rows}
+use Rattle.sc_live_steps.specs.orders.OrderDefinitions.{Stage, Ordered, Opens}
+use Rattle.sc_live_journals.specs.rows.RowDefinitions.{view_at, replicas_of, replica_in}
+use Rattle.sc_live_answers.specs.AnswerDefinitions.{AreDeeds, HasDone, doer, doers_of, IsUnused, tx_of, IsTrueSince}
 use Rattle.sc_live_answers.proofs.ChildrenProofs.DrawnNames.{begin_undrawn}
 use Rattle.sc_live_answers.proofs.ReplicasProofs.Names.{not_it}
 

@@ -9,27 +9,27 @@ use Rattle.sc_words.specs.declared.commands.orders.OrderRefusal.TheVariants.{Not
 use Rattle.sc_actor.specs.declared.rows.Event.TheVariants.{Told}
 use Rattle.sc_actor.specs.declared.rows.Input.TheVariants.{Told as ToldInput}
 use Rattle.sc_actor.specs.Definitions.{mails, numbered, value, acted, input_of, System, row_of, is_quiet}
-use Rattle.sc_client_table.specs.table.Definitions.{Client as ClientState, table}
-use Rattle.sc_live_orderly.specs.Definitions.{IsCalmRow, IsTidy, rest, mail_for, taken, AreInTime}
-use Rattle.sc_live_orderly.proofs.Lemmas.{in_time_before, in_time_tidy, last_in_time, TakesFirst, quiet-empty, is_born-from, takes_first, rest-calm}
-use Rattle.sc_words.proofs.PaxosProofs.Lemmas.{Each-among, Each-append, Each-weaker}
+use Rattle.sc_client_table.specs.table.TableDefinitions.{Client as ClientState, table}
+use Rattle.sc_live_orderly.specs.OrderlyDefinitions.{IsCalmRow, IsTidy, rest, mail_for, taken, AreInTime}
+use Rattle.sc_live_orderly.proofs.OrderlyLemmas.{in_time_before, in_time_tidy, last_in_time, TakesFirst, quiet-empty, is_born-from, takes_first, rest-calm}
+use Rattle.sc_words.proofs.PaxosProofs.PaxosLemmas.{Each-among, Each-append, Each-weaker}
 use Rattle.sc_words.proofs.PaxosProofs.ListLemmas.{Each-filter as each_filter}
-use Rattle.sc_law_entries.proofs.NamesProofs.Lemmas.{Each-drop}
+use Rattle.sc_law_entries.proofs.NamesProofs.NameLemmas.{Each-drop}
 use Rattle.sc_scenario.specs.declared.scenario.scenarios.Scenario.{Scenario}
-use Rattle.sc_node_table.specs.Definitions.{result_sent, NodeState, replica_of, with_replica, with_children, group_of_mail, may_come, unknown, routed, on_mail, group_of_order, ordered_of, ordered_row, ReplicaState, Executed, name_of, born_replica, mailed, slots_ahead}
-use Rattle.sc_law_walks.proofs.Lemmas.{either_way}
-use Rattle.sc_meaning.specs.sound.Definitions.{Player, player_table, births, as_nodes}
-use Rattle.sc_live_steps.specs.calm.Definitions.{players, Rows}
-use Rattle.sc_live_steps.proofs.CalmStepsProofs.Lemmas.{put_others}
-use Rattle.sc_live_steps.specs.orders.Definitions.{errand_by, errand_for, errands_for, Errand, Here, IsNone, Stage, parties_of}
-use Rattle.sc_live_steps.proofs.OrderStepsProofs.Lemmas.{right_none as behind}
-use Rattle.sc_live_journals.specs.rows.Definitions.{view_at, IsSeat, with_event, IsBornOr, AreAsBegun, made_children}
-use Rattle.sc_live_journals.proofs.RowsProofs.Lemmas.{names_stay, mailed_keeps, order_keeps, found_name, view_others, view_was, Plays, replay_well, none_some}
-use Rattle.sc_live_journals.specs.groups.Definitions.{ScenariosAreWellBorn}
-use Rattle.sc_live_journals.specs.logs.Definitions.{IsGroupOf}
-use Rattle.sc_live_answers.specs.Definitions.{ChildrenAreBegun, IsYoungAt, IsUnanswered, YoungGroupsStay}
-use Rattle.sc_live_journals.specs.scenes.Definitions.{IsNowhere, IsErrandFor, AreUntouched}
-use Rattle.sc_live_journals.proofs.ScenesProofs.Lemmas.{client_leaves, got_nothing, quiet_errands, unknown_apart, errands-append, left_by, left_row, OneOf, all_children, all_sent, now_is, was_is, calm_is}
+use Rattle.sc_node_table.specs.NodeDefinitions.{result_sent, NodeState, replica_of, with_replica, with_children, group_of_mail, may_come, unknown, routed, on_mail, group_of_order, ordered_of, ordered_row, ReplicaState, Executed, name_of, born_replica, mailed, slots_ahead}
+use Rattle.sc_law_walks.proofs.WalkLemmas.{either_way}
+use Rattle.sc_meaning.specs.sound.SoundDefinitions.{Player, player_table, births, as_nodes}
+use Rattle.sc_live_steps.specs.calm.CalmDefinitions.{players, Rows}
+use Rattle.sc_live_steps.proofs.CalmStepsProofs.CalmStepLemmas.{put_others}
+use Rattle.sc_live_steps.specs.orders.OrderDefinitions.{errand_by, errand_for, errands_for, Errand, Here, IsNone, Stage, parties_of}
+use Rattle.sc_live_steps.proofs.OrderStepsProofs.OrderStepLemmas.{right_none as behind}
+use Rattle.sc_live_journals.specs.rows.RowDefinitions.{view_at, IsSeat, with_event, IsBornOr, AreAsBegun, made_children}
+use Rattle.sc_live_journals.proofs.RowsProofs.RowLemmas.{names_stay, mailed_keeps, order_keeps, found_name, view_others, view_was, Plays, replay_well, none_some}
+use Rattle.sc_live_journals.specs.groups.GroupDefinitions.{ScenariosAreWellBorn}
+use Rattle.sc_live_journals.specs.logs.LogDefinitions.{IsGroupOf}
+use Rattle.sc_live_answers.specs.AnswerDefinitions.{ChildrenAreBegun, IsYoungAt, IsUnanswered, YoungGroupsStay}
+use Rattle.sc_live_journals.specs.scenes.SceneDefinitions.{IsNowhere, IsErrandFor, AreUntouched}
+use Rattle.sc_live_journals.proofs.ScenesProofs.SceneLemmas.{client_leaves, got_nothing, quiet_errands, unknown_apart, errands-append, left_by, left_row, OneOf, all_children, all_sent, now_is, was_is, calm_is}
 use Rattle.sc_live_answers.proofs.BallotsProofs.WellPlayers.{plays_of}
 use Rattle.sc_live_answers.proofs.ErrandsProofs.QuestionTargets.{no_append as split_none}
 use Rattle.sc_live_answers.proofs.ReplicasProofs.TakenMail.{mail_taken}

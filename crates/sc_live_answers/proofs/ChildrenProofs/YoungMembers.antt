@@ -5,20 +5,20 @@ use Rattle.std.proofs.lemmas.Bool.{cases_Bool}
 use Rattle.sc_base.specs.Definitions.{Among, is_member}
 use Rattle.sc_node_table.specs.Values.{Draw, Base, OrderLine}
 use Rattle.sc_actor.specs.Definitions.{is_quiet}
-use Rattle.sc_live_orderly.specs.Definitions.{is_born, AreInTime}
-use Rattle.sc_live_orderly.proofs.Lemmas.{in_time_tidy, quiet-empty}
-use Rattle.sc_group_table.specs.machine.Definitions.{Group, group_of, state_after, staying, right_members}
+use Rattle.sc_live_orderly.specs.OrderlyDefinitions.{is_born, AreInTime}
+use Rattle.sc_live_orderly.proofs.OrderlyLemmas.{in_time_tidy, quiet-empty}
+use Rattle.sc_group_table.specs.machine.MachineDefinitions.{Group, group_of, state_after, staying, right_members}
 use Rattle.sc_scenario.specs.declared.scenario.scenarios.Scenario.{Scenario}
-use Rattle.sc_node_table.specs.Definitions.{ReplicaState, next}
-use Rattle.sc_meaning.specs.sound.Definitions.{groups_at, decided_log, births, as_nodes}
-use Rattle.sc_live_steps.specs.calm.Definitions.{players, HasReplica, Rows}
-use Rattle.sc_live_steps.specs.following.Definitions.{Mark, marks_of, reached, QuietMembersKnow}
-use Rattle.sc_live_journals.specs.mail.Definitions.{SlotsAreLeft, ReplicasLast}
-use Rattle.sc_live_journals.specs.rows.Definitions.{view_at, next_in, marks_at, progress_at}
-use Rattle.sc_live_journals.specs.groups.Definitions.{IsTaughtOn, ScenariosAreWellBorn}
-use Rattle.sc_live_journals.specs.logs.Definitions.{logged_sets}
-use Rattle.sc_live_answers.specs.Definitions.{over_at, ChildrenAreBegun, GroupsAreTaught, slot_leaders_at, Task, IsTaskOf, DeliveriesKeepWork, IsCalmJournal, IsUnder, Knows, AreCreatedByOrder, AreOfGroups, ChildrenAreCreated}
-use Rattle.sc_live_journals.specs.scenes.Definitions.{IsThere}
+use Rattle.sc_node_table.specs.NodeDefinitions.{ReplicaState, next}
+use Rattle.sc_meaning.specs.sound.SoundDefinitions.{groups_at, decided_log, births, as_nodes}
+use Rattle.sc_live_steps.specs.calm.CalmDefinitions.{players, HasReplica, Rows}
+use Rattle.sc_live_steps.specs.following.FollowingDefinitions.{Mark, marks_of, reached, QuietMembersKnow}
+use Rattle.sc_live_journals.specs.mail.MailDefinitions.{SlotsAreLeft, ReplicasLast}
+use Rattle.sc_live_journals.specs.rows.RowDefinitions.{view_at, next_in, marks_at, progress_at}
+use Rattle.sc_live_journals.specs.groups.GroupDefinitions.{IsTaughtOn, ScenariosAreWellBorn}
+use Rattle.sc_live_journals.specs.logs.LogDefinitions.{logged_sets}
+use Rattle.sc_live_answers.specs.AnswerDefinitions.{over_at, ChildrenAreBegun, GroupsAreTaught, slot_leaders_at, Task, IsTaskOf, DeliveriesKeepWork, IsCalmJournal, IsUnder, Knows, AreCreatedByOrder, AreOfGroups, ChildrenAreCreated}
+use Rattle.sc_live_journals.specs.scenes.SceneDefinitions.{IsThere}
 use Rattle.sc_live_answers.proofs.ChildrenProofs.KnownChildren.{HasCreated}
 use Rattle.sc_live_answers.proofs.ChildrenProofs.CreatedGroups.{are_young}
 use Rattle.sc_live_answers.proofs.ChildrenProofs.NewGroupDeliveries.{created_still}

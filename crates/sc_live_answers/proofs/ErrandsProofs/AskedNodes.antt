@@ -2,16 +2,16 @@
 use Rattle.std.proofs.Common.{◌≡◌, ℕ, Bool, true, false, List, [], ◌∷◌, Some, None, inl, inr, refl, sym, ◌∙◌, ap, subst}
 use Rattle.sc_base.specs.Definitions.{Among, Each}
 use Rattle.sc_node_table.specs.Values.{Ballot, Draw, Command, Mail, MailBody, Request, Answer, Prepare, Promise, Accept, Accepted, Nack, Learn, Ask, Install, TxPrepare, TxVote, TxOutcome, TxElsewhere, TxWatch, TxWatched, Told as ToldMail, Seat, Flight}
-use Rattle.sc_group_table.specs.machine.Definitions.{applied, Group}
-use Rattle.sc_node_table.specs.Definitions.{ReplicaState, Place, mailed, name_of, before_of, went_on}
-use Rattle.sc_meaning.specs.sound.Definitions.{Player}
-use Rattle.sc_live_steps.specs.calm.Definitions.{Rows}
-use Rattle.sc_live_steps.specs.orders.Definitions.{bond_of, errand_by, is_yes, is_cast_yes, work_by, works, FliesLone, RunsAlone, Answers, Bound, Elsewhere, Errand, Question, Reply, Result, Here, Records, Ends, Unbound, Work, IsUnderWay, IsUnbound, MayFile, Works, EntryLeaves, results, errands_for, is_watch, Asking, Bond, First, IsOnly, IsNone, Lone, Next, Turn}
-use Rattle.sc_live_steps.proofs.OrderStepsProofs.Lemmas.{votes-count-alone, tables-file, tables-ask-on, cases-draw, tables-rest, promises-keep, entries-run-alone}
-use Rattle.sc_live_journals.specs.scenes.Definitions.{IsAsking, IsWaiting, Aborted, Changed, Decided, Ended, FindsFlight, Heard, Late, LeaderFinds, Leaves, Opened, Voted, ComesToLeader, scene_at, IsEntry}
-use Rattle.sc_live_journals.proofs.ScenesProofs.Lemmas.{tell}
+use Rattle.sc_group_table.specs.machine.MachineDefinitions.{applied, Group}
+use Rattle.sc_node_table.specs.NodeDefinitions.{ReplicaState, Place, mailed, name_of, before_of, went_on}
+use Rattle.sc_meaning.specs.sound.SoundDefinitions.{Player}
+use Rattle.sc_live_steps.specs.calm.CalmDefinitions.{Rows}
+use Rattle.sc_live_steps.specs.orders.OrderDefinitions.{bond_of, errand_by, is_yes, is_cast_yes, work_by, works, FliesLone, RunsAlone, Answers, Bound, Elsewhere, Errand, Question, Reply, Result, Here, Records, Ends, Unbound, Work, IsUnderWay, IsUnbound, MayFile, Works, EntryLeaves, results, errands_for, is_watch, Asking, Bond, First, IsOnly, IsNone, Lone, Next, Turn}
+use Rattle.sc_live_steps.proofs.OrderStepsProofs.OrderStepLemmas.{votes-count-alone, tables-file, tables-ask-on, cases-draw, tables-rest, promises-keep, entries-run-alone}
+use Rattle.sc_live_journals.specs.scenes.SceneDefinitions.{IsAsking, IsWaiting, Aborted, Changed, Decided, Ended, FindsFlight, Heard, Late, LeaderFinds, Leaves, Opened, Voted, ComesToLeader, scene_at, IsEntry}
+use Rattle.sc_live_journals.proofs.ScenesProofs.SceneLemmas.{tell}
 use Rattle.sc_live_journals.proofs.ScenesProofs.AnswersAndLateMail.{untouched, asks_leave, votes_late, learnt_late, sent_late}
-use Rattle.sc_words.proofs.PaxosProofs.Lemmas.{Each-among}
+use Rattle.sc_words.proofs.PaxosProofs.PaxosLemmas.{Each-among}
 use Rattle.std.specs.Prelude.{cond}
 use Rattle.sc_live_answers.proofs.WorkProofs.LeaderDeliveries.{expected, strays}
 

@@ -1,14 +1,14 @@
 -- That errands and refusals go to nodes of their scenario, and so that nodes alone take mail while an order is under way.
 use Rattle.sc_live_answers.proofs.ErrandsProofs.ErrandReceivers.{refusals_home}
-use Rattle.sc_live_journals.proofs.MailProofs.Lemmas.{mail_is_posted, desks_are_not_born}
-use Rattle.sc_live_answers.specs.Definitions.{RefusalsGoToNodes, OrderErrandsGoToNodes, RequestsSendNoErrands, TakersAreNodes}
+use Rattle.sc_live_journals.proofs.MailProofs.MailLemmas.{mail_is_posted, desks_are_not_born}
+use Rattle.sc_live_answers.specs.AnswerDefinitions.{RefusalsGoToNodes, OrderErrandsGoToNodes, RequestsSendNoErrands, TakersAreNodes}
 use Rattle.sc_live_answers.proofs.ErrandsProofs.OrderErrands.{ordered_home}
 use Rattle.sc_live_answers.proofs.QuietProofs.QuietPrefixLaws.{prefixes_are_found, members_are_home}
 use Rattle.sc_live_answers.proofs.ErrandsProofs.RequestErrands.{requests_send_no_errands as requests_send_no_errands_by}
 use Rattle.sc_scenario.proofs.ScenarioProofs.Lemmas.{valid_scenarios_are_bounded}
 use Rattle.sc_live_answers.proofs.LinesProofs.SettingLaws.{quiet_journals_have_frames}
 use Rattle.sc_live_answers.proofs.AnswersProofs.CalmRowLaws.{chart_hints_rise}
-use Rattle.sc_live_plain.proofs.Lemmas.{quiet_journals_ask, nodes_stay_calm}
+use Rattle.sc_live_plain.proofs.PlainLemmas.{quiet_journals_ask, nodes_stay_calm}
 use Rattle.sc_live_answers.proofs.QuietProofs.QuietRanges.{quiet_cuts as quiet_groups_have_cuts}
 use Rattle.sc_live_answers.proofs.QuietProofs.GroupRing.{standing_round as standing_groups_are_round}
 use Rattle.sc_live_answers.proofs.LinesProofs.SettingLinks.{settings_linked as quiet_settings_are_linked}

@@ -7,19 +7,19 @@ use Rattle.sc_actor.specs.declared.rows.Event.TheVariants.{Told}
 use Rattle.sc_actor.specs.declared.rows.Input.TheVariants.{Go as GoInput, Told as ToldInput}
 use Rattle.sc_actor.specs.Definitions.{mails, numbered, value, acted, row_of}
 use Rattle.sc_actor.proofs.Lemmas.{mails-snoc}
-use Rattle.sc_law_groups.proofs.GroupProofs.Lemmas.{number_among}
-use Rattle.sc_live_orderly.specs.Definitions.{IsCalmEvent, AreInTime}
-use Rattle.sc_live_orderly.proofs.Lemmas.{by_time, in_time_before, last_in_time, is_born-from}
+use Rattle.sc_law_groups.proofs.GroupProofs.GroupLemmas.{number_among}
+use Rattle.sc_live_orderly.specs.OrderlyDefinitions.{IsCalmEvent, AreInTime}
+use Rattle.sc_live_orderly.proofs.OrderlyLemmas.{by_time, in_time_before, last_in_time, is_born-from}
 use Rattle.sc_paxos_law.proofs.Lemmas.{Among-either}
-use Rattle.sc_words.specs.paxos.Definitions.{AcceptorState}
-use Rattle.sc_words.proofs.PaxosProofs.Lemmas.{Each-among, Each-append, Each-weaker, find_found}
+use Rattle.sc_words.specs.paxos.PaxosDefinitions.{AcceptorState}
+use Rattle.sc_words.proofs.PaxosProofs.PaxosLemmas.{Each-among, Each-append, Each-weaker, find_found}
 use Rattle.sc_scenario.specs.declared.scenario.scenarios.Scenario.{Scenario}
-use Rattle.sc_node_table.specs.Definitions.{NodeState, numbers_from}
-use Rattle.sc_meaning.specs.sound.Definitions.{Player, player_table, node_seat, client_seats, births, as_nodes}
-use Rattle.sc_live_steps.specs.calm.Definitions.{players, Rows}
-use Rattle.sc_live_journals.specs.rows.Definitions.{IsSeat}
-use Rattle.sc_live_journals.specs.mail.Definitions.{IsClientsBody, IsPlayers, IsPosted, MailIsPosted}
-use Rattle.sc_live_answers.specs.Definitions.{IsNodeOf, GoesToNode, RefusesToNode, RefusalsGoToNodes, NodeErrandsReachPlayers}
+use Rattle.sc_node_table.specs.NodeDefinitions.{NodeState, numbers_from}
+use Rattle.sc_meaning.specs.sound.SoundDefinitions.{Player, player_table, node_seat, client_seats, births, as_nodes}
+use Rattle.sc_live_steps.specs.calm.CalmDefinitions.{players, Rows}
+use Rattle.sc_live_journals.specs.rows.RowDefinitions.{IsSeat}
+use Rattle.sc_live_journals.specs.mail.MailDefinitions.{IsClientsBody, IsPlayers, IsPosted, MailIsPosted}
+use Rattle.sc_live_answers.specs.AnswerDefinitions.{IsNodeOf, GoesToNode, RefusesToNode, RefusalsGoToNodes, NodeErrandsReachPlayers}
 use Rattle.sc_live_answers.proofs.QuietProofs.QuietPrefixes.{IsClient, client_among, node_among, seat_in}
 use Rattle.sc_live_answers.proofs.BallotsProofs.Refusals.{IsRefusal, AreSaid}
 use Rattle.sc_live_answers.proofs.BallotsProofs.PlayerRefusals.{input_said}

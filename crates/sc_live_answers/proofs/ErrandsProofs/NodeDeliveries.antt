@@ -1,27 +1,27 @@
 -- What is delivered while an order is under way is for a node: no such mail goes to a client.
-use Rattle.sc_live_journals.proofs.LogsProofs.Lemmas.{no_client}
+use Rattle.sc_live_journals.proofs.LogsProofs.GroupLogLemmas.{no_client}
 use Rattle.std.proofs.Common.{◌≡◌, ℕ, eqb, find, true, List, [], ◌++◌, Option, Some, None, inl, inr, refl, sym, ◌∙◌, ap, subst}
 use Rattle.std.proofs.lemmas.Bool.{cases_Bool}
 use Rattle.std.proofs.lemmas.Option.{none-some}
 use Rattle.sc_base.specs.Definitions.{Among, Each, is_member}
 use Rattle.sc_node_table.specs.Values.{Draw, Base, OrderLine, Mail, MailBody, Request, Answer, Prepare, Promise, Accept, Accepted, Nack, Learn, Ask, Install, Told, Client, Seat, Deliver}
 use Rattle.sc_actor.specs.Definitions.{mails, value, System, row_of}
-use Rattle.sc_client_table.specs.table.Definitions.{Client as ClientState}
-use Rattle.sc_live_steps.specs.following.Definitions.{Mark, Asks, Votes, Teaches, Installs, Prepares, Promises, mark_of, marks_of}
-use Rattle.sc_live_steps.proofs.FollowingProofs.Lemmas.{same_mark}
-use Rattle.sc_law_groups.proofs.GroupProofs.Lemmas.{number_among}
-use Rattle.sc_node_table.specs.Definitions.{born_node, group_of_mail, listed, slots_ahead}
-use Rattle.sc_live_orderly.specs.Definitions.{is_born, AreInTime}
-use Rattle.sc_live_orderly.proofs.Lemmas.{in_time_before, in_time_tidy, last_in_time, TakesFirst, takes_first, is_born-from}
-use Rattle.sc_words.proofs.PaxosProofs.Lemmas.{Each-among}
+use Rattle.sc_client_table.specs.table.TableDefinitions.{Client as ClientState}
+use Rattle.sc_live_steps.specs.following.FollowingDefinitions.{Mark, Asks, Votes, Teaches, Installs, Prepares, Promises, mark_of, marks_of}
+use Rattle.sc_live_steps.proofs.FollowingProofs.FollowingLemmas.{same_mark}
+use Rattle.sc_law_groups.proofs.GroupProofs.GroupLemmas.{number_among}
+use Rattle.sc_node_table.specs.NodeDefinitions.{born_node, group_of_mail, listed, slots_ahead}
+use Rattle.sc_live_orderly.specs.OrderlyDefinitions.{is_born, AreInTime}
+use Rattle.sc_live_orderly.proofs.OrderlyLemmas.{in_time_before, in_time_tidy, last_in_time, TakesFirst, takes_first, is_born-from}
+use Rattle.sc_words.proofs.PaxosProofs.PaxosLemmas.{Each-among}
 use Rattle.sc_scenario.specs.declared.scenario.scenarios.Scenario.{Scenario}
-use Rattle.sc_meaning.specs.sound.Definitions.{groups_at, Player, player_table, births, node_seat, as_nodes}
-use Rattle.sc_live_steps.specs.calm.Definitions.{players, Rows}
-use Rattle.sc_live_steps.specs.orders.Definitions.{errand_by, Errand}
-use Rattle.sc_live_journals.specs.logs.Definitions.{logged_sets}
-use Rattle.sc_live_journals.specs.mail.Definitions.{IsPosted, MailIsPosted, DesksAreNotBorn}
-use Rattle.sc_live_journals.proofs.ScenesProofs.Lemmas.{calm_is}
-use Rattle.sc_live_answers.specs.Definitions.{IsNodeOf, GoesToNode, RefusesToNode, RefusalsGoToNodes, IsCalmJournal, ContinuesBy, IsNamedGroup, MembersAreHome, IsOfJournal, IsOrderedSince, SaysWell, IsStranger, TakersAreNodes, SaysWork}
+use Rattle.sc_meaning.specs.sound.SoundDefinitions.{groups_at, Player, player_table, births, node_seat, as_nodes}
+use Rattle.sc_live_steps.specs.calm.CalmDefinitions.{players, Rows}
+use Rattle.sc_live_steps.specs.orders.OrderDefinitions.{errand_by, Errand}
+use Rattle.sc_live_journals.specs.logs.LogDefinitions.{logged_sets}
+use Rattle.sc_live_journals.specs.mail.MailDefinitions.{IsPosted, MailIsPosted, DesksAreNotBorn}
+use Rattle.sc_live_journals.proofs.ScenesProofs.SceneLemmas.{calm_is}
+use Rattle.sc_live_answers.specs.AnswerDefinitions.{IsNodeOf, GoesToNode, RefusesToNode, RefusalsGoToNodes, IsCalmJournal, ContinuesBy, IsNamedGroup, MembersAreHome, IsOfJournal, IsOrderedSince, SaysWell, IsStranger, TakersAreNodes, SaysWork}
 use Rattle.sc_live_answers.proofs.ErrandsProofs.ErrandReceivers.{node_seated}
 use Rattle.sc_live_answers.proofs.ReplicasProofs.Nodes.{node_replays}
 use Rattle.sc_live_answers.proofs.ErrandsProofs.StrayMail.{told_zero as told_to}

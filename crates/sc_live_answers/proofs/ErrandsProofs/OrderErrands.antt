@@ -4,16 +4,16 @@ use Rattle.sc_base.specs.Definitions.{Among, Each}
 use Rattle.sc_node_table.specs.Values.{Draw, OrderLine, Mail, MailBody, TxPrepare, TxVote, TxOutcome, TxElsewhere, TxWatch, TxWatched, Seat, Row}
 use Rattle.sc_actor.specs.Definitions.{mails, numbers_of}
 use Rattle.sc_actor.proofs.Lemmas.{mails-snoc}
-use Rattle.sc_words.proofs.PaxosProofs.Lemmas.{Each-among, Each-append, Each-from, find_found}
+use Rattle.sc_words.proofs.PaxosProofs.PaxosLemmas.{Each-among, Each-append, Each-from, find_found}
 use Rattle.sc_scenario.specs.declared.scenario.scenarios.Scenario.{Scenario}
-use Rattle.sc_meaning.specs.sound.Definitions.{Player, births, as_nodes}
-use Rattle.sc_live_steps.specs.calm.Definitions.{Rows}
-use Rattle.sc_live_steps.specs.orders.Definitions.{errand_by, Errand, Question, Elsewhere, Reply, Result, Scene, Deal, Stage, Still, Ordered, Asks, SentOn, Weighs, Replied, Recorded, Closes, ClosesBoth, closing, parties_of, leads_of, IsAt}
-use Rattle.sc_live_steps.proofs.OrderStepsProofs.Lemmas.{among-right, found, tagged, tokens, closing-errand, errands_of, no-errand}
-use Rattle.sc_live_journals.specs.rows.Definitions.{view_at}
-use Rattle.sc_live_journals.specs.scenes.Definitions.{is_running, left_after, scene_at}
-use Rattle.sc_live_journals.proofs.ScenesProofs.Lemmas.{left_by, left_row}
-use Rattle.sc_live_answers.specs.Definitions.{IsNodeOf, GoesToNode, OrderErrandsGoToNodes, IsCalmJournal, IsPrefixOf, PrefixesAreFound, IsHinted}
+use Rattle.sc_meaning.specs.sound.SoundDefinitions.{Player, births, as_nodes}
+use Rattle.sc_live_steps.specs.calm.CalmDefinitions.{Rows}
+use Rattle.sc_live_steps.specs.orders.OrderDefinitions.{errand_by, Errand, Question, Elsewhere, Reply, Result, Scene, Deal, Stage, Still, Ordered, Asks, SentOn, Weighs, Replied, Recorded, Closes, ClosesBoth, closing, parties_of, leads_of, IsAt}
+use Rattle.sc_live_steps.proofs.OrderStepsProofs.OrderStepLemmas.{among-right, found, tagged, tokens, closing-errand, errands_of, no-errand}
+use Rattle.sc_live_journals.specs.rows.RowDefinitions.{view_at}
+use Rattle.sc_live_journals.specs.scenes.SceneDefinitions.{is_running, left_after, scene_at}
+use Rattle.sc_live_journals.proofs.ScenesProofs.SceneLemmas.{left_by, left_row}
+use Rattle.sc_live_answers.specs.AnswerDefinitions.{IsNodeOf, GoesToNode, OrderErrandsGoToNodes, IsCalmJournal, IsPrefixOf, PrefixesAreFound, IsHinted}
 use Rattle.sc_live_answers.proofs.OrdersProofs.OrderDeliveries.{runs_there}
 use Rattle.sc_live_answers.proofs.ErrandsProofs.QuestionTargets.{errand_there}
 

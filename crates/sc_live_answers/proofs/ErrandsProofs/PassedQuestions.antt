@@ -4,21 +4,21 @@ use Rattle.std.proofs.lemmas.Bool.{cases_Bool, cond-false}
 use Rattle.sc_base.specs.Definitions.{Among}
 use Rattle.sc_node_table.specs.Values.{Draw, Seat, Deliver, Got, Base, Mail, TxElsewhere, Client, Node}
 use Rattle.sc_actor.specs.Definitions.{value, row_of}
-use Rattle.sc_node_table.specs.Definitions.{NodeState, group_of_mail, may_come, replica_of, routed, ReplicaState, Place, mailed}
+use Rattle.sc_node_table.specs.NodeDefinitions.{NodeState, group_of_mail, may_come, replica_of, routed, ReplicaState, Place, mailed}
 use Rattle.sc_scenario.specs.declared.scenario.scenarios.Scenario.{Scenario}
-use Rattle.sc_meaning.specs.sound.Definitions.{Player, as_nodes, births, player_table}
-use Rattle.sc_live_plain.specs.Definitions.{replicas_after}
-use Rattle.sc_live_steps.specs.calm.Definitions.{HasReplica, Rows}
-use Rattle.sc_live_steps.specs.orders.Definitions.{errand_by, errands_for, Elsewhere, Here, Question, is_watch, Asks, Deal, IsAt, Recorded, SentOn, Stage}
-use Rattle.sc_live_journals.specs.rows.Definitions.{view_at, with_event}
-use Rattle.sc_live_journals.proofs.RowsProofs.Lemmas.{view_was, none_some}
-use Rattle.sc_live_journals.specs.scenes.Definitions.{left_after, scene_at, AtAnother, AtLeader, FindsReplica, AreUntouched, ComesTo, IsTaking}
-use Rattle.sc_live_answers.specs.Definitions.{ContinuesSince, IsHintedAt, ReplicasAreRecorded, IsTrueSince}
+use Rattle.sc_meaning.specs.sound.SoundDefinitions.{Player, as_nodes, births, player_table}
+use Rattle.sc_live_plain.specs.PlainDefinitions.{replicas_after}
+use Rattle.sc_live_steps.specs.calm.CalmDefinitions.{HasReplica, Rows}
+use Rattle.sc_live_steps.specs.orders.OrderDefinitions.{errand_by, errands_for, Elsewhere, Here, Question, is_watch, Asks, Deal, IsAt, Recorded, SentOn, Stage}
+use Rattle.sc_live_journals.specs.rows.RowDefinitions.{view_at, with_event}
+use Rattle.sc_live_journals.proofs.RowsProofs.RowLemmas.{view_was, none_some}
+use Rattle.sc_live_journals.specs.scenes.SceneDefinitions.{left_after, scene_at, AtAnother, AtLeader, FindsReplica, AreUntouched, ComesTo, IsTaking}
+use Rattle.sc_live_answers.specs.AnswerDefinitions.{ContinuesSince, IsHintedAt, ReplicasAreRecorded, IsTrueSince}
 use Rattle.sc_live_answers.proofs.ErrandsProofs.QuestionDeliveries.{errands_are, gone_is, mail_was, one}
 use Rattle.sc_live_answers.proofs.ErrandsProofs.QuestionTargets.{errand_there, own_errand}
 use Rattle.sc_live_answers.proofs.ErrandsProofs.PendingErrands.{elsewhere_at}
 use Rattle.sc_live_answers.proofs.ErrandsProofs.AskedNodes.{AsksOn, Enters, IsSending, Mute}
-use Rattle.sc_live_journals.proofs.ScenesProofs.Lemmas.{IsQuestion, aside_is, row_of_comes, all_sent, asked_fresh}
+use Rattle.sc_live_journals.proofs.ScenesProofs.SceneLemmas.{IsQuestion, aside_is, row_of_comes, all_sent, asked_fresh}
 use Rattle.sc_live_answers.proofs.ErrandsProofs.QuestionTargets.{aside_off, no_append, question_mail}
 use Rattle.sc_live_answers.proofs.QuietProofs.QuietLeaders.{stands_there}
 use Rattle.sc_live_answers.proofs.ErrandsProofs.AskedNodes.{leader_sends}

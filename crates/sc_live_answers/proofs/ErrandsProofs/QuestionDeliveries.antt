@@ -4,17 +4,17 @@ use Rattle.std.proofs.lemmas.Bool.{cases_Bool, cond-false}
 use Rattle.sc_base.specs.Definitions.{Among}
 use Rattle.sc_node_table.specs.Values.{Draw, Seat, Deliver, Got, Base, Mail, Client, Node}
 use Rattle.sc_actor.specs.Definitions.{value, row_of}
-use Rattle.sc_node_table.specs.Definitions.{NodeState, group_of_mail, may_come, replica_of, routed, Place, ReplicaState, mailed}
-use Rattle.sc_live_orderly.proofs.Lemmas.{last_in_time}
+use Rattle.sc_node_table.specs.NodeDefinitions.{NodeState, group_of_mail, may_come, replica_of, routed, Place, ReplicaState, mailed}
+use Rattle.sc_live_orderly.proofs.OrderlyLemmas.{last_in_time}
 use Rattle.sc_scenario.specs.declared.scenario.scenarios.Scenario.{Scenario}
-use Rattle.sc_meaning.specs.sound.Definitions.{Player, as_nodes, births, player_table}
-use Rattle.sc_live_steps.specs.calm.Definitions.{Rows}
-use Rattle.sc_live_steps.specs.orders.Definitions.{errand_by, errand_for, errands_for, Errand}
-use Rattle.sc_live_journals.specs.rows.Definitions.{view_at, with_event}
-use Rattle.sc_live_journals.proofs.RowsProofs.Lemmas.{view_was}
-use Rattle.sc_live_journals.specs.scenes.Definitions.{AtAnother, AtLeader, FindsReplica, ComesTo, Led, Unled, left_after, IsTaking}
-use Rattle.sc_live_journals.proofs.ScenesProofs.Lemmas.{row_of_comes, TakesOne, errands-append, left_row, takes_one, all_sent, calm_is}
-use Rattle.sc_live_answers.specs.Definitions.{ContinuesSince}
+use Rattle.sc_meaning.specs.sound.SoundDefinitions.{Player, as_nodes, births, player_table}
+use Rattle.sc_live_steps.specs.calm.CalmDefinitions.{Rows}
+use Rattle.sc_live_steps.specs.orders.OrderDefinitions.{errand_by, errand_for, errands_for, Errand}
+use Rattle.sc_live_journals.specs.rows.RowDefinitions.{view_at, with_event}
+use Rattle.sc_live_journals.proofs.RowsProofs.RowLemmas.{view_was}
+use Rattle.sc_live_journals.specs.scenes.SceneDefinitions.{AtAnother, AtLeader, FindsReplica, ComesTo, Led, Unled, left_after, IsTaking}
+use Rattle.sc_live_journals.proofs.ScenesProofs.SceneLemmas.{row_of_comes, TakesOne, errands-append, left_row, takes_one, all_sent, calm_is}
+use Rattle.sc_live_answers.specs.AnswerDefinitions.{ContinuesSince}
 use Rattle.sc_live_answers.proofs.ErrandsProofs.QuestionTargets.{no_append, skip_middle}
 use Rattle.sc_live_answers.proofs.ErrandsProofs.AskedNodes.{IsSending, leader_sends}
 use Rattle.sc_paxos_law.proofs.Lemmas.{Among-either}

@@ -4,17 +4,17 @@ use Rattle.std.proofs.lemmas.Bool.{cases_eq}
 use Rattle.sc_base.specs.Definitions.{Among, least_of}
 use Rattle.sc_node_table.specs.Values.{Draw, Seat, Deliver, Command, Base, MailBody, Accepted, TxElsewhere, Flight}
 use Rattle.sc_actor.specs.Definitions.{row_of}
-use Rattle.sc_group_table.specs.machine.Definitions.{Group, state_after}
-use Rattle.sc_node_table.specs.Definitions.{group_of_mail, ReplicaState}
+use Rattle.sc_group_table.specs.machine.MachineDefinitions.{Group, state_after}
+use Rattle.sc_node_table.specs.NodeDefinitions.{group_of_mail, ReplicaState}
 use Rattle.sc_scenario.specs.declared.scenario.scenarios.Scenario.{Scenario}
-use Rattle.sc_meaning.specs.sound.Definitions.{Player, as_nodes, births, player_table}
-use Rattle.sc_live_plain.specs.Definitions.{replicas_after}
-use Rattle.sc_live_steps.specs.calm.Definitions.{HasReplica, Rows}
-use Rattle.sc_live_steps.specs.orders.Definitions.{errands_for, work_by, works, Errand, Here, Question, Work, is_watch, Asks, Deal, IsAt, Stage}
-use Rattle.sc_live_journals.specs.rows.Definitions.{view_at, with_event}
-use Rattle.sc_live_journals.proofs.RowsProofs.Lemmas.{view_others}
-use Rattle.sc_live_journals.specs.scenes.Definitions.{left_after, scene_at}
-use Rattle.sc_live_answers.specs.Definitions.{AreDeeds, Doer, HasDone, ContinuesSince, ReplicasAreRecorded}
+use Rattle.sc_meaning.specs.sound.SoundDefinitions.{Player, as_nodes, births, player_table}
+use Rattle.sc_live_plain.specs.PlainDefinitions.{replicas_after}
+use Rattle.sc_live_steps.specs.calm.CalmDefinitions.{HasReplica, Rows}
+use Rattle.sc_live_steps.specs.orders.OrderDefinitions.{errands_for, work_by, works, Errand, Here, Question, Work, is_watch, Asks, Deal, IsAt, Stage}
+use Rattle.sc_live_journals.specs.rows.RowDefinitions.{view_at, with_event}
+use Rattle.sc_live_journals.proofs.RowsProofs.RowLemmas.{view_others}
+use Rattle.sc_live_journals.specs.scenes.SceneDefinitions.{left_after, scene_at}
+use Rattle.sc_live_answers.specs.AnswerDefinitions.{AreDeeds, Doer, HasDone, ContinuesSince, ReplicasAreRecorded}
 use Rattle.sc_live_answers.proofs.ErrandsProofs.QuestionDeliveries.{Nothing, Sending, Sends, errand_was, errands_are, leader_row, one}
 use Rattle.sc_live_answers.proofs.WorkProofs.LeaderDeeds.{lead_works, one_not_none}
 use Rattle.sc_live_answers.proofs.ErrandsProofs.PendingErrands.{question_at}

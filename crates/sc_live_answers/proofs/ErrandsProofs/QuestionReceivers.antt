@@ -4,16 +4,16 @@ use Rattle.sc_base.specs.Definitions.{Among, Each, least_of}
 use Rattle.sc_node_table.specs.Values.{Draw, Seat, Deliver, Command, Noop, Call, Join, RecordVote, RecordWatch, Base, Frozen, Mail, Flight}
 use Rattle.sc_actor.specs.Definitions.{row_of, mails, numbered}
 use Rattle.sc_words.specs.declared.commands.votes.Vote.TheVariants as Says
-use Rattle.sc_node_table.specs.Definitions.{group_of_mail, ReplicaState}
-use Rattle.sc_words.proofs.PaxosProofs.Lemmas.{Each-among}
+use Rattle.sc_node_table.specs.NodeDefinitions.{group_of_mail, ReplicaState}
+use Rattle.sc_words.proofs.PaxosProofs.PaxosLemmas.{Each-among}
 use Rattle.sc_scenario.specs.declared.scenario.scenarios.Scenario.{Scenario}
-use Rattle.sc_meaning.specs.sound.Definitions.{Player, as_nodes, births, player_table}
-use Rattle.sc_live_plain.specs.Definitions.{replicas_after}
-use Rattle.sc_live_steps.specs.calm.Definitions.{HasReplica, Rows}
-use Rattle.sc_live_answers.specs.Definitions.{IsTrueEntry, HasDone, Promising, doer, opened, ContinuesSince, IsHinted, IsAllowedBy, ReplicasAreRecorded, IsTrueSince, HintedOrdersGoOn, heard_doer}
-use Rattle.sc_live_steps.specs.orders.Definitions.{bond_of, work_by, works, Asking, First, Here, Next, Records, is_watch, Asks, IsAt, Recorded, SentOn, Stage, Hears, OfQuestion, OfVote, OfOutcome, LastTakes, OneTakes, TwoTakes, LastFreed, OneFreed, TwoFreed, IsStepOf, ByRest, ByOrder, ByChange, ByDeal, ByPassing, ByAsking, ByTaking, ByVote, ByNo, ByHearing, ByDeciding, ByEnd, closed, Lone, Turn, Still, heard, heard_lead}
-use Rattle.sc_live_journals.specs.rows.Definitions.{view_at, with_event}
-use Rattle.sc_live_journals.specs.scenes.Definitions.{scene_at, GoesBy}
+use Rattle.sc_meaning.specs.sound.SoundDefinitions.{Player, as_nodes, births, player_table}
+use Rattle.sc_live_plain.specs.PlainDefinitions.{replicas_after}
+use Rattle.sc_live_steps.specs.calm.CalmDefinitions.{HasReplica, Rows}
+use Rattle.sc_live_answers.specs.AnswerDefinitions.{IsTrueEntry, HasDone, Promising, doer, opened, ContinuesSince, IsHinted, IsAllowedBy, ReplicasAreRecorded, IsTrueSince, HintedOrdersGoOn, heard_doer}
+use Rattle.sc_live_steps.specs.orders.OrderDefinitions.{bond_of, work_by, works, Asking, First, Here, Next, Records, is_watch, Asks, IsAt, Recorded, SentOn, Stage, Hears, OfQuestion, OfVote, OfOutcome, LastTakes, OneTakes, TwoTakes, LastFreed, OneFreed, TwoFreed, IsStepOf, ByRest, ByOrder, ByChange, ByDeal, ByPassing, ByAsking, ByTaking, ByVote, ByNo, ByHearing, ByDeciding, ByEnd, closed, Lone, Turn, Still, heard, heard_lead}
+use Rattle.sc_live_journals.specs.rows.RowDefinitions.{view_at, with_event}
+use Rattle.sc_live_journals.specs.scenes.SceneDefinitions.{scene_at, GoesBy}
 use Rattle.sc_live_answers.proofs.ErrandsProofs.QuestionDeliveries.{one}
 use Rattle.sc_live_answers.proofs.WorkProofs.LeaderDeeds.{lead_works}
 use Rattle.sc_live_answers.proofs.ErrandsProofs.QuestionTargets.{hears_least}

@@ -1,8 +1,8 @@
 -- Whose offers and watches are sent.
 use Rattle.std.proofs.Common.{List, subst, sym, ℕ, ◌∙◌, ◌≡◌}
 use Rattle.sc_node_table.specs.Values.{Seat, Draw, Offer, Watch, Mail, TxPrepare, TxWatch, Client, Node}
-use Rattle.sc_live_journals.specs.mail.Definitions.{IsClientsBody, IsNodesBody, IsPlayers, IsPosted}
-use Rattle.sc_meaning.specs.sound.Definitions.{Player}
+use Rattle.sc_live_journals.specs.mail.MailDefinitions.{IsClientsBody, IsNodesBody, IsPlayers, IsPosted}
+use Rattle.sc_meaning.specs.sound.SoundDefinitions.{Player}
 
 offer_by : (who : ℕ) (player : Player) (mail : Mail) (tx : Draw) (offer : Offer) → mail.body ≡ TxPrepare tx offer → mail.from ≡ who → IsPlayers who player mail → offer.by ≡ mail.from
 offer_by who (Node node) mail tx offer e from p = (let own : IsNodesBody who mail.to (TxPrepare tx offer) = subst (IsNodesBody who mail.to) e p in own ∙ sym from)

@@ -4,15 +4,15 @@ use Rattle.std.proofs.lemmas.Bool.{cases_Bool}
 use Rattle.sc_base.specs.Definitions.{Among, Each, same_draw, least_of}
 use Rattle.sc_node_table.specs.Values.{Draw, Command, Noop, Call, Join, Split, Begin, RecordVote, Free, Frozen, Mail, MailBody, Accept, TxElsewhere, TxOutcome, TxPrepare, TxVote, TxWatch, TxWatched}
 use Rattle.sc_base.proofs.Lemmas.{draw_is}
-use Rattle.sc_words.specs.commands.Definitions.{is_alone, is_changed}
+use Rattle.sc_words.specs.commands.CommandDefinitions.{is_alone, is_changed}
 use Rattle.sc_words.specs.declared.commands.votes.Vote.TheVariants as Says
-use Rattle.sc_group_table.specs.machine.Definitions.{applied}
-use Rattle.sc_node_table.specs.Definitions.{group_of_mail, ReplicaState, before_of, went_on}
-use Rattle.sc_live_answers.specs.Definitions.{IsTrueEntry}
-use Rattle.sc_live_steps.specs.orders.Definitions.{EntryLeaves, bond_of, errand_by, errand_for, errands_for, work_by, results, Asking, Bond, Elsewhere, Errand, First, IsOnly, Opens, Question, Reply, Result}
-use Rattle.sc_live_steps.proofs.OrderStepsProofs.Lemmas.{orders-leave, records-leave, among-left, among-right, cases-draw}
-use Rattle.sc_live_journals.specs.scenes.Definitions.{BesideFinds}
-use Rattle.sc_live_journals.proofs.ScenesProofs.Lemmas.{IsQuestion}
+use Rattle.sc_group_table.specs.machine.MachineDefinitions.{applied}
+use Rattle.sc_node_table.specs.NodeDefinitions.{group_of_mail, ReplicaState, before_of, went_on}
+use Rattle.sc_live_answers.specs.AnswerDefinitions.{IsTrueEntry}
+use Rattle.sc_live_steps.specs.orders.OrderDefinitions.{EntryLeaves, bond_of, errand_by, errand_for, errands_for, work_by, results, Asking, Bond, Elsewhere, Errand, First, IsOnly, Opens, Question, Reply, Result}
+use Rattle.sc_live_steps.proofs.OrderStepsProofs.OrderStepLemmas.{orders-leave, records-leave, among-left, among-right, cases-draw}
+use Rattle.sc_live_journals.specs.scenes.SceneDefinitions.{BesideFinds}
+use Rattle.sc_live_journals.proofs.ScenesProofs.SceneLemmas.{IsQuestion}
 use Rattle.std.proofs.lemmas.Option.{same_Some}
 use Rattle.sc_live_answers.proofs.ErrandsProofs.AskedNodes.{IsOther, IsTo, only_each}
 use Rattle.sc_paxos_law.proofs.Lemmas.{Among-either}

@@ -5,18 +5,18 @@ use Rattle.std.proofs.lemmas.Option.{same_Some}
 use Rattle.sc_base.specs.Definitions.{Among, Each}
 use Rattle.sc_node_table.specs.Values.{Draw, Seat, Deliver, Base, Mail}
 use Rattle.sc_actor.specs.Definitions.{numbers_of, row_of}
-use Rattle.sc_node_table.specs.Definitions.{NodeState, replica_of, Place, ReplicaState, born_replica, slots_ahead}
+use Rattle.sc_node_table.specs.NodeDefinitions.{NodeState, replica_of, Place, ReplicaState, born_replica, slots_ahead}
 use Rattle.sc_scenario.specs.declared.scenario.scenarios.Scenario.{Scenario}
-use Rattle.sc_meaning.specs.sound.Definitions.{Player, as_nodes, births, player_table}
-use Rattle.sc_live_steps.specs.calm.Definitions.{StandsQuiet, Rows}
-use Rattle.sc_live_steps.specs.orders.Definitions.{works, Answers, Asking, Bound, Elsewhere, Ends, Errand, First, Here, IsNone, Lone, Next, Question, Records, Reply, Result, Scene, Turn, Unbound, Work, free, is_watch, Asks, Closes, ClosesBoth, Deal, Filed, IsAt, Leg, Mailed, Ordered, Recorded, Replied, SentOn, Stage, Still, Weighs, bound_by, closing, heard, parties_of}
-use Rattle.sc_live_steps.proofs.OrderStepsProofs.Lemmas.{cases-draw, found, no-work, work_of}
-use Rattle.sc_live_journals.specs.rows.Definitions.{view_at, with_event}
-use Rattle.sc_live_journals.proofs.RowsProofs.Lemmas.{view_others}
-use Rattle.sc_live_journals.specs.scenes.Definitions.{BesideFinds, AreUntouched, IsDelivered, IsFresh, IsThere, ComesTo, StageAfter, is_running, scene_at, IsTaking, Creates, LeadsAlone}
-use Rattle.sc_live_journals.proofs.ScenesProofs.Lemmas.{own_errand, found_step, aside_is, asks_it, row_of_comes, lead_runs, errand_among, misses, asked_fresh, fresh_errand}
-use Rattle.sc_live_plain.specs.Definitions.{replicas_after}
-use Rattle.sc_live_answers.specs.Definitions.{Executed, HasDone, HasStepped, Rested, doer, AskedGroupsStood, ContinuesSince, TrueOrdersGoOn, ReplicasAreRecorded, asked_of}
+use Rattle.sc_meaning.specs.sound.SoundDefinitions.{Player, as_nodes, births, player_table}
+use Rattle.sc_live_steps.specs.calm.CalmDefinitions.{StandsQuiet, Rows}
+use Rattle.sc_live_steps.specs.orders.OrderDefinitions.{works, Answers, Asking, Bound, Elsewhere, Ends, Errand, First, Here, IsNone, Lone, Next, Question, Records, Reply, Result, Scene, Turn, Unbound, Work, free, is_watch, Asks, Closes, ClosesBoth, Deal, Filed, IsAt, Leg, Mailed, Ordered, Recorded, Replied, SentOn, Stage, Still, Weighs, bound_by, closing, heard, parties_of}
+use Rattle.sc_live_steps.proofs.OrderStepsProofs.OrderStepLemmas.{cases-draw, found, no-work, work_of}
+use Rattle.sc_live_journals.specs.rows.RowDefinitions.{view_at, with_event}
+use Rattle.sc_live_journals.proofs.RowsProofs.RowLemmas.{view_others}
+use Rattle.sc_live_journals.specs.scenes.SceneDefinitions.{BesideFinds, AreUntouched, IsDelivered, IsFresh, IsThere, ComesTo, StageAfter, is_running, scene_at, IsTaking, Creates, LeadsAlone}
+use Rattle.sc_live_journals.proofs.ScenesProofs.SceneLemmas.{own_errand, found_step, aside_is, asks_it, row_of_comes, lead_runs, errand_among, misses, asked_fresh, fresh_errand}
+use Rattle.sc_live_plain.specs.PlainDefinitions.{replicas_after}
+use Rattle.sc_live_answers.specs.AnswerDefinitions.{Executed, HasDone, HasStepped, Rested, doer, AskedGroupsStood, ContinuesSince, TrueOrdersGoOn, ReplicasAreRecorded, asked_of}
 use Rattle.sc_live_answers.proofs.WorkProofs.LeaderDeeds.{lead_works, one_not_none}
 use Rattle.sc_live_answers.proofs.OrdersProofs.OrderFactsAfterDeliveries.{has_asked, has_done, has_new}
 use Rattle.sc_live_answers.proofs.QuietProofs.QuietLeaders.{stands_there}

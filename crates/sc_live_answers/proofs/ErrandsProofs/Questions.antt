@@ -2,8 +2,8 @@
 use Rattle.std.proofs.Common.{◌≡◌, ℕ, Bool, List, [], ◌++◌, inl, inr, refl}
 use Rattle.sc_base.specs.Definitions.{Among}
 use Rattle.sc_node_table.specs.Values.{Draw}
-use Rattle.sc_live_steps.specs.orders.Definitions.{is_watch, Errand, Question, Elsewhere, Reply, Result, Here, Scene, Deal, Leg, closing, parties_of, Stage, Still, Ordered, Asks, SentOn, Weighs, Replied, Recorded, Closes, ClosesBoth, IsAt}
-use Rattle.sc_live_steps.proofs.OrderStepsProofs.Lemmas.{first, second, tokens, tagged, found, no-errand, closing-errand}
+use Rattle.sc_live_steps.specs.orders.OrderDefinitions.{is_watch, Errand, Question, Elsewhere, Reply, Result, Here, Scene, Deal, Leg, closing, parties_of, Stage, Still, Ordered, Asks, SentOn, Weighs, Replied, Recorded, Closes, ClosesBoth, IsAt}
+use Rattle.sc_live_steps.proofs.OrderStepsProofs.OrderStepLemmas.{first, second, tokens, tagged, found, no-errand, closing-errand}
 
 abbrev errands_of : Here → List Errand
 errands_of h = h.errands

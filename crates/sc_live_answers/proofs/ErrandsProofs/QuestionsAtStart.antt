@@ -5,15 +5,15 @@ use Rattle.sc_base.specs.Definitions.{Among}
 use Rattle.sc_node_table.specs.Values.{Draw, Deliver}
 use Rattle.sc_actor.specs.declared.rows.Event.TheVariants.{Told}
 use Rattle.sc_actor.specs.Definitions.{row_of}
-use Rattle.sc_live_orderly.proofs.Lemmas.{last_in_time}
-use Rattle.sc_meaning.specs.sound.Definitions.{as_nodes, births, player_table}
-use Rattle.sc_live_steps.specs.calm.Definitions.{players}
-use Rattle.sc_live_steps.specs.orders.Definitions.{errand_by, Elsewhere, Here, Unbound, Asks, IsAt, SentOn, Stage, Still}
-use Rattle.sc_live_steps.proofs.OrderStepsProofs.Lemmas.{among-right}
-use Rattle.sc_live_journals.specs.rows.Definitions.{with_event}
-use Rattle.sc_live_journals.specs.scenes.Definitions.{StageAfter, left_after, scene_at}
-use Rattle.sc_live_journals.proofs.ScenesProofs.Lemmas.{found_step, takes_one, calm_is}
-use Rattle.sc_live_answers.specs.Definitions.{CoordinatorsAreHinted, HintedOrdersBegin, IsHinted}
+use Rattle.sc_live_orderly.proofs.OrderlyLemmas.{last_in_time}
+use Rattle.sc_meaning.specs.sound.SoundDefinitions.{as_nodes, births, player_table}
+use Rattle.sc_live_steps.specs.calm.CalmDefinitions.{players}
+use Rattle.sc_live_steps.specs.orders.OrderDefinitions.{errand_by, Elsewhere, Here, Unbound, Asks, IsAt, SentOn, Stage, Still}
+use Rattle.sc_live_steps.proofs.OrderStepsProofs.OrderStepLemmas.{among-right}
+use Rattle.sc_live_journals.specs.rows.RowDefinitions.{with_event}
+use Rattle.sc_live_journals.specs.scenes.SceneDefinitions.{StageAfter, left_after, scene_at}
+use Rattle.sc_live_journals.proofs.ScenesProofs.SceneLemmas.{found_step, takes_one, calm_is}
+use Rattle.sc_live_answers.specs.AnswerDefinitions.{CoordinatorsAreHinted, HintedOrdersBegin, IsHinted}
 use Rattle.sc_live_answers.proofs.OrdersProofs.OrderFactsAtStart.{begun_so, ordered_unbound, still_unbound}
 use Rattle.sc_live_answers.proofs.ErrandsProofs.QuestionTargets.{errand_there}
 use Rattle.sc_live_answers.proofs.ErrandsProofs.PendingErrands.{elsewhere_at}

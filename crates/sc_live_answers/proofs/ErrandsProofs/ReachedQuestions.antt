@@ -3,18 +3,18 @@ use Rattle.std.proofs.Common.{◌≡◌, ℕ, true, List, [], ◌∷◌, ◌++�
 use Rattle.sc_base.specs.Definitions.{Among, Each, least_of}
 use Rattle.sc_node_table.specs.Values.{Draw, Seat, Deliver, Command, Base, Mail, TxElsewhere, Flight}
 use Rattle.sc_actor.specs.Definitions.{numbers_of, row_of, mails, numbered}
-use Rattle.sc_group_table.specs.machine.Definitions.{Group}
-use Rattle.sc_node_table.specs.Definitions.{group_of_mail, ReplicaState}
-use Rattle.sc_words.proofs.PaxosProofs.Lemmas.{Each-among}
+use Rattle.sc_group_table.specs.machine.MachineDefinitions.{Group}
+use Rattle.sc_node_table.specs.NodeDefinitions.{group_of_mail, ReplicaState}
+use Rattle.sc_words.proofs.PaxosProofs.PaxosLemmas.{Each-among}
 use Rattle.sc_scenario.specs.declared.scenario.scenarios.Scenario.{Scenario}
-use Rattle.sc_meaning.specs.sound.Definitions.{Player, as_nodes, births, player_table}
-use Rattle.sc_live_plain.specs.Definitions.{replicas_after}
-use Rattle.sc_live_steps.specs.calm.Definitions.{HasReplica, Rows}
-use Rattle.sc_live_answers.specs.Definitions.{IsTrueEntry, HasDone, doer, opened, ContinuesSince, IsHintedAt, ReplicasAreRecorded, IsTrueSince}
-use Rattle.sc_live_steps.specs.orders.Definitions.{errand_by, errands_for, works, Elsewhere, First, Here, Opens, Work, Asks, Deal, IsAt, Ordered, SentOn, Stage}
-use Rattle.sc_live_journals.specs.rows.Definitions.{view_at, with_event}
-use Rattle.sc_live_journals.specs.scenes.Definitions.{is_running, left_after, scene_at}
-use Rattle.sc_live_journals.proofs.ScenesProofs.Lemmas.{lead_runs}
+use Rattle.sc_meaning.specs.sound.SoundDefinitions.{Player, as_nodes, births, player_table}
+use Rattle.sc_live_plain.specs.PlainDefinitions.{replicas_after}
+use Rattle.sc_live_steps.specs.calm.CalmDefinitions.{HasReplica, Rows}
+use Rattle.sc_live_answers.specs.AnswerDefinitions.{IsTrueEntry, HasDone, doer, opened, ContinuesSince, IsHintedAt, ReplicasAreRecorded, IsTrueSince}
+use Rattle.sc_live_steps.specs.orders.OrderDefinitions.{errand_by, errands_for, works, Elsewhere, First, Here, Opens, Work, Asks, Deal, IsAt, Ordered, SentOn, Stage}
+use Rattle.sc_live_journals.specs.rows.RowDefinitions.{view_at, with_event}
+use Rattle.sc_live_journals.specs.scenes.SceneDefinitions.{is_running, left_after, scene_at}
+use Rattle.sc_live_journals.proofs.ScenesProofs.SceneLemmas.{lead_runs}
 use Rattle.sc_live_answers.proofs.ErrandsProofs.QuestionDeliveries.{Nothing, Sending, Sends, errands_are, gone_is, leader_row, mail_was, one}
 use Rattle.sc_live_answers.proofs.WorkProofs.LeaderDeeds.{lead_works}
 use Rattle.sc_live_answers.proofs.ErrandsProofs.QuestionTargets.{elsewhere_mail, errand_there, one_right, opens_least, own_errand}

@@ -5,21 +5,21 @@ use Rattle.sc_node_table.specs.Values.{Draw, Base, OrderLine, Mail, MailBody, Re
 use Rattle.sc_actor.specs.declared.rows.Input.TheVariants.{Go as GoInput}
 use Rattle.sc_actor.specs.Definitions.{mails, acted, input_of, row_of}
 use Rattle.sc_actor.proofs.Lemmas.{mails-snoc}
-use Rattle.sc_client_table.specs.table.Definitions.{Client as ClientState, table}
-use Rattle.sc_node_table.specs.Definitions.{node_table}
-use Rattle.sc_live_orderly.specs.Definitions.{IsInOrder, IsOrderly, IsTidy}
-use Rattle.sc_words.proofs.PaxosProofs.Lemmas.{Each-append, Each-weaker}
+use Rattle.sc_client_table.specs.table.TableDefinitions.{Client as ClientState, table}
+use Rattle.sc_node_table.specs.NodeDefinitions.{node_table}
+use Rattle.sc_live_orderly.specs.OrderlyDefinitions.{IsInOrder, IsOrderly, IsTidy}
+use Rattle.sc_words.proofs.PaxosProofs.PaxosLemmas.{Each-append, Each-weaker}
 use Rattle.sc_scenario.specs.scenario.Definitions.{ValidScenariosAreBounded}
 use Rattle.sc_scenario.specs.declared.scenario.scenarios.Asks.{Asks}
 use Rattle.sc_scenario.specs.declared.scenario.scenarios.Scenario.{Scenario}
-use Rattle.sc_meaning.specs.sound.Definitions.{Player, player_table, births, node_seat, client_seat, route_of, system_of, as_nodes}
-use Rattle.sc_live_steps.specs.calm.Definitions.{Rows}
-use Rattle.sc_live_steps.specs.orders.Definitions.{errand_by, Errand}
-use Rattle.sc_live_journals.proofs.MailProofs.Lemmas.{IsRequestOf, clients_ask}
-use Rattle.sc_live_plain.specs.Definitions.{IsAsking, AreFarFromLast, QuietJournalsAsk, Setting, IsSetting, IsAsideBody, IsCalmMail, NodesStayCalm, Frame, IsBegun, Requests, IsPlainBody}
+use Rattle.sc_meaning.specs.sound.SoundDefinitions.{Player, player_table, births, node_seat, client_seat, route_of, system_of, as_nodes}
+use Rattle.sc_live_steps.specs.calm.CalmDefinitions.{Rows}
+use Rattle.sc_live_steps.specs.orders.OrderDefinitions.{errand_by, Errand}
+use Rattle.sc_live_journals.proofs.MailProofs.MailLemmas.{IsRequestOf, clients_ask}
+use Rattle.sc_live_plain.specs.PlainDefinitions.{IsAsking, AreFarFromLast, QuietJournalsAsk, Setting, IsSetting, IsAsideBody, IsCalmMail, NodesStayCalm, Frame, IsBegun, Requests, IsPlainBody}
 use Rattle.sc_live_plain.proofs.CalmProofs.RequestPhaseNodes as turns_of
-use Rattle.sc_live_plain.proofs.Lemmas.{IsStage, stage, of_player}
-use Rattle.sc_live_answers.specs.Definitions.{QuietGroupsHaveCuts, GoesToNode, RequestsSendNoErrands, ChartHintsRise, setting_of, StandingGroupsAreRound, QuietJournalsHaveFrames, QuietSettingsAreLinked}
+use Rattle.sc_live_plain.proofs.PlainLemmas.{IsStage, stage, of_player}
+use Rattle.sc_live_answers.specs.AnswerDefinitions.{QuietGroupsHaveCuts, GoesToNode, RequestsSendNoErrands, ChartHintsRise, setting_of, StandingGroupsAreRound, QuietJournalsHaveFrames, QuietSettingsAreLinked}
 use Rattle.sc_live_answers.proofs.LinesProofs.Setting as quiet_of
 
 -- ---- mail

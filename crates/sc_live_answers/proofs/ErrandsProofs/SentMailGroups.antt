@@ -10,21 +10,21 @@ use Rattle.sc_words.specs.declared.commands.orders.OrderRefusal.TheVariants.{Not
 use Rattle.sc_actor.specs.declared.rows.Event.TheVariants.{Told}
 use Rattle.sc_actor.specs.declared.rows.Input.TheVariants.{Told as ToldInput}
 use Rattle.sc_actor.specs.Definitions.{value, System, row_of, is_quiet}
-use Rattle.sc_live_orderly.specs.Definitions.{is_born, rest, mail_for, taken, AreInTime}
-use Rattle.sc_live_orderly.proofs.Lemmas.{in_time_before, in_time_tidy, last_in_time, TakesFirst, is_born-from, takes_first, rest-calm, quiet-empty}
-use Rattle.sc_words.proofs.PaxosProofs.Lemmas.{Each-among, Each-append, Each-from}
-use Rattle.sc_law_entries.proofs.NamesProofs.Lemmas.{Each-drop}
+use Rattle.sc_live_orderly.specs.OrderlyDefinitions.{is_born, rest, mail_for, taken, AreInTime}
+use Rattle.sc_live_orderly.proofs.OrderlyLemmas.{in_time_before, in_time_tidy, last_in_time, TakesFirst, is_born-from, takes_first, rest-calm, quiet-empty}
+use Rattle.sc_words.proofs.PaxosProofs.PaxosLemmas.{Each-among, Each-append, Each-from}
+use Rattle.sc_law_entries.proofs.NamesProofs.NameLemmas.{Each-drop}
 use Rattle.sc_scenario.specs.declared.scenario.scenarios.Scenario.{Scenario}
-use Rattle.sc_node_table.specs.Definitions.{NodeState, replica_of, with_replica, with_children, group_of_mail, may_come, unknown, routed, on_mail, group_of_order, ordered_of, ReplicaState, Executed, name_of, result_sent, ordered_row, mailed}
-use Rattle.sc_law_walks.proofs.Lemmas.{either_way}
-use Rattle.sc_meaning.specs.sound.Definitions.{Player, player_table, births, as_nodes}
-use Rattle.sc_live_steps.specs.calm.Definitions.{players, Rows}
-use Rattle.sc_live_steps.specs.orders.Definitions.{Stage}
-use Rattle.sc_live_journals.specs.rows.Definitions.{IsSeat, with_event}
-use Rattle.sc_live_journals.proofs.RowsProofs.Lemmas.{mailed_keeps, order_keeps, found_name, view_was}
-use Rattle.sc_live_journals.specs.scenes.Definitions.{IsThere, IsNowhere, IsErrandFor, AreUntouched}
-use Rattle.sc_live_journals.proofs.ScenesProofs.Lemmas.{client_leaves, got_nothing, quiet_errands, unknown_apart, all_sent, calm_is}
-use Rattle.sc_live_answers.specs.Definitions.{IsNamedGroup, IsUnanswered, IsOfJournal}
+use Rattle.sc_node_table.specs.NodeDefinitions.{NodeState, replica_of, with_replica, with_children, group_of_mail, may_come, unknown, routed, on_mail, group_of_order, ordered_of, ReplicaState, Executed, name_of, result_sent, ordered_row, mailed}
+use Rattle.sc_law_walks.proofs.WalkLemmas.{either_way}
+use Rattle.sc_meaning.specs.sound.SoundDefinitions.{Player, player_table, births, as_nodes}
+use Rattle.sc_live_steps.specs.calm.CalmDefinitions.{players, Rows}
+use Rattle.sc_live_steps.specs.orders.OrderDefinitions.{Stage}
+use Rattle.sc_live_journals.specs.rows.RowDefinitions.{IsSeat, with_event}
+use Rattle.sc_live_journals.proofs.RowsProofs.RowLemmas.{mailed_keeps, order_keeps, found_name, view_was}
+use Rattle.sc_live_journals.specs.scenes.SceneDefinitions.{IsThere, IsNowhere, IsErrandFor, AreUntouched}
+use Rattle.sc_live_journals.proofs.ScenesProofs.SceneLemmas.{client_leaves, got_nothing, quiet_errands, unknown_apart, all_sent, calm_is}
+use Rattle.sc_live_answers.specs.AnswerDefinitions.{IsNamedGroup, IsUnanswered, IsOfJournal}
 use Rattle.sc_live_answers.proofs.OrdersProofs.OrderDeliveries.{there_or}
 use Rattle.sc_live_answers.proofs.ChildrenProofs.YoungGroupRows.{IsNoneFor, sends_none}
 use Rattle.sc_live_answers.proofs.ReplicasProofs.TakenMail.{mail_taken}

@@ -2,20 +2,20 @@
 use Rattle.std.proofs.Common.{◌≡◌, ℕ, eqb, List, [], find, Some, None, refl, sym, ◌∙◌, ap, subst}
 use Rattle.sc_node_table.specs.Values.{Draw, OrderLine, OrderResult, Mail, MailBody, Told as ToldMail, Node, Client, Seat, Event, Deliver, Row}
 use Rattle.sc_actor.specs.Definitions.{mails, numbered, value, row_of}
-use Rattle.sc_live_orderly.specs.Definitions.{IsCalmEvent, AreInTime}
-use Rattle.sc_live_orderly.proofs.Lemmas.{in_time_before, in_time_tidy, last_in_time, takes_first, is_born-from}
-use Rattle.sc_words.proofs.PaxosProofs.Lemmas.{Each-among}
+use Rattle.sc_live_orderly.specs.OrderlyDefinitions.{IsCalmEvent, AreInTime}
+use Rattle.sc_live_orderly.proofs.OrderlyLemmas.{in_time_before, in_time_tidy, last_in_time, takes_first, is_born-from}
+use Rattle.sc_words.proofs.PaxosProofs.PaxosLemmas.{Each-among}
 use Rattle.sc_scenario.specs.declared.scenario.scenarios.Scenario.{Scenario}
-use Rattle.sc_node_table.specs.Definitions.{NodeState, group_of_mail}
-use Rattle.sc_meaning.specs.sound.Definitions.{Player, births, as_nodes, player_table}
-use Rattle.sc_live_steps.specs.calm.Definitions.{players, IsCalmMailAt, Strays as StraysAt, IsDelivered, Elsewhere, Ways, Rows}
-use Rattle.sc_live_journals.specs.mail.Definitions.{IsNodesBody, IsClientsBody, IsPlayers, IsPosted}
-use Rattle.sc_live_journals.proofs.MailProofs.Lemmas.{desks_apart, mail_posted}
-use Rattle.sc_live_journals.specs.rows.Definitions.{IsSeat, with_event}
-use Rattle.sc_live_journals.proofs.RowsProofs.Lemmas.{same_some, Plays, replay_well}
-use Rattle.sc_live_journals.proofs.GroupsProofs.Lemmas.{scenarios_well_born}
-use Rattle.sc_law_groups.proofs.GroupProofs.Lemmas.{number_among}
-use Rattle.sc_live_answers.specs.Definitions.{StrayMailFinds, MailIsForItsNode}
+use Rattle.sc_node_table.specs.NodeDefinitions.{NodeState, group_of_mail}
+use Rattle.sc_meaning.specs.sound.SoundDefinitions.{Player, births, as_nodes, player_table}
+use Rattle.sc_live_steps.specs.calm.CalmDefinitions.{players, IsCalmMailAt, Strays as StraysAt, IsDelivered, Elsewhere, Ways, Rows}
+use Rattle.sc_live_journals.specs.mail.MailDefinitions.{IsNodesBody, IsClientsBody, IsPlayers, IsPosted}
+use Rattle.sc_live_journals.proofs.MailProofs.MailLemmas.{desks_apart, mail_posted}
+use Rattle.sc_live_journals.specs.rows.RowDefinitions.{IsSeat, with_event}
+use Rattle.sc_live_journals.proofs.RowsProofs.RowLemmas.{same_some, Plays, replay_well}
+use Rattle.sc_live_journals.proofs.GroupsProofs.GroupLemmas.{scenarios_well_born}
+use Rattle.sc_law_groups.proofs.GroupProofs.GroupLemmas.{number_among}
+use Rattle.sc_live_answers.specs.AnswerDefinitions.{StrayMailFinds, MailIsForItsNode}
 use Rattle.sc_live_answers.proofs.BallotsProofs.WellPlayers.{plays_of}
 
 -- what came of an order goes to the desk

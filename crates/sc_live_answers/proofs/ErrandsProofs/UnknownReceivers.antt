@@ -1,5 +1,5 @@
 -- No mail of a group goes to who is no actor: members are nodes of the scenario, and what is no group's is sent no mail at all.
-use Rattle.sc_live_journals.specs.groups.Definitions.{IsRowOf}
+use Rattle.sc_live_journals.specs.groups.GroupDefinitions.{IsRowOf}
 use Rattle.sc_live_journals.proofs.GroupsProofs.PrefixesInTime.{kept_by_all}
 use Rattle.std.proofs.Common.{◌≡◌, ℕ, ◌≤◌, eqb, not, nat_lt, Bool, true, false, true≢false, cond, List, [], ◌∷◌, ◌++◌, length, Option, Some, None, inl, inr, refl, sym, ◌∙◌, ap, subst, append_assoc, arith, ◌||◌}
 use Rattle.std.specs.Prelude.{find}
@@ -11,21 +11,21 @@ use Rattle.sc_base.proofs.Lemmas.{draw_is, same_name}
 use Rattle.sc_words.specs.declared.commands.orders.OrderRefusal.TheVariants.{NotLeader}
 use Rattle.sc_actor.specs.declared.rows.Event.TheVariants.{Told}
 use Rattle.sc_actor.specs.Definitions.{mails, value, input_of, acted, row_of}
-use Rattle.sc_live_orderly.specs.Definitions.{is_born, IsCalmEvent, AreInTime}
-use Rattle.sc_live_orderly.proofs.Lemmas.{in_time_before, in_time_tidy, takes_first, is_born-from}
-use Rattle.sc_words.proofs.PaxosProofs.Lemmas.{find_found}
+use Rattle.sc_live_orderly.specs.OrderlyDefinitions.{is_born, IsCalmEvent, AreInTime}
+use Rattle.sc_live_orderly.proofs.OrderlyLemmas.{in_time_before, in_time_tidy, takes_first, is_born-from}
+use Rattle.sc_words.proofs.PaxosProofs.PaxosLemmas.{find_found}
 use Rattle.sc_scenario.specs.scenario.Definitions.{base_at}
 use Rattle.sc_scenario.specs.declared.scenario.scenarios.Scenario.{Scenario}
-use Rattle.sc_node_table.specs.Definitions.{NodeState, replica_of, with_made, unknown, may_come, group_of_mail, taken_by, routed, on_mail, group_of_order, ordered_of, result_sent, ReplicaState, Place, name_of, last_slot, made_by, slots_ahead}
-use Rattle.sc_meaning.specs.sound.Definitions.{groups_at, Player, player_table, node_seat, client_seats, births, as_nodes}
-use Rattle.sc_live_steps.specs.calm.Definitions.{players}
-use Rattle.sc_law_entries.specs.logs.Definitions.{Rows}
-use Rattle.sc_law_walks.proofs.Lemmas.{either_way}
-use Rattle.sc_live_steps.specs.following.Definitions.{Installs, mark_of, IsRow, marks_for}
-use Rattle.sc_live_journals.specs.rows.Definitions.{marks_at, progress_at, mark_in, taken_mark, begun_course, IsSeat, with_event}
-use Rattle.sc_live_journals.proofs.RowsProofs.Lemmas.{none_marked, others_hear_nothing, rows_are, delivered, found_name, sent_is, view_was}
-use Rattle.sc_live_journals.specs.logs.Definitions.{logged_sets}
-use Rattle.sc_live_answers.specs.Definitions.{IsCalmJournal, IsPrefixOf, AreSent, PrefixesAreFound, MembersAreHome, NoMailForStrangers}
+use Rattle.sc_node_table.specs.NodeDefinitions.{NodeState, replica_of, with_made, unknown, may_come, group_of_mail, taken_by, routed, on_mail, group_of_order, ordered_of, result_sent, ReplicaState, Place, name_of, last_slot, made_by, slots_ahead}
+use Rattle.sc_meaning.specs.sound.SoundDefinitions.{groups_at, Player, player_table, node_seat, client_seats, births, as_nodes}
+use Rattle.sc_live_steps.specs.calm.CalmDefinitions.{players}
+use Rattle.sc_law_entries.specs.logs.LogDefinitions.{Rows}
+use Rattle.sc_law_walks.proofs.WalkLemmas.{either_way}
+use Rattle.sc_live_steps.specs.following.FollowingDefinitions.{Installs, mark_of, IsRow, marks_for}
+use Rattle.sc_live_journals.specs.rows.RowDefinitions.{marks_at, progress_at, mark_in, taken_mark, begun_course, IsSeat, with_event}
+use Rattle.sc_live_journals.proofs.RowsProofs.RowLemmas.{none_marked, others_hear_nothing, rows_are, delivered, found_name, sent_is, view_was}
+use Rattle.sc_live_journals.specs.logs.LogDefinitions.{logged_sets}
+use Rattle.sc_live_answers.specs.AnswerDefinitions.{IsCalmJournal, IsPrefixOf, AreSent, PrefixesAreFound, MembersAreHome, NoMailForStrangers}
 use Rattle.sc_live_answers.proofs.QuietProofs.QuietPrefixes.{seat_in}
 use Rattle.sc_live_answers.proofs.RequestsProofs.UnmarkedMail.{none_first}
 use Rattle.sc_live_answers.proofs.LedGroupsProofs.JournalGroups.{calm_group}

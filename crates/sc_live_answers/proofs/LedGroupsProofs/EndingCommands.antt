@@ -2,7 +2,7 @@
 use Rattle.std.proofs.Common.{◌≡◌, ◌⊎◌, ℕ, true, suc, take, is_some, List, inl, inr}
 use Rattle.sc_base.specs.Definitions.{is_member}
 use Rattle.sc_node_table.specs.Values.{Command, Core}
-use Rattle.sc_group_table.specs.machine.Definitions.{Group, applied, state_after}
+use Rattle.sc_group_table.specs.machine.MachineDefinitions.{Group, applied, state_after}
 use Rattle.sc_live_answers.proofs.LedGroupsProofs.MemberWalks.{member_step, next_states}
 
 -- gone with one record, it was so with the other, or nobody came

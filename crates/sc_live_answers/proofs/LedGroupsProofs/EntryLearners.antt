@@ -1,9 +1,9 @@
 -- Members of a group learn all entries, in a journal whose rows come in time.
 use Rattle.std.proofs.Common.{[], ◌∷◌, ◌++◌, ◌∙◌, sym, ap, append_assoc, append-nil}
-use Rattle.sc_meaning.specs.sound.Definitions.{births, as_nodes}
-use Rattle.sc_live_journals.specs.logs.Definitions.{logged_sets}
-use Rattle.sc_live_journals.specs.groups.Definitions.{GroupsAreTaughtThrough, ScenariosAreWellBorn}
-use Rattle.sc_live_answers.specs.Definitions.{over_at, LedLogsAreOne, GroupsBeginTaught, GroupsAreTaught, slot_leaders_at, GroupsAreLed}
+use Rattle.sc_meaning.specs.sound.SoundDefinitions.{births, as_nodes}
+use Rattle.sc_live_journals.specs.logs.LogDefinitions.{logged_sets}
+use Rattle.sc_live_journals.specs.groups.GroupDefinitions.{GroupsAreTaughtThrough, ScenariosAreWellBorn}
+use Rattle.sc_live_answers.specs.AnswerDefinitions.{over_at, LedLogsAreOne, GroupsBeginTaught, GroupsAreTaught, slot_leaders_at, GroupsAreLed}
 
 pub groups_are_taught : ScenariosAreWellBorn → GroupsAreTaughtThrough → GroupsAreLed → LedLogsAreOne → GroupsBeginTaught → GroupsAreTaught
 groups_are_taught well through are_led one_log begin words scenario journal prefix more base group timely few split so =

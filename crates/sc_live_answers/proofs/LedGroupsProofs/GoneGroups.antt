@@ -1,7 +1,7 @@
 -- A group that is gone stays so, whatever it executes.
 use Rattle.std.proofs.Common.{◌≡◌, ℕ, true, ◌≤◌, zero, suc, take, is_some, List, [], ◌∷◌, refl, arith}
 use Rattle.sc_node_table.specs.Values.{Command}
-use Rattle.sc_group_table.specs.machine.Definitions.{Group, applied, state_after}
+use Rattle.sc_group_table.specs.machine.MachineDefinitions.{Group, applied, state_after}
 use Rattle.sc_live_answers.proofs.LedGroupsProofs.MemberWalks.{member_step}
 
 applied_gone : (group : Group) (c : Command) → is_some group.core.gone ≡ true → is_some (applied group c).0.core.gone ≡ true

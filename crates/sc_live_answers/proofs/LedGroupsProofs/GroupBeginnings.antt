@@ -4,18 +4,18 @@ use Rattle.std.specs.Option.{option_map}
 use Rattle.sc_base.specs.Definitions.{Among, IsRoster, is_member}
 use Rattle.sc_node_table.specs.Values.{Draw, Command, Base}
 use Rattle.std.specs.Prelude.{true}
-use Rattle.sc_group_table.specs.machine.Definitions.{Group, group_of, applied, child_of}
-use Rattle.sc_meaning.specs.entries.Definitions.{birth_of, division_of}
+use Rattle.sc_group_table.specs.machine.MachineDefinitions.{Group, group_of, applied, child_of}
+use Rattle.sc_meaning.specs.entries.EntryDefinitions.{birth_of, division_of}
 use Rattle.sc_meaning.specs.declared.entries.Division.{Division}
 use Rattle.sc_paxos_law.proofs.Lemmas.{Among-either}
 use Rattle.sc_scenario.specs.scenario.Definitions.{IsBounded}
 use Rattle.sc_scenario.specs.declared.scenario.scenarios.Scenario.{Scenario}
-use Rattle.sc_meaning.specs.sound.Definitions.{children_of, groups_at, decided_log, Ahead}
-use Rattle.sc_law_entries.specs.logs.Definitions.{Rows, Descends}
-use Rattle.sc_law_entries.proofs.LogsProofs.Lemmas.{group_found}
-use Rattle.sc_law_groups.proofs.WholeProofs.Lemmas.{fresh_children}
-use Rattle.sc_live_steps.proofs.FollowingProofs.Lemmas.{least_in}
-use Rattle.sc_live_journals.proofs.RowsProofs.Lemmas.{born_facts}
+use Rattle.sc_meaning.specs.sound.SoundDefinitions.{children_of, groups_at, decided_log, Ahead}
+use Rattle.sc_law_entries.specs.logs.LogDefinitions.{Rows, Descends}
+use Rattle.sc_law_entries.proofs.LogsProofs.LogLemmas.{group_found}
+use Rattle.sc_law_groups.proofs.WholeProofs.WholeLemmas.{fresh_children}
+use Rattle.sc_live_steps.proofs.FollowingProofs.FollowingLemmas.{least_in}
+use Rattle.sc_live_journals.proofs.RowsProofs.RowLemmas.{born_facts}
 
 -- a group begins with a first member of a roster, and is not gone
 record IsBegun (base : Base) : Type 0 where

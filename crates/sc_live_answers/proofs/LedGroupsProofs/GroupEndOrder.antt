@@ -6,9 +6,9 @@ use Rattle.std.proofs.lemmas.Option.{same_Some}
 use Rattle.sc_base.specs.Definitions.{Among, same_draw}
 use Rattle.sc_node_table.specs.Values.{Draw, Route}
 use Rattle.sc_base.proofs.Lemmas.{draw_is, same_name}
-use Rattle.sc_node_table.specs.Definitions.{ReplicaState}
-use Rattle.sc_live_journals.specs.charts.Definitions.{went_in, GoInTurn}
-use Rattle.sc_live_answers.specs.Definitions.{EndsOnce, TurnsGoOn}
+use Rattle.sc_node_table.specs.NodeDefinitions.{ReplicaState}
+use Rattle.sc_live_journals.specs.charts.ChartDefinitions.{went_in, GoInTurn}
+use Rattle.sc_live_answers.specs.AnswerDefinitions.{EndsOnce, TurnsGoOn}
 
 -- ---- how many of some names pass
 

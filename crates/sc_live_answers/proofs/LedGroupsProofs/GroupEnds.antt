@@ -4,24 +4,24 @@ use Rattle.std.proofs.lemmas.Bool.{cases_lt}
 use Rattle.sc_base.specs.Definitions.{Among, IsRoster, is_member}
 use Rattle.sc_node_table.specs.Values.{Ballot, Command, Base, Route, Mail, Accepted as AcceptedMail, Learn, Seat}
 use Rattle.sc_base.proofs.Lemmas.{same_name}
-use Rattle.sc_group_table.specs.machine.Definitions.{Group, group_of, state_after}
+use Rattle.sc_group_table.specs.machine.MachineDefinitions.{Group, group_of, state_after}
 use Rattle.sc_actor.specs.Definitions.{mails, numbered}
-use Rattle.sc_paxos_law.specs.Definitions.{Accepted, IsLawfulHistory}
+use Rattle.sc_paxos_law.specs.PaxosLawDefinitions.{Accepted, IsLawfulHistory}
 use Rattle.sc_scenario.specs.scenario.Definitions.{ValidScenariosAreBounded}
 use Rattle.sc_scenario.specs.declared.scenario.scenarios.Scenario.{Scenario}
-use Rattle.sc_node_table.specs.Definitions.{entered, NodeState, ReplicaState, next, mailed, accepted_row}
-use Rattle.sc_meaning.specs.sound.Definitions.{decided_log, Ahead, Player, route_of}
-use Rattle.sc_law_entries.specs.logs.Definitions.{Rows}
-use Rattle.sc_law_entries.specs.ring.Definitions.{Sources}
-use Rattle.sc_law_entries.specs.names.Definitions.{OtherNamesAreFree, TakenOrdersAreAllowed, TakenWishesAreAllowed, WishesAreAtPositions, owner_in}
-use Rattle.sc_law_groups.proofs.GroupProofs.Lemmas.{h_of, IsLearnt, Steps, rule, first}
-use Rattle.sc_law_groups.specs.whole.Definitions.{BeginsWell, section_op, OrdersAreAllowed, ValidScenariosBeginWell}
-use Rattle.sc_law_groups.proofs.WholeProofs.Lemmas.{orders_allowed}
-use Rattle.sc_live_steps.specs.following.Definitions.{members_at}
-use Rattle.sc_live_journals.specs.logs.Definitions.{logged_sets, IsGroupOf, HasReplica}
-use Rattle.sc_live_journals.proofs.LogsProofs.Lemmas.{ArePrefixes, said_in, IsAlong, entered_along, part, roster, prefixes, along, opens, flying}
-use Rattle.sc_live_journals.specs.groups.Definitions.{RestsBy}
-use Rattle.sc_live_answers.specs.Definitions.{over_at, GroupsBeginStanding, EndsAreLogged, ChildrenAreBegun, MembersMoveOneWay, state_at, ReplicasRunLogs}
+use Rattle.sc_node_table.specs.NodeDefinitions.{entered, NodeState, ReplicaState, next, mailed, accepted_row}
+use Rattle.sc_meaning.specs.sound.SoundDefinitions.{decided_log, Ahead, Player, route_of}
+use Rattle.sc_law_entries.specs.logs.LogDefinitions.{Rows}
+use Rattle.sc_law_entries.specs.ring.RingDefinitions.{Sources}
+use Rattle.sc_law_entries.specs.names.NameDefinitions.{OtherNamesAreFree, TakenOrdersAreAllowed, TakenWishesAreAllowed, WishesAreAtPositions, owner_in}
+use Rattle.sc_law_groups.proofs.GroupProofs.GroupLemmas.{h_of, IsLearnt, Steps, rule, first}
+use Rattle.sc_law_groups.specs.whole.WholeDefinitions.{BeginsWell, section_op, OrdersAreAllowed, ValidScenariosBeginWell}
+use Rattle.sc_law_groups.proofs.WholeProofs.WholeLemmas.{orders_allowed}
+use Rattle.sc_live_steps.specs.following.FollowingDefinitions.{members_at}
+use Rattle.sc_live_journals.specs.logs.LogDefinitions.{logged_sets, IsGroupOf, HasReplica}
+use Rattle.sc_live_journals.proofs.LogsProofs.GroupLogLemmas.{ArePrefixes, said_in, IsAlong, entered_along, part, roster, prefixes, along, opens, flying}
+use Rattle.sc_live_journals.specs.groups.GroupDefinitions.{RestsBy}
+use Rattle.sc_live_answers.specs.AnswerDefinitions.{over_at, GroupsBeginStanding, EndsAreLogged, ChildrenAreBegun, MembersMoveOneWay, state_at, ReplicasRunLogs}
 use Rattle.sc_live_answers.proofs.LedGroupsProofs.GroupBeginnings.{begun_first, begun_stands}
 use Rattle.sc_live_answers.proofs.ChildrenProofs.ChildBeginnings.{children_as_begun}
 use Rattle.sc_live_answers.proofs.LedGroupsProofs.GoneGroups.{later_gone}

@@ -5,22 +5,22 @@ use Rattle.std.proofs.lemmas.Bool.{cases_Bool, cond_both, cond-false}
 use Rattle.sc_base.specs.Definitions.{Among, Each, same_draw, is_member}
 use Rattle.sc_node_table.specs.Values.{Draw, Base, Route, Seat}
 use Rattle.sc_base.proofs.Lemmas.{draw_is, same_name}
-use Rattle.sc_words.proofs.PaxosProofs.Lemmas.{Each-append}
+use Rattle.sc_words.proofs.PaxosProofs.PaxosLemmas.{Each-append}
 use Rattle.sc_scenario.specs.scenario.Definitions.{ValidScenariosAreBounded}
 use Rattle.sc_scenario.specs.declared.scenario.scenarios.Asks.{Asks}
 use Rattle.sc_scenario.specs.declared.scenario.scenarios.Scenario.{Scenario}
-use Rattle.sc_node_table.specs.Definitions.{born_replicas, replica_of, born_replica, slots_ahead, numbers_from}
-use Rattle.sc_meaning.specs.sound.Definitions.{Player, node_seat, client_seat, client_seats, route_of, births, as_nodes}
-use Rattle.sc_law_entries.specs.logs.Definitions.{Rows}
-use Rattle.sc_law_entries.specs.ring.Definitions.{Sources}
-use Rattle.sc_law_entries.specs.names.Definitions.{OtherNamesAreFree, TakenOrdersAreAllowed, TakenWishesAreAllowed, WishesAreAtPositions, owner_in}
-use Rattle.sc_law_groups.specs.whole.Definitions.{BeginsWell, section_op, OrdersAreAllowed, ValidScenariosBeginWell}
-use Rattle.sc_law_groups.proofs.WholeProofs.Lemmas.{orders_allowed}
-use Rattle.sc_live_journals.specs.rows.Definitions.{replicas_of, replica_in, view_at, begun_course}
-use Rattle.sc_live_journals.specs.logs.Definitions.{logged_sets, IsGroupOf, SlotsHaveRosters}
-use Rattle.sc_live_journals.proofs.LogsProofs.Lemmas.{found, stay}
-use Rattle.sc_live_journals.specs.groups.Definitions.{BeginsSo, ScenariosBeginLed, ChildrenBeginLed, ScenariosBeginTaught, ChildrenBeginTaught}
-use Rattle.sc_live_answers.specs.Definitions.{over_at, GroupsBeginStanding, EndsAreLogged, GroupsBeginTaught, GroupsAreBornOrNot, GroupsBeginLed}
+use Rattle.sc_node_table.specs.NodeDefinitions.{born_replicas, replica_of, born_replica, slots_ahead, numbers_from}
+use Rattle.sc_meaning.specs.sound.SoundDefinitions.{Player, node_seat, client_seat, client_seats, route_of, births, as_nodes}
+use Rattle.sc_law_entries.specs.logs.LogDefinitions.{Rows}
+use Rattle.sc_law_entries.specs.ring.RingDefinitions.{Sources}
+use Rattle.sc_law_entries.specs.names.NameDefinitions.{OtherNamesAreFree, TakenOrdersAreAllowed, TakenWishesAreAllowed, WishesAreAtPositions, owner_in}
+use Rattle.sc_law_groups.specs.whole.WholeDefinitions.{BeginsWell, section_op, OrdersAreAllowed, ValidScenariosBeginWell}
+use Rattle.sc_law_groups.proofs.WholeProofs.WholeLemmas.{orders_allowed}
+use Rattle.sc_live_journals.specs.rows.RowDefinitions.{replicas_of, replica_in, view_at, begun_course}
+use Rattle.sc_live_journals.specs.logs.LogDefinitions.{logged_sets, IsGroupOf, SlotsHaveRosters}
+use Rattle.sc_live_journals.proofs.LogsProofs.GroupLogLemmas.{found, stay}
+use Rattle.sc_live_journals.specs.groups.GroupDefinitions.{BeginsSo, ScenariosBeginLed, ChildrenBeginLed, ScenariosBeginTaught, ChildrenBeginTaught}
+use Rattle.sc_live_answers.specs.AnswerDefinitions.{over_at, GroupsBeginStanding, EndsAreLogged, GroupsBeginTaught, GroupsAreBornOrNot, GroupsBeginLed}
 
 -- ---- no player has a replica of a group with another name at the births
 

@@ -6,20 +6,20 @@ use Rattle.std.proofs.lemmas.Option.{none-some}
 use Rattle.sc_base.specs.Definitions.{Among, Each, is_member}
 use Rattle.sc_node_table.specs.Values.{Draw, Base, OrderLine, Mail, Seat, Event, Deliver, Row}
 use Rattle.sc_actor.specs.Definitions.{System, row_of}
-use Rattle.sc_live_orderly.specs.Definitions.{is_born, rest, AreInTime}
-use Rattle.sc_live_orderly.proofs.Lemmas.{in_time_before, in_time_tidy, last_in_time, TakesFirst, takes_first, is_born-from}
+use Rattle.sc_live_orderly.specs.OrderlyDefinitions.{is_born, rest, AreInTime}
+use Rattle.sc_live_orderly.proofs.OrderlyLemmas.{in_time_before, in_time_tidy, last_in_time, TakesFirst, takes_first, is_born-from}
 use Rattle.sc_scenario.specs.declared.scenario.scenarios.Scenario.{Scenario}
-use Rattle.sc_node_table.specs.Definitions.{group_of_mail, ReplicaState, listed, next}
-use Rattle.sc_meaning.specs.sound.Definitions.{groups_at, Player, player_table, births, as_nodes}
-use Rattle.sc_live_steps.specs.following.Definitions.{Mark, marks_of, members_at, reached}
-use Rattle.sc_live_steps.specs.calm.Definitions.{players, Rows}
-use Rattle.sc_live_steps.specs.orders.Definitions.{bond_of, Bond}
-use Rattle.sc_live_journals.specs.rows.Definitions.{view_at, marks_at, next_in, IsSeat, with_event}
-use Rattle.sc_live_journals.specs.mail.Definitions.{SlotsAreLeft, IsLater, ReplicasLast}
-use Rattle.sc_live_journals.specs.logs.Definitions.{IsGroupOf, ViewsAreReplicas, SlotsHaveRosters, logged_sets}
-use Rattle.sc_live_answers.specs.Definitions.{state_at, ReplicasRunLogs, over_at, slot_leaders_at, AreBoundBy, IsGuided, IsNamedGuide, IsReached, IsReachedSo, NewestStay, IsQuietWhileYoung, IsSentThrough, IsSentStep, NextRowsAreSent, PrefixesAreFound, NoMailForStrangers, IsCalmJournal, IsPrefixOf, AreSent, ContinuesBy, IsNamedGroup, IsUnder, IsYoungAt, WellLedLeadAlone}
-use Rattle.sc_live_journals.specs.scenes.Definitions.{IsThere, IsNowhere, LeadsAlone}
-use Rattle.sc_live_journals.proofs.ScenesProofs.Lemmas.{calm_is}
+use Rattle.sc_node_table.specs.NodeDefinitions.{group_of_mail, ReplicaState, listed, next}
+use Rattle.sc_meaning.specs.sound.SoundDefinitions.{groups_at, Player, player_table, births, as_nodes}
+use Rattle.sc_live_steps.specs.following.FollowingDefinitions.{Mark, marks_of, members_at, reached}
+use Rattle.sc_live_steps.specs.calm.CalmDefinitions.{players, Rows}
+use Rattle.sc_live_steps.specs.orders.OrderDefinitions.{bond_of, Bond}
+use Rattle.sc_live_journals.specs.rows.RowDefinitions.{view_at, marks_at, next_in, IsSeat, with_event}
+use Rattle.sc_live_journals.specs.mail.MailDefinitions.{SlotsAreLeft, IsLater, ReplicasLast}
+use Rattle.sc_live_journals.specs.logs.LogDefinitions.{IsGroupOf, ViewsAreReplicas, SlotsHaveRosters, logged_sets}
+use Rattle.sc_live_answers.specs.AnswerDefinitions.{state_at, ReplicasRunLogs, over_at, slot_leaders_at, AreBoundBy, IsGuided, IsNamedGuide, IsReached, IsReachedSo, NewestStay, IsQuietWhileYoung, IsSentThrough, IsSentStep, NextRowsAreSent, PrefixesAreFound, NoMailForStrangers, IsCalmJournal, IsPrefixOf, AreSent, ContinuesBy, IsNamedGroup, IsUnder, IsYoungAt, WellLedLeadAlone}
+use Rattle.sc_live_journals.specs.scenes.SceneDefinitions.{IsThere, IsNowhere, LeadsAlone}
+use Rattle.sc_live_journals.proofs.ScenesProofs.SceneLemmas.{calm_is}
 use Rattle.sc_live_answers.proofs.OrdersProofs.OrderDeliveries.{there_or}
 use Rattle.sc_live_answers.proofs.ChildrenProofs.ChildrenUnderOrders.{unmarked}
 use Rattle.sc_live_answers.proofs.LedGroupsProofs.JournalGroups.{calm_group, calm_slots}

@@ -3,11 +3,11 @@ use Rattle.std.proofs.Common.{◌≡◌, ℕ, ◌+◌, ◌≤◌, true, false, t
 use Rattle.std.proofs.lemmas.Bool.{cases_eq, cases_lt}
 use Rattle.sc_node_table.specs.Values.{Ballot, Command, Noop, Call, Core, Route, Accepted}
 use Rattle.sc_base.specs.Definitions.{IsRoster, is_member}
-use Rattle.sc_node_table.specs.Definitions.{entered, executed_one, next_child, next_ready, ending, executed_ready, executed, is_act, pumped, ReplicaState, Place, Executed, childless, name_of, next, flying, mailed, at_slot}
-use Rattle.sc_law_walks.specs.Definitions.{IfThere}
-use Rattle.sc_law_walks.proofs.Lemmas.{entered_next, idle_ready, idle_pump}
-use Rattle.sc_live_steps.specs.following.Definitions.{Course, Progress, Sets, members_at, IsLed, IsNext, IsOn, IsOff, LeadsPast, AreNext, LeadsBy, IsLeadOf, DecidesNext, ActsAlone}
-use Rattle.sc_live_steps.proofs.FollowingProofs.Lemmas.{ReadyAlone, alone_on, on_leads, on_next, entries_lead, ready_of, ready_leads, slot_out, pumps_offer, vote_row, entered_core}
+use Rattle.sc_node_table.specs.NodeDefinitions.{entered, executed_one, next_child, next_ready, ending, executed_ready, executed, is_act, pumped, ReplicaState, Place, Executed, childless, name_of, next, flying, mailed, at_slot}
+use Rattle.sc_law_walks.specs.WalkDefinitions.{IfThere}
+use Rattle.sc_law_walks.proofs.WalkLemmas.{entered_next, idle_ready, idle_pump}
+use Rattle.sc_live_steps.specs.following.FollowingDefinitions.{Course, Progress, Sets, members_at, IsLed, IsNext, IsOn, IsOff, LeadsPast, AreNext, LeadsBy, IsLeadOf, DecidesNext, ActsAlone}
+use Rattle.sc_live_steps.proofs.FollowingProofs.FollowingLemmas.{ReadyAlone, alone_on, on_leads, on_next, entries_lead, ready_of, ready_leads, slot_out, pumps_offer, vote_row, entered_core}
 use Rattle.sc_live_answers.proofs.BallotsProofs.PrepareSlots.{MovesLast}
 use Rattle.sc_live_answers.proofs.ReplicasProofs.Cores.{called_core}
 

@@ -1,13 +1,13 @@
 -- That a group's log is one in a lawful journal of a valid scenario, where it has leaders.
 use Rattle.sc_live_answers.proofs.LedGroupsProofs.GroupEnds.{groups_begin_standing as groups_begin_standing_by, ends_are_logged as ends_are_logged_by, replicas_run_logs as replicas_run_logs_by, children_are_begun as children_are_begun_by, members_move_one_way}
 use Rattle.sc_scenario.proofs.ScenarioProofs.Lemmas.{valid_scenarios_are_bounded}
-use Rattle.sc_law_groups.proofs.WholeProofs.Lemmas.{valid_scenarios_begin_well}
-use Rattle.sc_law_entries.proofs.NamesProofs.Lemmas.{orders_are_allowed_allowed, orders_are_allowed_wishes, orders_are_allowed_positions, names_have_one_owner_others}
-use Rattle.sc_live_answers.specs.Definitions.{GroupsBeginStanding, EndsAreLogged, ChildrenAreBegun, LedLogsAreOne, ReplicasRunLogs, GroupsAreBornOrNot, GroupsBeginLed, GroupsAreLed, LedRowsGoOn, GroupsBeginTaught, GroupsAreTaught}
+use Rattle.sc_law_groups.proofs.WholeProofs.WholeLemmas.{valid_scenarios_begin_well}
+use Rattle.sc_law_entries.proofs.NamesProofs.NameLemmas.{orders_are_allowed_allowed, orders_are_allowed_wishes, orders_are_allowed_positions, names_have_one_owner_others}
+use Rattle.sc_live_answers.specs.AnswerDefinitions.{GroupsBeginStanding, EndsAreLogged, ChildrenAreBegun, LedLogsAreOne, ReplicasRunLogs, GroupsAreBornOrNot, GroupsBeginLed, GroupsAreLed, LedRowsGoOn, GroupsBeginTaught, GroupsAreTaught}
 use Rattle.sc_live_answers.proofs.LedGroupsProofs.SingleLogs.{led_logs_are_one as led_logs_are_one_by}
-use Rattle.sc_live_journals.proofs.LogsProofs.Lemmas.{slots_have_rosters, replicas_are_logged, commands_come_next, states_are_logged, members_are_nodes, views_are_replicas}
+use Rattle.sc_live_journals.proofs.LogsProofs.GroupLogLemmas.{slots_have_rosters, replicas_are_logged, commands_come_next, states_are_logged, members_are_nodes, views_are_replicas}
 use Rattle.sc_live_answers.proofs.LedGroupsProofs.GroupsAtBirth.{born_or_not, groups_begin_led as groups_begin_led_by, groups_begin_taught as groups_begin_taught_by}
-use Rattle.sc_live_journals.proofs.GroupsProofs.Lemmas.{scenarios_begin_led, children_begin_led, scenarios_are_well_born, scenarios_are_kept_born, replicas_are_kept, events_go_on, scenarios_begin_taught, children_begin_taught, groups_are_taught_through}
+use Rattle.sc_live_journals.proofs.GroupsProofs.GroupLemmas.{scenarios_begin_led, children_begin_led, scenarios_are_well_born, scenarios_are_kept_born, replicas_are_kept, events_go_on, scenarios_begin_taught, children_begin_taught, groups_are_taught_through}
 use Rattle.sc_live_answers.proofs.LedMailProofs.LeadersInTime.{groups_are_led as groups_are_led_by, led_rows_go_on as led_rows_go_on_by}
 use Rattle.sc_live_answers.proofs.LedGroupsProofs.EntryLearners.{groups_are_taught as groups_are_taught_by}
 

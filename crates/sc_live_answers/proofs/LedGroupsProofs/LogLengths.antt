@@ -7,13 +7,13 @@ use Rattle.sc_base.specs.Definitions.{Among, same_draw}
 use Rattle.sc_node_table.specs.Values.{Ballot, Draw, Command, Base, OrderLine, Mail, MailBody, Request, Accept, Event, Deliver, Row}
 use Rattle.sc_base.proofs.Lemmas.{draw_is}
 use Rattle.sc_actor.specs.Definitions.{mails, numbered}
-use Rattle.sc_paxos_law.specs.Definitions.{IsLog, Step, Accepted}
+use Rattle.sc_paxos_law.specs.PaxosLawDefinitions.{IsLog, Step, Accepted}
 use Rattle.sc_paxos_law.proofs.Lemmas.{Among-left, Among-either, shared_member}
-use Rattle.sc_words.proofs.PaxosProofs.Lemmas.{Each-among}
-use Rattle.sc_law_groups.proofs.GroupProofs.Lemmas.{number_among}
-use Rattle.sc_meaning.specs.sound.Definitions.{is_accepted, accepts_of, accepts_got, accepts_at, accepts_from, accepts, rule_of, as_nodes}
-use Rattle.sc_law_entries.specs.logs.Definitions.{Rows}
-use Rattle.sc_live_answers.specs.Definitions.{AsksBelow, AreAskedBelow}
+use Rattle.sc_words.proofs.PaxosProofs.PaxosLemmas.{Each-among}
+use Rattle.sc_law_groups.proofs.GroupProofs.GroupLemmas.{number_among}
+use Rattle.sc_meaning.specs.sound.SoundDefinitions.{is_accepted, accepts_of, accepts_got, accepts_at, accepts_from, accepts, rule_of, as_nodes}
+use Rattle.sc_law_entries.specs.logs.LogDefinitions.{Rows}
+use Rattle.sc_live_answers.specs.AnswerDefinitions.{AsksBelow, AreAskedBelow}
 
 -- a mail that asks for what was accepted
 record IsAskedBy (group : Draw) (slot : ℕ) (sent : List Mail) : Type 0 where

@@ -3,8 +3,8 @@ use Rattle.std.proofs.Common.{◌≡◌, ℕ, Bool, true, not, eqb, zero, suc, t
 use Rattle.sc_node_table.specs.Values.{Command, Core}
 use Rattle.sc_base.specs.Definitions.{is_member}
 use Rattle.std.proofs.lemmas.Bool.{cond_both}
-use Rattle.sc_live_steps.proofs.FollowingProofs.Lemmas.{with_kept}
-use Rattle.sc_group_table.specs.machine.Definitions.{Group, applied, staying, state_after}
+use Rattle.sc_live_steps.proofs.FollowingProofs.FollowingLemmas.{with_kept}
+use Rattle.sc_group_table.specs.machine.MachineDefinitions.{Group, applied, staying, state_after}
 use Rattle.sc_live_answers.proofs.VotesProofs.EntriesInFlight.{or_map, united_kept}
 use Rattle.sc_live_answers.proofs.LedGroupsProofs.MemberWalks.{member_step, next_states}
 use Rattle.sc_group_table.proofs.MachineProofs.Lemmas.{second_or as or_skip}

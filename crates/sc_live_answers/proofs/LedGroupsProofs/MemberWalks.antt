@@ -2,8 +2,8 @@
 use Rattle.std.proofs.Common.{ℕ, zero, suc, List, [], ◌∷◌, take, Option, Some}
 use Rattle.sc_base.specs.Definitions.{united, with_member, without_member}
 use Rattle.sc_node_table.specs.Values.{Command, Core, Route}
-use Rattle.sc_group_table.specs.machine.Definitions.{Group, applied, left_members, state_after}
-use Rattle.sc_law_walks.proofs.Lemmas.{MachineWalk, machine_step}
+use Rattle.sc_group_table.specs.machine.MachineDefinitions.{Group, applied, left_members, state_after}
+use Rattle.sc_law_walks.proofs.WalkLemmas.{MachineWalk, machine_step}
 
 -- That each part keeps it: a node that joins or leaves, also to another group; those that stay in a split; those of another group that come, or one of its nodes; and where the group goes.
 pub record MemberParts (core : Core) (P : List ℕ → Option Route → Type 0) : Type 0 where

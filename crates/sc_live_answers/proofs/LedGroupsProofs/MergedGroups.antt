@@ -3,8 +3,8 @@ use Rattle.std.specs.Prelude.{◌⊎◌}
 use Rattle.std.proofs.Common.{◌≡◌, Some, inl, inr, ap}
 use Rattle.std.proofs.lemmas.Option.{same_Some}
 use Rattle.sc_node_table.specs.Values.{Draw, Offer, Command, Finish, Promised, Effect, Route, Merged}
-use Rattle.sc_group_table.specs.machine.Definitions.{Group, applied}
-use Rattle.sc_law_walks.proofs.Lemmas.{MachineWalk, machine_step}
+use Rattle.sc_group_table.specs.machine.MachineDefinitions.{Group, applied}
+use Rattle.sc_law_walks.proofs.WalkLemmas.{MachineWalk, machine_step}
 
 -- a command merges a group that has promised its transaction into another
 pub record IsMergedBy (group : Group) (command : Command) (into : Route) : Type 0 where

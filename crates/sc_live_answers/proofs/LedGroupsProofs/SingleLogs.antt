@@ -4,14 +4,14 @@ use Rattle.sc_node_table.specs.Values.{Ballot, Draw, Command, Base, OrderLine, M
 use Rattle.sc_base.specs.Definitions.{is_member}
 use Rattle.sc_actor.specs.Definitions.{value, row_of}
 use Rattle.sc_scenario.specs.declared.scenario.scenarios.Scenario.{Scenario}
-use Rattle.sc_node_table.specs.Definitions.{entered, NodeState, replica_of, group_of_mail, ReplicaState, next, last_slot, mailed}
-use Rattle.sc_meaning.specs.sound.Definitions.{Ahead, Player, births, player_table}
-use Rattle.sc_law_entries.specs.logs.Definitions.{Rows}
-use Rattle.sc_live_steps.specs.following.Definitions.{Sets, members_at, SlotLeaders, DecidesNext}
-use Rattle.sc_live_journals.specs.rows.Definitions.{view_at, IsSeat, made_children, AreAsBegun}
-use Rattle.sc_live_journals.specs.logs.Definitions.{logged_sets, IsGroupOf, HasReplica, SlotsHaveRosters, ViewsAreReplicas, ReplicasAreLogged, CommandsComeNext, StatesAreLogged, MembersAreNodes}
-use Rattle.sc_live_journals.specs.groups.Definitions.{Ends, IsOfLog, RestsBy, IsLogsState, IsLogOf, IsRowOf, Delivers}
-use Rattle.sc_live_answers.specs.Definitions.{over_at, GroupsBeginStanding, EndsAreLogged, ChildrenAreBegun, MembersMoveOneWay, HasLeaders, LedLogsAreOne}
+use Rattle.sc_node_table.specs.NodeDefinitions.{entered, NodeState, replica_of, group_of_mail, ReplicaState, next, last_slot, mailed}
+use Rattle.sc_meaning.specs.sound.SoundDefinitions.{Ahead, Player, births, player_table}
+use Rattle.sc_law_entries.specs.logs.LogDefinitions.{Rows}
+use Rattle.sc_live_steps.specs.following.FollowingDefinitions.{Sets, members_at, SlotLeaders, DecidesNext}
+use Rattle.sc_live_journals.specs.rows.RowDefinitions.{view_at, IsSeat, made_children, AreAsBegun}
+use Rattle.sc_live_journals.specs.logs.LogDefinitions.{logged_sets, IsGroupOf, HasReplica, SlotsHaveRosters, ViewsAreReplicas, ReplicasAreLogged, CommandsComeNext, StatesAreLogged, MembersAreNodes}
+use Rattle.sc_live_journals.specs.groups.GroupDefinitions.{Ends, IsOfLog, RestsBy, IsLogsState, IsLogOf, IsRowOf, Delivers}
+use Rattle.sc_live_answers.specs.AnswerDefinitions.{over_at, GroupsBeginStanding, EndsAreLogged, ChildrenAreBegun, MembersMoveOneWay, HasLeaders, LedLogsAreOne}
 
 -- a prefix of a prefix is one of the whole
 pub whole_split : (journal prefix rest : Rows) → journal ≡ prefix ++ rest → (rows more : Rows) → prefix ≡ rows ++ more → journal ≡ rows ++ (more ++ rest)

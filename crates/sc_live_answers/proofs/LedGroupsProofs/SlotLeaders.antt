@@ -3,14 +3,14 @@ use Rattle.std.proofs.Common.{◌≡◌, ℕ, zero, suc, ◌+◌, ◌<◌, ◌�
 use Rattle.std.proofs.lemmas.Bool.{cond_both, cond-true, cond-false}
 use Rattle.sc_base.specs.Definitions.{Among, Each, is_member, least_of}
 use Rattle.sc_node_table.specs.Values.{Ballot, Draw, OrderLine, Mail, Seat, Row}
-use Rattle.sc_words.specs.paxos.Definitions.{below}
-use Rattle.sc_words.proofs.PaxosProofs.Lemmas.{Each-among}
-use Rattle.sc_meaning.specs.sound.Definitions.{Player}
-use Rattle.sc_law_entries.specs.logs.Definitions.{Rows}
-use Rattle.sc_live_steps.specs.following.Definitions.{Mark, Asks, Votes, Teaches, Installs, Prepares, Promises, Course, Sets, answered, welcome, reported_of, taught_from, IsOffer}
-use Rattle.sc_live_steps.proofs.FollowingProofs.Lemmas.{among-either}
-use Rattle.sc_live_journals.specs.rows.Definitions.{view_at}
-use Rattle.sc_live_answers.specs.Definitions.{has_executed, first_to, slot_leader_of}
+use Rattle.sc_words.specs.paxos.PaxosDefinitions.{below}
+use Rattle.sc_words.proofs.PaxosProofs.PaxosLemmas.{Each-among}
+use Rattle.sc_meaning.specs.sound.SoundDefinitions.{Player}
+use Rattle.sc_law_entries.specs.logs.LogDefinitions.{Rows}
+use Rattle.sc_live_steps.specs.following.FollowingDefinitions.{Mark, Asks, Votes, Teaches, Installs, Prepares, Promises, Course, Sets, answered, welcome, reported_of, taught_from, IsOffer}
+use Rattle.sc_live_steps.proofs.FollowingProofs.FollowingLemmas.{among-either}
+use Rattle.sc_live_journals.specs.rows.RowDefinitions.{view_at}
+use Rattle.sc_live_answers.specs.AnswerDefinitions.{has_executed, first_to, slot_leader_of}
 pub use Rattle.sc_live_orderly.proofs.RowsInTime.{snoc_parts as last_parts}
 
 -- ---- lists

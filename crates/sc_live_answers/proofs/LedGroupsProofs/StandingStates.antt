@@ -7,20 +7,20 @@ use Rattle.sc_base.specs.Definitions.{Among, Each, is_member}
 use Rattle.sc_node_table.specs.Values.{Ballot, Draw, Command, Base, OrderLine, Mail, Install, Seat, Event, Deliver, Row}
 use Rattle.sc_actor.specs.Definitions.{mails, row_of}
 use Rattle.sc_actor.proofs.Lemmas.{mails-snoc}
-use Rattle.sc_live_orderly.specs.Definitions.{IsCalmEvent, AreInTime}
-use Rattle.sc_words.proofs.PaxosProofs.Lemmas.{Each-among, Each-append}
-use Rattle.sc_group_table.specs.machine.Definitions.{group_of, state_after}
+use Rattle.sc_live_orderly.specs.OrderlyDefinitions.{IsCalmEvent, AreInTime}
+use Rattle.sc_words.proofs.PaxosProofs.PaxosLemmas.{Each-among, Each-append}
+use Rattle.sc_group_table.specs.machine.MachineDefinitions.{group_of, state_after}
 use Rattle.sc_scenario.specs.declared.scenario.scenarios.Scenario.{Scenario}
-use Rattle.sc_meaning.specs.sound.Definitions.{decided_log, Player, births, as_nodes, player_table}
-use Rattle.sc_live_steps.specs.calm.Definitions.{players, Rows}
-use Rattle.sc_law_groups.proofs.GroupProofs.Lemmas.{number_among}
-use Rattle.sc_live_steps.specs.following.Definitions.{Mark, Teaches, Installs, Prepares, mark_of, Course, Sets, members_at, SlotLeaders, reported_of, taught_from, welcome, marks_for}
-use Rattle.sc_live_steps.proofs.FollowingProofs.Lemmas.{among-either, same_mark}
-use Rattle.sc_live_journals.specs.rows.Definitions.{with_event, IsSeat, led_course}
-use Rattle.sc_live_journals.specs.logs.Definitions.{logged_sets, IsGroupOf}
-use Rattle.sc_live_journals.specs.groups.Definitions.{IsGroupRow, RowPasses, RowRests, RowTakes, RowMakes, RowLeads, RowElects, Ends, IsRowOf, Delivers, IsSentSo}
-use Rattle.sc_live_journals.proofs.GroupsProofs.Lemmas.{each_among, among_marks}
-use Rattle.sc_live_answers.specs.Definitions.{over_at, slot_leaders_at, AreFew, LedRowsGoOn, StatesStand}
+use Rattle.sc_meaning.specs.sound.SoundDefinitions.{decided_log, Player, births, as_nodes, player_table}
+use Rattle.sc_live_steps.specs.calm.CalmDefinitions.{players, Rows}
+use Rattle.sc_law_groups.proofs.GroupProofs.GroupLemmas.{number_among}
+use Rattle.sc_live_steps.specs.following.FollowingDefinitions.{Mark, Teaches, Installs, Prepares, mark_of, Course, Sets, members_at, SlotLeaders, reported_of, taught_from, welcome, marks_for}
+use Rattle.sc_live_steps.proofs.FollowingProofs.FollowingLemmas.{among-either, same_mark}
+use Rattle.sc_live_journals.specs.rows.RowDefinitions.{with_event, IsSeat, led_course}
+use Rattle.sc_live_journals.specs.logs.LogDefinitions.{logged_sets, IsGroupOf}
+use Rattle.sc_live_journals.specs.groups.GroupDefinitions.{IsGroupRow, RowPasses, RowRests, RowTakes, RowMakes, RowLeads, RowElects, Ends, IsRowOf, Delivers, IsSentSo}
+use Rattle.sc_live_journals.proofs.GroupsProofs.GroupLemmas.{each_among, among_marks}
+use Rattle.sc_live_answers.specs.AnswerDefinitions.{over_at, slot_leaders_at, AreFew, LedRowsGoOn, StatesStand}
 use Rattle.sc_live_answers.proofs.LedGroupsProofs.SlotLeaders.{answers_none, offers_none, tells_within, none_installs}
 use Rattle.sc_live_answers.proofs.LedGroupsProofs.EndingCommands.{next_ends}
 

@@ -3,14 +3,14 @@ use Rattle.std.proofs.Common.{◌≡◌, ℕ, ◌+◌, ◌-◌, ◌≤◌, ◌&&
 use Rattle.std.proofs.lemmas.Bool.{cases_lt, cond_both, and_parts, eqb-true}
 use Rattle.sc_base.specs.Definitions.{Among, Each, IsRoster}
 use Rattle.sc_node_table.specs.Values.{Ballot, Command, Base, Counted, Chosen, NotYet}
-use Rattle.sc_words.specs.paxos.Definitions.{LeaderState, counted}
-use Rattle.sc_paxos_law.specs.Definitions.{needed, IsLog, IsLawfulHistory, Accepted}
+use Rattle.sc_words.specs.paxos.PaxosDefinitions.{LeaderState, counted}
+use Rattle.sc_paxos_law.specs.PaxosLawDefinitions.{needed, IsLog, IsLawfulHistory, Accepted}
 use Rattle.sc_paxos_law.proofs.Lemmas.{earlier}
-use Rattle.sc_node_table.specs.Definitions.{has_room, executed, ReplicaState, Executed, childless, next, set_at, slots_ahead, with_slot, leads, readied, vote_tallied, voted, accepted_row}
-use Rattle.sc_meaning.specs.sound.Definitions.{Ahead}
-use Rattle.sc_law_groups.proofs.GroupProofs.Lemmas.{IsLearnt, Steps, rule, first, IsFlying}
-use Rattle.sc_live_steps.specs.following.Definitions.{AreAt}
-use Rattle.sc_live_journals.proofs.LogsProofs.Lemmas.{at, IsAlong, by_log, counted_learnt, each_with_slot}
+use Rattle.sc_node_table.specs.NodeDefinitions.{has_room, executed, ReplicaState, Executed, childless, next, set_at, slots_ahead, with_slot, leads, readied, vote_tallied, voted, accepted_row}
+use Rattle.sc_meaning.specs.sound.SoundDefinitions.{Ahead}
+use Rattle.sc_law_groups.proofs.GroupProofs.GroupLemmas.{IsLearnt, Steps, rule, first, IsFlying}
+use Rattle.sc_live_steps.specs.following.FollowingDefinitions.{AreAt}
+use Rattle.sc_live_journals.proofs.LogsProofs.GroupLogLemmas.{at, IsAlong, by_log, counted_learnt, each_with_slot}
 
 -- another slot from here on is past the next one
 pub past_next : (slot here after : ℕ) → after ≡ here + 1 → here ≤ slot → (slot ≡ here → ⊥) → after ≤ slot

@@ -3,14 +3,14 @@ use Rattle.std.proofs.Common.{◌≡◌, ℕ, ◌+◌, ◌<◌, ◌≤◌, true,
 use Rattle.std.proofs.lemmas.Bool.{cases_eq}
 use Rattle.sc_base.specs.Definitions.{Among, Each, IsRoster}
 use Rattle.sc_node_table.specs.Values.{Ballot, Command, Base}
-use Rattle.sc_words.proofs.PaxosProofs.Lemmas.{Each-among}
-use Rattle.sc_paxos_law.specs.Definitions.{IsLog, IsLawfulHistory, Accepted}
-use Rattle.sc_node_table.specs.Definitions.{executed_one, next_child, next_ready, ending, executed_ready, executed, pumped, ReplicaState, Place, Executed, childless, next, slots_ahead, accepted_row}
-use Rattle.sc_meaning.specs.sound.Definitions.{Ahead}
-use Rattle.sc_law_groups.proofs.GroupProofs.Lemmas.{IsLearnt, Steps, rule, first, IsFlying}
-use Rattle.sc_live_steps.specs.following.Definitions.{AreAt}
-use Rattle.sc_live_journals.proofs.LogsProofs.Lemmas.{at, IsAlong, next_ready_is, one_past}
-use Rattle.sc_live_journals.specs.groups.Definitions.{Ends}
+use Rattle.sc_words.proofs.PaxosProofs.PaxosLemmas.{Each-among}
+use Rattle.sc_paxos_law.specs.PaxosLawDefinitions.{IsLog, IsLawfulHistory, Accepted}
+use Rattle.sc_node_table.specs.NodeDefinitions.{executed_one, next_child, next_ready, ending, executed_ready, executed, pumped, ReplicaState, Place, Executed, childless, next, slots_ahead, accepted_row}
+use Rattle.sc_meaning.specs.sound.SoundDefinitions.{Ahead}
+use Rattle.sc_law_groups.proofs.GroupProofs.GroupLemmas.{IsLearnt, Steps, rule, first, IsFlying}
+use Rattle.sc_live_steps.specs.following.FollowingDefinitions.{AreAt}
+use Rattle.sc_live_journals.proofs.LogsProofs.GroupLogLemmas.{at, IsAlong, next_ready_is, one_past}
+use Rattle.sc_live_journals.specs.groups.GroupDefinitions.{Ends}
 use Rattle.sc_live_answers.proofs.ReplicasProofs.Pumps.{pump_next}
 use Rattle.sc_live_answers.proofs.LedGroupsProofs.VoteEntries.{past_next, vote_executes}
 

@@ -4,19 +4,19 @@ use Rattle.std.proofs.lemmas.Bool.{cases_Bool}
 use Rattle.sc_node_table.specs.Values.{Draw, Command, Base, Mail, MailBody, Request, Answer, Prepare, Promise, Accept, Accepted, Nack, Learn, Ask, Install, TxPrepare, TxVote, TxOutcome, TxElsewhere, TxWatch, TxWatched, Told as ToldMail, Node, Seat, Deliver}
 use Rattle.sc_base.specs.Definitions.{is_member}
 use Rattle.sc_actor.specs.Definitions.{mails, are_apart, row_of}
-use Rattle.sc_words.specs.paxos.Definitions.{below}
-use Rattle.sc_node_table.specs.Definitions.{entered, NodeState, replica_of, group_of_mail, may_come, ReplicaState, Place, next, mailed}
-use Rattle.sc_law_walks.proofs.Lemmas.{entered_next}
-use Rattle.sc_meaning.specs.sound.Definitions.{Player, player_table}
-use Rattle.sc_live_steps.specs.calm.Definitions.{players, MayCount, MayTake, StaysIn, IsCalmMailAt, Takes as TakesAt, Learns as LearnsAt, Makes as MakesAt, Misses as MissesAt, MayPump, Follows, group_owes, after_mail, MayMiss, Ways, StandsOnce, Rows, led_elsewhere}
-use Rattle.sc_live_steps.proofs.CalmStepsProofs.Lemmas.{unbound_new}
-use Rattle.sc_live_steps.specs.following.Definitions.{IsOther, Mark, Asks, Votes, Teaches, Installs, Prepares, Promises, mark_of, Course, Progress, Sets, members_at, IsHeir, SlotLeaders, AreHeeded, Stays}
-use Rattle.sc_live_steps.proofs.FollowingProofs.Lemmas.{same_mark, states, heirs_elect}
-use Rattle.sc_live_journals.specs.rows.Definitions.{promise_in, progress_at, marks_at, mark_in, taken_mark, IsScene, TakesMail, HoldsReplica, with_event, IsReplicasRow}
+use Rattle.sc_words.specs.paxos.PaxosDefinitions.{below}
+use Rattle.sc_node_table.specs.NodeDefinitions.{entered, NodeState, replica_of, group_of_mail, may_come, ReplicaState, Place, next, mailed}
+use Rattle.sc_law_walks.proofs.WalkLemmas.{entered_next}
+use Rattle.sc_meaning.specs.sound.SoundDefinitions.{Player, player_table}
+use Rattle.sc_live_steps.specs.calm.CalmDefinitions.{players, MayCount, MayTake, StaysIn, IsCalmMailAt, Takes as TakesAt, Learns as LearnsAt, Makes as MakesAt, Misses as MissesAt, MayPump, Follows, group_owes, after_mail, MayMiss, Ways, StandsOnce, Rows, led_elsewhere}
+use Rattle.sc_live_steps.proofs.CalmStepsProofs.CalmStepLemmas.{unbound_new}
+use Rattle.sc_live_steps.specs.following.FollowingDefinitions.{IsOther, Mark, Asks, Votes, Teaches, Installs, Prepares, Promises, mark_of, Course, Progress, Sets, members_at, IsHeir, SlotLeaders, AreHeeded, Stays}
+use Rattle.sc_live_steps.proofs.FollowingProofs.FollowingLemmas.{same_mark, states, heirs_elect}
+use Rattle.sc_live_journals.specs.rows.RowDefinitions.{promise_in, progress_at, marks_at, mark_in, taken_mark, IsScene, TakesMail, HoldsReplica, with_event, IsReplicasRow}
 use Rattle.sc_live_journals.proofs.RowsProofs.RowMarks.{HasMark}
-use Rattle.sc_live_journals.proofs.RowsProofs.Lemmas.{names_stay, apart_off as led_off, goes_on, row_in, head, all_fit, known, within, no_lead, fit, found_name, rows_replicas, Plays, Found, found_well, replay_well}
-use Rattle.sc_live_journals.specs.groups.Definitions.{Ends, hint_in, hints_at, IsOfLog, IsLogsState, AreWellBorn}
-use Rattle.sc_live_answers.specs.Definitions.{MeetsMail, IsPlain, NeedsBesides, IsNoRequest, NeedsAt}
+use Rattle.sc_live_journals.proofs.RowsProofs.RowLemmas.{names_stay, apart_off as led_off, goes_on, row_in, head, all_fit, known, within, no_lead, fit, found_name, rows_replicas, Plays, Found, found_well, replay_well}
+use Rattle.sc_live_journals.specs.groups.GroupDefinitions.{Ends, hint_in, hints_at, IsOfLog, IsLogsState, AreWellBorn}
+use Rattle.sc_live_answers.specs.AnswerDefinitions.{MeetsMail, IsPlain, NeedsBesides, IsNoRequest, NeedsAt}
 use Rattle.sc_live_answers.proofs.LedMailProofs.LeadersElsewhere.{IsApart, owes_same, owes_most, stands_here, elsewhere_apart, apart_off, none_of}
 use Rattle.sc_live_answers.proofs.LedMailProofs.FollowerRows.{next_with, still_named, IsLeft, left_by, nines_at, stays_behind}
 use Rattle.std.proofs.lemmas.Option.{same_Some}

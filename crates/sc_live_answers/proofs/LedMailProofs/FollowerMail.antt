@@ -9,23 +9,23 @@ use Rattle.sc_base.specs.Definitions.{Drawer, next_name, same_draw}
 use Rattle.sc_live_answers.proofs.LedMailProofs.WellLedLeaders.{one}
 use Rattle.sc_live_answers.proofs.BallotsProofs.NewestReplicas.{newest_after, newest_before, stays_at, unled}
 use Rattle.sc_live_answers.proofs.ErrandsProofs.QuestionSenders.{offers_own, watches_own}
-use Rattle.sc_live_answers.specs.Definitions.{BesidesAreFound, IsHere, IsUnsettled, IsGuided}
-use Rattle.sc_live_journals.specs.groups.Definitions.{RowElects, RowLeads, RowMakes, RowPasses, RowRests, RowTakes}
-use Rattle.sc_live_steps.specs.calm.Definitions.{players, Rows}
-use Rattle.sc_live_journals.specs.mail.Definitions.{IsPosted}
-use Rattle.sc_live_steps.proofs.OrderStepsProofs.Lemmas.{tables-rest}
-use Rattle.sc_live_steps.specs.orders.Definitions.{works}
-use Rattle.sc_live_journals.proofs.RowsProofs.Lemmas.{asides_still, same_some, rows_replicas, view_was}
-use Rattle.sc_live_journals.specs.rows.Definitions.{mark_in, taken_mark, view_at, IsReplicasRow, with_event}
-use Rattle.sc_live_journals.specs.scenes.Definitions.{IsOrdered, BesideFinds, IsThere, IsBeside, Led, Unled, LeadsAlone, NewestAreBound}
+use Rattle.sc_live_answers.specs.AnswerDefinitions.{BesidesAreFound, IsHere, IsUnsettled, IsGuided}
+use Rattle.sc_live_journals.specs.groups.GroupDefinitions.{RowElects, RowLeads, RowMakes, RowPasses, RowRests, RowTakes}
+use Rattle.sc_live_steps.specs.calm.CalmDefinitions.{players, Rows}
+use Rattle.sc_live_journals.specs.mail.MailDefinitions.{IsPosted}
+use Rattle.sc_live_steps.proofs.OrderStepsProofs.OrderStepLemmas.{tables-rest}
+use Rattle.sc_live_steps.specs.orders.OrderDefinitions.{works}
+use Rattle.sc_live_journals.proofs.RowsProofs.RowLemmas.{asides_still, same_some, rows_replicas, view_was}
+use Rattle.sc_live_journals.specs.rows.RowDefinitions.{mark_in, taken_mark, view_at, IsReplicasRow, with_event}
+use Rattle.sc_live_journals.specs.scenes.SceneDefinitions.{IsOrdered, BesideFinds, IsThere, IsBeside, Led, Unled, LeadsAlone, NewestAreBound}
 use Rattle.sc_words.specs.declared.commands.orders.OrderRefusal.TheVariants.{NotLeader}
-use Rattle.sc_live_steps.specs.following.Definitions.{Asks, Installs, Mark, Prepares, Promises, Teaches, Votes, mark_of, named_mark}
-use Rattle.sc_law_walks.specs.Definitions.{GoesOn}
-use Rattle.sc_group_table.specs.machine.Definitions.{refusal_of}
-use Rattle.sc_node_table.specs.Definitions.{NodeState, group_of_order, first_of_both, named_refused, ordered_command, ordered_row, untaken, Place, ReplicaState, first_set, may_offer, settled, mailed}
-use Rattle.sc_live_orderly.specs.Definitions.{AreInTime}
-use Rattle.sc_words.specs.paxos.Definitions.{below}
-use Rattle.sc_meaning.specs.sound.Definitions.{Player}
+use Rattle.sc_live_steps.specs.following.FollowingDefinitions.{Asks, Installs, Mark, Prepares, Promises, Teaches, Votes, mark_of, named_mark}
+use Rattle.sc_law_walks.specs.WalkDefinitions.{GoesOn}
+use Rattle.sc_group_table.specs.machine.MachineDefinitions.{refusal_of}
+use Rattle.sc_node_table.specs.NodeDefinitions.{NodeState, group_of_order, first_of_both, named_refused, ordered_command, ordered_row, untaken, Place, ReplicaState, first_set, may_offer, settled, mailed}
+use Rattle.sc_live_orderly.specs.OrderlyDefinitions.{AreInTime}
+use Rattle.sc_words.specs.paxos.PaxosDefinitions.{below}
+use Rattle.sc_meaning.specs.sound.SoundDefinitions.{Player}
 
 -- the mark of a mail
 named_is : (name group : Draw) (mark other : Mark) → named_mark name group mark ≡ Some other → mark ≡ other

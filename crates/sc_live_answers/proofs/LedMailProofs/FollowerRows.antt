@@ -3,14 +3,14 @@ use Rattle.std.proofs.Common.{◌≡◌, ℕ, ◌+◌, ◌≤◌, Bool, true, fa
 use Rattle.sc_base.specs.Definitions.{same_draw, IsRoster}
 use Rattle.sc_node_table.specs.Values.{Draw, Command, Base, OrderLine, Seat, Event}
 use Rattle.sc_actor.specs.Definitions.{mails}
-use Rattle.sc_node_table.specs.Definitions.{entered, ReplicaState, Place, next}
-use Rattle.sc_meaning.specs.sound.Definitions.{Player}
-use Rattle.sc_live_steps.specs.calm.Definitions.{AreNines, StaysBehind, Rows}
-use Rattle.sc_live_steps.specs.following.Definitions.{Mark, named_mark, next_by, Course, Sets, SlotLeaders, AreAt, Stays}
-use Rattle.sc_live_steps.proofs.FollowingProofs.Lemmas.{looked_same, over, over_off, place2, looks}
-use Rattle.sc_live_journals.specs.rows.Definitions.{view_at, taken_mark, with_event, IsReplicasRow, IsBornOr}
-use Rattle.sc_live_journals.proofs.RowsProofs.Lemmas.{same_some}
-use Rattle.sc_live_journals.specs.groups.Definitions.{IsGroupRow, RowPasses, RowRests, RowTakes, RowMakes, RowLeads, RowElects, Ends}
+use Rattle.sc_node_table.specs.NodeDefinitions.{entered, ReplicaState, Place, next}
+use Rattle.sc_meaning.specs.sound.SoundDefinitions.{Player}
+use Rattle.sc_live_steps.specs.calm.CalmDefinitions.{AreNines, StaysBehind, Rows}
+use Rattle.sc_live_steps.specs.following.FollowingDefinitions.{Mark, named_mark, next_by, Course, Sets, SlotLeaders, AreAt, Stays}
+use Rattle.sc_live_steps.proofs.FollowingProofs.FollowingLemmas.{looked_same, over, over_off, place2, looks}
+use Rattle.sc_live_journals.specs.rows.RowDefinitions.{view_at, taken_mark, with_event, IsReplicasRow, IsBornOr}
+use Rattle.sc_live_journals.proofs.RowsProofs.RowLemmas.{same_some}
+use Rattle.sc_live_journals.specs.groups.GroupDefinitions.{IsGroupRow, RowPasses, RowRests, RowTakes, RowMakes, RowLeads, RowElects, Ends}
 use Rattle.sc_live_answers.proofs.LedMailProofs.LeadersElsewhere.{IsApart}
 
 -- the slot that is next after a mark, if there is one

@@ -3,13 +3,13 @@ use Rattle.std.proofs.Common.{◌≡◌, ℕ, zero, suc, ◌+◌, ◌-◌, ◌<�
 use Rattle.std.proofs.lemmas.Bool.{cases_Bool, cases_eq, cases_lt}
 use Rattle.sc_base.specs.Definitions.{Each, is_member}
 use Rattle.sc_node_table.specs.Values.{Ballot}
-use Rattle.sc_node_table.specs.Definitions.{listed}
-use Rattle.sc_words.specs.paxos.Definitions.{IsAtLeast}
-use Rattle.sc_words.proofs.PaxosProofs.Lemmas.{at_least_itself}
-use Rattle.sc_live_steps.specs.following.Definitions.{Mark, promise_by, reached, pledged, AreFit, Course, Progress, Sets, members_at, IsOpen, IsFollowing, SlotLeaders, hint_by, hinted, IsOther, IsHeeding, StaysSo, GoesBy, IsRow, IsIdle, IsCount, Takes, taught_from, Leads, Elects}
-use Rattle.sc_live_steps.proofs.FollowingProofs.Lemmas.{hinted-append, counts_of, reached-append, pledged-append, reached-least, pledged-most, rises, offers-reached}
+use Rattle.sc_node_table.specs.NodeDefinitions.{listed}
+use Rattle.sc_words.specs.paxos.PaxosDefinitions.{IsAtLeast}
+use Rattle.sc_words.proofs.PaxosProofs.PaxosLemmas.{at_least_itself}
+use Rattle.sc_live_steps.specs.following.FollowingDefinitions.{Mark, promise_by, reached, pledged, AreFit, Course, Progress, Sets, members_at, IsOpen, IsFollowing, SlotLeaders, hint_by, hinted, IsOther, IsHeeding, StaysSo, GoesBy, IsRow, IsIdle, IsCount, Takes, taught_from, Leads, Elects}
+use Rattle.sc_live_steps.proofs.FollowingProofs.FollowingLemmas.{hinted-append, counts_of, reached-append, pledged-append, reached-least, pledged-most, rises, offers-reached}
 use Rattle.sc_live_answers.proofs.BallotsProofs.PrepareSlots.{MovesLast}
-use Rattle.sc_live_answers.specs.Definitions.{IsPassed, IsFated, EndsGone, AreFated}
+use Rattle.sc_live_answers.specs.AnswerDefinitions.{IsPassed, IsFated, EndsGone, AreFated}
 use Rattle.sc_live_answers.proofs.BallotsProofs.HintedMarks.{round_most, Silent, none_silent, counts_silent, open_or, member_open, told_nothing, told_all, offered_nothing}
 use Rattle.sc_live_answers.proofs.BallotsProofs.PromisedBallots.{others_rise}
 

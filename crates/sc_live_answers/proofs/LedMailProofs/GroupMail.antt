@@ -6,24 +6,24 @@ use Rattle.sc_base.specs.Definitions.{Each, is_member}
 use Rattle.sc_node_table.specs.Values.{Ballot, Draw, Command, Base, OrderLine, Mail, MailBody, Promise, Nack, Ask, Seat, Event, Row, Report}
 use Rattle.sc_actor.proofs.Lemmas.{mails-snoc}
 use Rattle.sc_actor.specs.Definitions.{mails, row_of}
-use Rattle.sc_live_orderly.specs.Definitions.{IsCalmEvent, AreInTime}
-use Rattle.sc_live_orderly.proofs.Lemmas.{last_in_time}
-use Rattle.sc_node_table.specs.Definitions.{ReplicaState, listed, born_replica, slots_ahead}
-use Rattle.sc_words.specs.paxos.Definitions.{reports_from, IsAtLeast}
-use Rattle.sc_words.proofs.PaxosProofs.Lemmas.{at_least_below, at_least_from_below, Each-append, Each-weaker}
+use Rattle.sc_live_orderly.specs.OrderlyDefinitions.{IsCalmEvent, AreInTime}
+use Rattle.sc_live_orderly.proofs.OrderlyLemmas.{last_in_time}
+use Rattle.sc_node_table.specs.NodeDefinitions.{ReplicaState, listed, born_replica, slots_ahead}
+use Rattle.sc_words.specs.paxos.PaxosDefinitions.{reports_from, IsAtLeast}
+use Rattle.sc_words.proofs.PaxosProofs.PaxosLemmas.{at_least_below, at_least_from_below, Each-append, Each-weaker}
 use Rattle.sc_scenario.specs.scenario.Definitions.{ValidScenariosAreBounded}
 use Rattle.sc_scenario.specs.declared.scenario.scenarios.Scenario.{Scenario}
-use Rattle.sc_meaning.specs.sound.Definitions.{Player, player_table, births, as_nodes}
-use Rattle.sc_live_steps.specs.calm.Definitions.{players, Rows}
-use Rattle.sc_live_steps.specs.following.Definitions.{from_slot_of, Prepares, mark_of, Course, Progress, Sets, SlotLeaders}
-use Rattle.sc_live_steps.proofs.FollowingProofs.Lemmas.{same_mark}
-use Rattle.sc_live_journals.specs.rows.Definitions.{view_at, marks_at, next_in, promise_in, progress_at, led_course, elected_course, IsSeat, with_event}
-use Rattle.sc_live_journals.proofs.RowsProofs.Lemmas.{rows_are}
-use Rattle.sc_live_journals.specs.logs.Definitions.{logged_sets, IsGroupOf}
-use Rattle.sc_live_journals.specs.groups.Definitions.{IsGroupRow, RowPasses, RowRests, RowTakes, RowMakes, RowLeads, RowElects, IsLedStep, Ends, IsWellLed, HasOneLog, IsSentSo, EventsGoOn, ScenariosAreWellBorn}
-use Rattle.sc_live_journals.proofs.GroupsProofs.Lemmas.{dated_in, taken_dated, rows_dated}
-use Rattle.sc_live_answers.specs.Definitions.{over_at, LedLogsAreOne, slot_leaders_at, AreFew, GroupsAreLed, GroupsBeginLed, AreAbove, HasBelow, IsAskedOn, IsAtHome, IsSentOn, IsQuietWhileYoung, AreBornAsBegun, GroupsAreBornAsBegun, IsSentThrough, IsSentStep, GroupsBeginSent, NextRowsAreSent, SentReplicas, SaysWell, AreSaidWell}
-use Rattle.sc_live_journals.specs.mail.Definitions.{JournalsKeepIdle}
+use Rattle.sc_meaning.specs.sound.SoundDefinitions.{Player, player_table, births, as_nodes}
+use Rattle.sc_live_steps.specs.calm.CalmDefinitions.{players, Rows}
+use Rattle.sc_live_steps.specs.following.FollowingDefinitions.{from_slot_of, Prepares, mark_of, Course, Progress, Sets, SlotLeaders}
+use Rattle.sc_live_steps.proofs.FollowingProofs.FollowingLemmas.{same_mark}
+use Rattle.sc_live_journals.specs.rows.RowDefinitions.{view_at, marks_at, next_in, promise_in, progress_at, led_course, elected_course, IsSeat, with_event}
+use Rattle.sc_live_journals.proofs.RowsProofs.RowLemmas.{rows_are}
+use Rattle.sc_live_journals.specs.logs.LogDefinitions.{logged_sets, IsGroupOf}
+use Rattle.sc_live_journals.specs.groups.GroupDefinitions.{IsGroupRow, RowPasses, RowRests, RowTakes, RowMakes, RowLeads, RowElects, IsLedStep, Ends, IsWellLed, HasOneLog, IsSentSo, EventsGoOn, ScenariosAreWellBorn}
+use Rattle.sc_live_journals.proofs.GroupsProofs.GroupLemmas.{dated_in, taken_dated, rows_dated}
+use Rattle.sc_live_answers.specs.AnswerDefinitions.{over_at, LedLogsAreOne, slot_leaders_at, AreFew, GroupsAreLed, GroupsBeginLed, AreAbove, HasBelow, IsAskedOn, IsAtHome, IsSentOn, IsQuietWhileYoung, AreBornAsBegun, GroupsAreBornAsBegun, IsSentThrough, IsSentStep, GroupsBeginSent, NextRowsAreSent, SentReplicas, SaysWell, AreSaidWell}
+use Rattle.sc_live_journals.specs.mail.MailDefinitions.{JournalsKeepIdle}
 use Rattle.sc_live_answers.proofs.BallotsProofs.PrepareSlotRows.{asked_then}
 use Rattle.sc_live_answers.proofs.LedMailProofs.GroupMailFacts.{next_mail_so}
 use Rattle.sc_live_answers.proofs.LedMailProofs.MailReceivers.{homes_are_kept}

@@ -7,26 +7,26 @@ use Rattle.sc_base.specs.Definitions.{Each, most_nodes, same_draw, is_member}
 use Rattle.sc_node_table.specs.Values.{Draw, Ballot, Base, OrderLine, Mail, MailBody, Prepare, Promise, Accept, Accepted, Nack, Learn, Install, Node, Client, Seat, Event, Deliver, Row}
 use Rattle.sc_base.proofs.Lemmas.{draw_is}
 use Rattle.sc_actor.specs.Definitions.{mails, numbered, value, row_of}
-use Rattle.sc_client_table.specs.table.Definitions.{Client as ClientState}
-use Rattle.sc_live_orderly.specs.Definitions.{AreInTime}
-use Rattle.sc_live_orderly.proofs.Lemmas.{in_time_before}
-use Rattle.sc_words.specs.paxos.Definitions.{below, IsAtLeast}
-use Rattle.sc_words.proofs.PaxosProofs.Lemmas.{Each-among, Each-append, find_found}
+use Rattle.sc_client_table.specs.table.TableDefinitions.{Client as ClientState}
+use Rattle.sc_live_orderly.specs.OrderlyDefinitions.{AreInTime}
+use Rattle.sc_live_orderly.proofs.OrderlyLemmas.{in_time_before}
+use Rattle.sc_words.specs.paxos.PaxosDefinitions.{below, IsAtLeast}
+use Rattle.sc_words.proofs.PaxosProofs.PaxosLemmas.{Each-among, Each-append, find_found}
 use Rattle.sc_scenario.specs.scenario.Definitions.{IsBounded, IsBoundedClient}
 use Rattle.sc_scenario.specs.declared.scenario.scenarios.Asks.{Asks as Requests}
 use Rattle.sc_scenario.specs.declared.scenario.scenarios.Scenario.{Scenario}
-use Rattle.sc_node_table.specs.Definitions.{may_come, is_node, ReplicaState, listed, numbers_from}
-use Rattle.sc_law_groups.proofs.GroupProofs.Lemmas.{number_among}
-use Rattle.sc_law_walks.specs.Definitions.{GoesOn}
-use Rattle.sc_meaning.specs.sound.Definitions.{Player, player_table, node_seat, client_seat, client_seats, route_of, births, as_nodes}
-use Rattle.sc_live_steps.specs.calm.Definitions.{players, Rows}
-use Rattle.sc_live_steps.specs.following.Definitions.{Mark, Asks, Votes, Teaches, Installs, Prepares, Promises, mark_of, Course, Progress, Sets, IsFit, AreFit, SlotLeaders, IsRow, marks_for}
-use Rattle.sc_live_journals.specs.rows.Definitions.{view_at, marks_at, mark_in, next_in, progress_at, IsSeat, with_event}
-use Rattle.sc_live_journals.proofs.RowsProofs.Lemmas.{rows_are, view_was}
-use Rattle.sc_live_journals.specs.groups.Definitions.{Ends, IsWellLed, IsLogOf, Delivers, IsSentSo}
-use Rattle.sc_live_journals.proofs.MailProofs.Lemmas.{mail_comes, clients_stay}
+use Rattle.sc_node_table.specs.NodeDefinitions.{may_come, is_node, ReplicaState, listed, numbers_from}
+use Rattle.sc_law_groups.proofs.GroupProofs.GroupLemmas.{number_among}
+use Rattle.sc_law_walks.specs.WalkDefinitions.{GoesOn}
+use Rattle.sc_meaning.specs.sound.SoundDefinitions.{Player, player_table, node_seat, client_seat, client_seats, route_of, births, as_nodes}
+use Rattle.sc_live_steps.specs.calm.CalmDefinitions.{players, Rows}
+use Rattle.sc_live_steps.specs.following.FollowingDefinitions.{Mark, Asks, Votes, Teaches, Installs, Prepares, Promises, mark_of, Course, Progress, Sets, IsFit, AreFit, SlotLeaders, IsRow, marks_for}
+use Rattle.sc_live_journals.specs.rows.RowDefinitions.{view_at, marks_at, mark_in, next_in, progress_at, IsSeat, with_event}
+use Rattle.sc_live_journals.proofs.RowsProofs.RowLemmas.{rows_are, view_was}
+use Rattle.sc_live_journals.specs.groups.GroupDefinitions.{Ends, IsWellLed, IsLogOf, Delivers, IsSentSo}
+use Rattle.sc_live_journals.proofs.MailProofs.MailLemmas.{mail_comes, clients_stay}
 use Rattle.sc_live_answers.proofs.LedGroupsProofs.SlotLeaders.{last_parts}
-use Rattle.sc_live_answers.specs.Definitions.{FindsOne, IsStranger, IsSentOn, IsQuietWhileYoung, NextMailIsSentSo, SaysWell}
+use Rattle.sc_live_answers.specs.AnswerDefinitions.{FindsOne, IsStranger, IsSentOn, IsQuietWhileYoung, NextMailIsSentSo, SaysWell}
 
 -- ---- the number of a client is none of a node's
 

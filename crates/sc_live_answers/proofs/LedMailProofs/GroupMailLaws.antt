@@ -2,10 +2,10 @@
 use Rattle.sc_live_answers.proofs.ReplicasProofs.ReplicasAtBirth.{groups_born}
 use Rattle.sc_scenario.proofs.ScenarioProofs.Lemmas.{valid_scenarios_are_bounded}
 use Rattle.sc_live_answers.proofs.LedGroupsProofs.LedGroupLaws.{groups_are_born_or_not, groups_are_led, led_logs_are_one, groups_begin_led}
-use Rattle.sc_live_answers.specs.Definitions.{GroupsAreBornAsBegun, GroupsBeginSent, NextRowsAreSent}
+use Rattle.sc_live_answers.specs.AnswerDefinitions.{GroupsAreBornAsBegun, GroupsBeginSent, NextRowsAreSent}
 use Rattle.sc_live_answers.proofs.LedMailProofs.GroupMail.{begin_sent, rows_sent}
-use Rattle.sc_live_journals.proofs.MailProofs.Lemmas.{journals_keep_idle}
-use Rattle.sc_live_journals.proofs.GroupsProofs.Lemmas.{scenarios_are_well_born, events_go_on}
+use Rattle.sc_live_journals.proofs.MailProofs.MailLemmas.{journals_keep_idle}
+use Rattle.sc_live_journals.proofs.GroupsProofs.GroupLemmas.{scenarios_are_well_born, events_go_on}
 
 -- The replicas of a group at the births are as the group begins.
 pub groups_are_born_as_begun : GroupsAreBornAsBegun

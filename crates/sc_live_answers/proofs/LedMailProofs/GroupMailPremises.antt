@@ -2,18 +2,18 @@
 use Rattle.std.proofs.Common.{◌≡◌, true, List}
 use Rattle.sc_node_table.specs.Values.{Mail, Seat, Deliver}
 use Rattle.sc_actor.specs.Definitions.{mails, row_of}
-use Rattle.sc_live_orderly.proofs.Lemmas.{in_time_before}
-use Rattle.sc_words.proofs.PaxosProofs.Lemmas.{Each-among}
+use Rattle.sc_live_orderly.proofs.OrderlyLemmas.{in_time_before}
+use Rattle.sc_words.proofs.PaxosProofs.PaxosLemmas.{Each-among}
 use Rattle.sc_scenario.specs.scenario.Definitions.{ValidScenariosAreBounded}
-use Rattle.sc_node_table.specs.Definitions.{may_come}
-use Rattle.sc_meaning.specs.sound.Definitions.{Player, births, as_nodes, player_table}
-use Rattle.sc_live_steps.specs.calm.Definitions.{players}
-use Rattle.sc_live_journals.proofs.MailProofs.Lemmas.{mail_comes}
-use Rattle.sc_live_journals.specs.logs.Definitions.{logged_sets}
-use Rattle.sc_live_journals.proofs.GroupsProofs.Lemmas.{scenarios_well_born}
-use Rattle.sc_live_answers.specs.Definitions.{over_at, GroupMailFinds}
-use Rattle.sc_law_groups.proofs.GroupProofs.Lemmas.{number_among}
-use Rattle.sc_law_groups.proofs.WholeProofs.Lemmas.{all_apart}
+use Rattle.sc_node_table.specs.NodeDefinitions.{may_come}
+use Rattle.sc_meaning.specs.sound.SoundDefinitions.{Player, births, as_nodes, player_table}
+use Rattle.sc_live_steps.specs.calm.CalmDefinitions.{players}
+use Rattle.sc_live_journals.proofs.MailProofs.MailLemmas.{mail_comes}
+use Rattle.sc_live_journals.specs.logs.LogDefinitions.{logged_sets}
+use Rattle.sc_live_journals.proofs.GroupsProofs.GroupLemmas.{scenarios_well_born}
+use Rattle.sc_live_answers.specs.AnswerDefinitions.{over_at, GroupMailFinds}
+use Rattle.sc_law_groups.proofs.GroupProofs.GroupLemmas.{number_among}
+use Rattle.sc_law_groups.proofs.WholeProofs.WholeLemmas.{all_apart}
 use Rattle.sc_live_answers.proofs.LedMailProofs.DeliveredMail.{finds}
 
 module _ (bounded : ValidScenariosAreBounded) where

@@ -2,11 +2,11 @@
 use Rattle.std.proofs.Common.{◌≡◌, ◌∷◌, ◌++◌, ◌∙◌, ap, append_assoc}
 use Rattle.sc_node_table.specs.Values.{OrderLine, Mail, Deliver, Row}
 use Rattle.sc_actor.specs.Definitions.{row_of}
-use Rattle.sc_live_orderly.specs.Definitions.{AreInTime}
-use Rattle.sc_meaning.specs.sound.Definitions.{births, as_nodes, player_table}
-use Rattle.sc_live_steps.specs.calm.Definitions.{players}
-use Rattle.sc_live_journals.specs.rows.Definitions.{with_event}
-use Rattle.sc_live_answers.specs.Definitions.{LedLogsAreOne, slot_leaders_at, GroupsAreLed, LedRowsGoOn, GroupMailFinds, JournalMailFinds, StatesStand}
+use Rattle.sc_live_orderly.specs.OrderlyDefinitions.{AreInTime}
+use Rattle.sc_meaning.specs.sound.SoundDefinitions.{births, as_nodes, player_table}
+use Rattle.sc_live_steps.specs.calm.CalmDefinitions.{players}
+use Rattle.sc_live_journals.specs.rows.RowDefinitions.{with_event}
+use Rattle.sc_live_answers.specs.AnswerDefinitions.{LedLogsAreOne, slot_leaders_at, GroupsAreLed, LedRowsGoOn, GroupMailFinds, JournalMailFinds, StatesStand}
 use Rattle.sc_live_answers.proofs.ErrandsProofs.StrayMail.{calm_here}
 
 pub journal_mail_finds : GroupsAreLed → LedLogsAreOne → LedRowsGoOn → GroupMailFinds → StatesStand → JournalMailFinds

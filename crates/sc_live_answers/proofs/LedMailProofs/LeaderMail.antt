@@ -4,21 +4,21 @@ use Rattle.sc_node_table.specs.Values.{Seat, Deliver, Ballot, Draw, Op, Base, Ma
 use Rattle.sc_base.specs.Definitions.{Each}
 use Rattle.sc_live_answers.proofs.LedMailProofs.FollowerMail.{view_here}
 use Rattle.sc_live_answers.proofs.LedMailProofs.WellLedLeaders.{alone, gives, unbound}
-use Rattle.sc_live_answers.specs.Definitions.{IsHere, IsUnsettled, IsGuided, LeadersAreFound, StagesLeaveOneWork}
-use Rattle.sc_live_journals.specs.groups.Definitions.{Delivers}
-use Rattle.sc_live_steps.specs.calm.Definitions.{Rows}
-use Rattle.sc_live_steps.proofs.OrderStepsProofs.Lemmas.{cases-draw}
-use Rattle.sc_live_steps.specs.orders.Definitions.{works, Answers, Ends, First, Here, IsNone, Lone, Next, Records, Scene, Turn, Work, free, is_watch, Closes, ClosesBoth, Filed, IsUnderWay, Leg, Mailed, Ordered, Recorded, Replied, SentOn, Stage, Still, Weighs, closing, heard, parties_of, IsUnbound, Asks as AsksStage}
-use Rattle.sc_live_journals.proofs.RowsProofs.Lemmas.{all_fit, goes_on, known, no_lead}
-use Rattle.sc_live_journals.specs.rows.Definitions.{progress_at, IsScene, TakesMail, with_event}
-use Rattle.sc_live_journals.proofs.ScenesProofs.Lemmas.{tell}
-use Rattle.sc_live_journals.specs.scenes.Definitions.{FindsFlight, LeaderFinds, scene_at, LeadsAlone}
-use Rattle.sc_live_steps.proofs.FollowingProofs.Lemmas.{same_mark}
-use Rattle.sc_live_steps.specs.following.Definitions.{Asks, Installs, IsFit, Mark, Prepares, Teaches, mark_of, next_by, IsLeadOf}
-use Rattle.sc_law_walks.specs.Definitions.{GoesOn}
-use Rattle.sc_node_table.specs.Definitions.{NodeState, group_of_mail, ReplicaState, listed}
-use Rattle.sc_words.specs.paxos.Definitions.{below}
-use Rattle.sc_meaning.specs.sound.Definitions.{Player}
+use Rattle.sc_live_answers.specs.AnswerDefinitions.{IsHere, IsUnsettled, IsGuided, LeadersAreFound, StagesLeaveOneWork}
+use Rattle.sc_live_journals.specs.groups.GroupDefinitions.{Delivers}
+use Rattle.sc_live_steps.specs.calm.CalmDefinitions.{Rows}
+use Rattle.sc_live_steps.proofs.OrderStepsProofs.OrderStepLemmas.{cases-draw}
+use Rattle.sc_live_steps.specs.orders.OrderDefinitions.{works, Answers, Ends, First, Here, IsNone, Lone, Next, Records, Scene, Turn, Work, free, is_watch, Closes, ClosesBoth, Filed, IsUnderWay, Leg, Mailed, Ordered, Recorded, Replied, SentOn, Stage, Still, Weighs, closing, heard, parties_of, IsUnbound, Asks as AsksStage}
+use Rattle.sc_live_journals.proofs.RowsProofs.RowLemmas.{all_fit, goes_on, known, no_lead}
+use Rattle.sc_live_journals.specs.rows.RowDefinitions.{progress_at, IsScene, TakesMail, with_event}
+use Rattle.sc_live_journals.proofs.ScenesProofs.SceneLemmas.{tell}
+use Rattle.sc_live_journals.specs.scenes.SceneDefinitions.{FindsFlight, LeaderFinds, scene_at, LeadsAlone}
+use Rattle.sc_live_steps.proofs.FollowingProofs.FollowingLemmas.{same_mark}
+use Rattle.sc_live_steps.specs.following.FollowingDefinitions.{Asks, Installs, IsFit, Mark, Prepares, Teaches, mark_of, next_by, IsLeadOf}
+use Rattle.sc_law_walks.specs.WalkDefinitions.{GoesOn}
+use Rattle.sc_node_table.specs.NodeDefinitions.{NodeState, group_of_mail, ReplicaState, listed}
+use Rattle.sc_words.specs.paxos.PaxosDefinitions.{below}
+use Rattle.sc_meaning.specs.sound.SoundDefinitions.{Player}
 use Rattle.std.proofs.lemmas.Option.{same_Some}
 
 -- ---- the work

@@ -6,15 +6,15 @@ use Rattle.std.proofs.lemmas.Bool.{cases_Bool, and_parts, not-true}
 use Rattle.sc_base.specs.Definitions.{Among}
 use Rattle.sc_node_table.specs.Values.{Draw, Base, Route, Node, Client, Seat, Go}
 use Rattle.sc_actor.specs.Definitions.{value, are_apart}
-use Rattle.sc_live_orderly.proofs.Lemmas.{seat_found}
-use Rattle.sc_node_table.specs.Definitions.{replica_of, ReplicaState, next}
-use Rattle.sc_meaning.specs.sound.Definitions.{Player, player_table}
-use Rattle.sc_live_steps.specs.calm.Definitions.{players, group_owes, idle_owes, Rows, is_leading, leads, led_elsewhere}
-use Rattle.sc_live_steps.specs.following.Definitions.{Course, Progress, Sets, SlotLeaders}
-use Rattle.sc_live_steps.proofs.FollowingProofs.Lemmas.{reached-least}
-use Rattle.sc_live_journals.specs.rows.Definitions.{view_at, next_in, progress_at, marks_at, IsSeat}
-use Rattle.sc_live_journals.proofs.RowsProofs.Lemmas.{view_was}
-use Rattle.sc_live_journals.specs.groups.Definitions.{Ends, IsWellLed, HasOneLog}
+use Rattle.sc_live_orderly.proofs.OrderlyLemmas.{seat_found}
+use Rattle.sc_node_table.specs.NodeDefinitions.{replica_of, ReplicaState, next}
+use Rattle.sc_meaning.specs.sound.SoundDefinitions.{Player, player_table}
+use Rattle.sc_live_steps.specs.calm.CalmDefinitions.{players, group_owes, idle_owes, Rows, is_leading, leads, led_elsewhere}
+use Rattle.sc_live_steps.specs.following.FollowingDefinitions.{Course, Progress, Sets, SlotLeaders}
+use Rattle.sc_live_steps.proofs.FollowingProofs.FollowingLemmas.{reached-least}
+use Rattle.sc_live_journals.specs.rows.RowDefinitions.{view_at, next_in, progress_at, marks_at, IsSeat}
+use Rattle.sc_live_journals.proofs.RowsProofs.RowLemmas.{view_was}
+use Rattle.sc_live_journals.specs.groups.GroupDefinitions.{Ends, IsWellLed, HasOneLog}
 pub use Rattle.sc_live_steps.proofs.FollowingProofs.LeaderTables.{none_there as none_of}
 
 -- one of some passes a test

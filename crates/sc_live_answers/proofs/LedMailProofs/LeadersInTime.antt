@@ -6,21 +6,21 @@ use Rattle.sc_base.specs.Definitions.{Among, Each}
 use Rattle.sc_node_table.specs.Values.{Draw, Base, OrderLine, Mail, Install, Seat, Event, Row}
 use Rattle.sc_actor.specs.Definitions.{mails, row_of}
 use Rattle.sc_actor.proofs.Lemmas.{mails-append, mails-snoc}
-use Rattle.sc_live_orderly.specs.Definitions.{IsCalmEvent, AreInTime}
-use Rattle.sc_words.proofs.PaxosProofs.Lemmas.{Each-among, Each-append}
+use Rattle.sc_live_orderly.specs.OrderlyDefinitions.{IsCalmEvent, AreInTime}
+use Rattle.sc_words.proofs.PaxosProofs.PaxosLemmas.{Each-among, Each-append}
 use Rattle.sc_scenario.specs.declared.scenario.scenarios.Scenario.{Scenario}
-use Rattle.sc_node_table.specs.Definitions.{ReplicaState, next, last_slot}
-use Rattle.sc_meaning.specs.sound.Definitions.{Player, player_table, births, as_nodes}
-use Rattle.sc_live_steps.specs.calm.Definitions.{players}
-use Rattle.sc_law_entries.specs.logs.Definitions.{Rows}
-use Rattle.sc_law_groups.proofs.GroupProofs.Lemmas.{number_among}
-use Rattle.sc_live_steps.specs.following.Definitions.{Mark, Installs, Prepares, mark_of, Course, Sets, members_at, SlotLeaders, marks_for}
-use Rattle.sc_live_steps.proofs.FollowingProofs.Lemmas.{least_in, among-either, reached-least, same_mark}
-use Rattle.sc_live_journals.specs.rows.Definitions.{next_in, view_at, marks_at, progress_at, led_course, IsSeat, with_event}
-use Rattle.sc_live_journals.specs.logs.Definitions.{logged_sets, IsGroupOf, SlotsHaveRosters}
-use Rattle.sc_live_journals.specs.groups.Definitions.{ReplicasAreKept, ScenariosAreKeptBorn, IsGroupRow, RowPasses, RowRests, RowTakes, RowMakes, RowLeads, RowElects, IsLedStep, Ends, IsWellLed, IsLedOn, CountsAsMember, IsStateFrom, IsRowOf, Delivers, HasOneLog, IsSentSo, ScenariosAreWellBorn, EventsGoOn}
-use Rattle.sc_live_journals.proofs.GroupsProofs.Lemmas.{each_among, among_marks}
-use Rattle.sc_live_answers.specs.Definitions.{over_at, HasLeaders, LedLogsAreOne, has_executed, first_to, slot_leaders_at, AreFew, GroupsBeginLed, GroupsAreLed, LedRowsGoOn}
+use Rattle.sc_node_table.specs.NodeDefinitions.{ReplicaState, next, last_slot}
+use Rattle.sc_meaning.specs.sound.SoundDefinitions.{Player, player_table, births, as_nodes}
+use Rattle.sc_live_steps.specs.calm.CalmDefinitions.{players}
+use Rattle.sc_law_entries.specs.logs.LogDefinitions.{Rows}
+use Rattle.sc_law_groups.proofs.GroupProofs.GroupLemmas.{number_among}
+use Rattle.sc_live_steps.specs.following.FollowingDefinitions.{Mark, Installs, Prepares, mark_of, Course, Sets, members_at, SlotLeaders, marks_for}
+use Rattle.sc_live_steps.proofs.FollowingProofs.FollowingLemmas.{least_in, among-either, reached-least, same_mark}
+use Rattle.sc_live_journals.specs.rows.RowDefinitions.{next_in, view_at, marks_at, progress_at, led_course, IsSeat, with_event}
+use Rattle.sc_live_journals.specs.logs.LogDefinitions.{logged_sets, IsGroupOf, SlotsHaveRosters}
+use Rattle.sc_live_journals.specs.groups.GroupDefinitions.{ReplicasAreKept, ScenariosAreKeptBorn, IsGroupRow, RowPasses, RowRests, RowTakes, RowMakes, RowLeads, RowElects, IsLedStep, Ends, IsWellLed, IsLedOn, CountsAsMember, IsStateFrom, IsRowOf, Delivers, HasOneLog, IsSentSo, ScenariosAreWellBorn, EventsGoOn}
+use Rattle.sc_live_journals.proofs.GroupsProofs.GroupLemmas.{each_among, among_marks}
+use Rattle.sc_live_answers.specs.AnswerDefinitions.{over_at, HasLeaders, LedLogsAreOne, has_executed, first_to, slot_leaders_at, AreFew, GroupsBeginLed, GroupsAreLed, LedRowsGoOn}
 use Rattle.sc_live_answers.proofs.LedGroupsProofs.SlotLeaders.{last_parts, first_hit, none_hit, slot_leader_member, slot_leader_first, answers_none, offers_none, tells_within}
 use Rattle.sc_live_answers.proofs.LedGroupsProofs.SingleLogs.{whole_split}
 

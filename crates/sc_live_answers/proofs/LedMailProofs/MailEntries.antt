@@ -5,14 +5,14 @@ use Rattle.std.proofs.lemmas.Bool.{cond_both, eqb-true, eq-eqb, and_parts}
 use Rattle.sc_node_table.specs.Values.{Ballot, Command, Call, Base, Effect, Route, OrderResult, AnswerBody, Mail, MailBody, Request, Answer, Prepare, Promise, Accept, Accepted, Nack, Learn, Ask, Install, TxPrepare, TxVote, TxOutcome, TxElsewhere, TxWatch, TxWatched, Told, Counted, Chosen, NotYet}
 use Rattle.sc_mail.specs.declared.bodies.AnswerBody.TheVariants as Answers
 use Rattle.sc_base.specs.Definitions.{is_member, least_of}
-use Rattle.sc_group_table.specs.machine.Definitions.{child_by, Group, state_after, applied}
-use Rattle.sc_words.specs.paxos.Definitions.{LeaderState, without_flight_at, counted, AcceptorState}
-use Rattle.sc_node_table.specs.Definitions.{elected, ended, stopped, entered, answer_of, answered_or_put_back, order_result, effect_reported, announced, learnt_to, welcomed, slot_lost, landed, left_gone, left, is_among, looked_for, looked, executed_one, child_at, next_child, has_room, next_ready, ending, executed_ready, executed, install_to, asked_to_promise, welcomed_all, sent, pumped, put_back, ReplicaState, Place, Executed, childless, name_of, next, members, flying, set_at, last_slot, forgotten, learn_row, mailed, with_slot, without_slot, before_of, spoken, leads, readied, vote_tallied, voted, accepted_row}
+use Rattle.sc_group_table.specs.machine.MachineDefinitions.{child_by, Group, state_after, applied}
+use Rattle.sc_words.specs.paxos.PaxosDefinitions.{LeaderState, without_flight_at, counted, AcceptorState}
+use Rattle.sc_node_table.specs.NodeDefinitions.{elected, ended, stopped, entered, answer_of, answered_or_put_back, order_result, effect_reported, announced, learnt_to, welcomed, slot_lost, landed, left_gone, left, is_among, looked_for, looked, executed_one, child_at, next_child, has_room, next_ready, ending, executed_ready, executed, install_to, asked_to_promise, welcomed_all, sent, pumped, put_back, ReplicaState, Place, Executed, childless, name_of, next, members, flying, set_at, last_slot, forgotten, learn_row, mailed, with_slot, without_slot, before_of, spoken, leads, readied, vote_tallied, voted, accepted_row}
 use Rattle.sc_node_table.specs.declared.Before.{Before}
-use Rattle.sc_law_walks.proofs.Lemmas.{entered_ready, entered_next, either_way, grows}
+use Rattle.sc_law_walks.proofs.WalkLemmas.{entered_ready, entered_next, either_way, grows}
 use Rattle.sc_live_journals.proofs.RowsProofs.StillReplicas as beside
 use Rattle.sc_live_answers.proofs.ReplicasProofs.Parts.{pumps, announces, speaks, teaches, welcomes, loses, leaves, looks, prepare_rests, accept_rests, promise_rests, nack_rests, ask_rests}
-use Rattle.sc_law_walks.proofs.Lemmas.{back_any, entered_ready}
+use Rattle.sc_law_walks.proofs.WalkLemmas.{back_any, entered_ready}
 
 -- the children that some entries make at a node, from the group before them
 abbrev pub kids_of : ℕ → Group → List Command → List Base

@@ -1,7 +1,7 @@
 -- That mail which comes to a node in a journal in which its group is well led finds what the law of calm scenarios asks of it.
 use Rattle.sc_live_answers.proofs.LedMailProofs.GroupMailPremises.{group_mail_finds as group_mail_finds_by}
 use Rattle.sc_scenario.proofs.ScenarioProofs.Lemmas.{valid_scenarios_are_bounded}
-use Rattle.sc_live_answers.specs.Definitions.{GroupMailFinds, StatesStand, JournalMailFinds}
+use Rattle.sc_live_answers.specs.AnswerDefinitions.{GroupMailFinds, StatesStand, JournalMailFinds}
 use Rattle.sc_live_answers.proofs.LedGroupsProofs.StandingStates.{states_stand as states_stand_by}
 use Rattle.sc_live_answers.proofs.LedGroupsProofs.LedGroupLaws.{led_rows_go_on, groups_are_led, led_logs_are_one}
 use Rattle.sc_live_answers.proofs.LedMailProofs.JournalMailPremises.{journal_mail_finds as journal_mail_finds_by}

@@ -3,12 +3,12 @@ use Rattle.std.proofs.Common.{◌≡◌, ℕ, suc, zero, ◌+◌, ◌≤◌, ◌
 use Rattle.std.proofs.lemmas.Bool.{cases_eq, cond_both, cond-false, eqb-true, and_parts}
 use Rattle.sc_base.specs.Definitions.{Each, is_member}
 use Rattle.sc_node_table.specs.Values.{Ballot}
-use Rattle.sc_node_table.specs.Definitions.{listed}
-use Rattle.sc_words.specs.paxos.Definitions.{below}
-use Rattle.sc_words.proofs.PaxosProofs.Lemmas.{Each-append, Each-weaker}
-use Rattle.sc_live_steps.specs.following.Definitions.{Mark, Asks, Votes, Teaches, Installs, Prepares, Promises, Course, Progress, Sets, members_at, promise_by, IsFit, AreFit, IsFollowing, IsRow, IsIdle, IsOffer, answered, Takes, reported_of, taught_from, Leads, Elects}
-use Rattle.sc_live_steps.proofs.FollowingProofs.Lemmas.{each-row, offers-each, told-each, rises, reached-least}
-use Rattle.sc_live_answers.specs.Definitions.{IsHeld, FindsOne, IsStranger, IsAtHome, HomesAreKept}
+use Rattle.sc_node_table.specs.NodeDefinitions.{listed}
+use Rattle.sc_words.specs.paxos.PaxosDefinitions.{below}
+use Rattle.sc_words.proofs.PaxosProofs.PaxosLemmas.{Each-append, Each-weaker}
+use Rattle.sc_live_steps.specs.following.FollowingDefinitions.{Mark, Asks, Votes, Teaches, Installs, Prepares, Promises, Course, Progress, Sets, members_at, promise_by, IsFit, AreFit, IsFollowing, IsRow, IsIdle, IsOffer, answered, Takes, reported_of, taught_from, Leads, Elects}
+use Rattle.sc_live_steps.proofs.FollowingProofs.FollowingLemmas.{each-row, offers-each, told-each, rises, reached-least}
+use Rattle.sc_live_answers.specs.AnswerDefinitions.{IsHeld, FindsOne, IsStranger, IsAtHome, HomesAreKept}
 
 -- what a stranger learns: nothing
 told_none : (at : Sets) (course : Course) (who : ℕ) → IsStranger at who → (more slot : ℕ) → taught_from at course slot more who ≡ []

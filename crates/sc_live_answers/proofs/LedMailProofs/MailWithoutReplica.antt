@@ -5,21 +5,21 @@ use Rattle.sc_node_table.specs.Values.{Seat, Deliver, Draw, Base, Mail, MailBody
 use Rattle.sc_live_answers.proofs.LedMailProofs.WellLedLeaders.{gives, one}
 use Rattle.sc_live_answers.proofs.BallotsProofs.NewestReplicas.{newest_after, newest_before, unled}
 use Rattle.sc_live_answers.proofs.ErrandsProofs.QuestionSenders.{offers_own, watches_own}
-use Rattle.sc_live_answers.specs.Definitions.{IsGuided, IsNamedGuide, MissedAreFound, YoungChildMayBeCreated}
-use Rattle.sc_live_journals.specs.groups.Definitions.{hints_at, IsLogsState, Delivers}
-use Rattle.sc_live_steps.specs.calm.Definitions.{Rows}
-use Rattle.sc_live_journals.specs.mail.Definitions.{IsPosted}
+use Rattle.sc_live_answers.specs.AnswerDefinitions.{IsGuided, IsNamedGuide, MissedAreFound, YoungChildMayBeCreated}
+use Rattle.sc_live_journals.specs.groups.GroupDefinitions.{hints_at, IsLogsState, Delivers}
+use Rattle.sc_live_steps.specs.calm.CalmDefinitions.{Rows}
+use Rattle.sc_live_journals.specs.mail.MailDefinitions.{IsPosted}
 use Rattle.sc_live_journals.proofs.RowsProofs.RowMarks.{HasMark}
-use Rattle.sc_live_journals.proofs.RowsProofs.Lemmas.{all_fit, head, no_lead}
-use Rattle.sc_live_journals.specs.rows.Definitions.{progress_at, view_at, IsScene, TakesMail, with_event}
-use Rattle.sc_live_journals.specs.scenes.Definitions.{IsState, NodeFinds, IsThere, MayJoin, IsTaking, NewestAreBound, NoneRuns}
-use Rattle.sc_live_steps.proofs.FollowingProofs.Lemmas.{same_mark}
-use Rattle.sc_live_steps.specs.following.Definitions.{Course, Installs, mark_of, AreHeeded}
+use Rattle.sc_live_journals.proofs.RowsProofs.RowLemmas.{all_fit, head, no_lead}
+use Rattle.sc_live_journals.specs.rows.RowDefinitions.{progress_at, view_at, IsScene, TakesMail, with_event}
+use Rattle.sc_live_journals.specs.scenes.SceneDefinitions.{IsState, NodeFinds, IsThere, MayJoin, IsTaking, NewestAreBound, NoneRuns}
+use Rattle.sc_live_steps.proofs.FollowingProofs.FollowingLemmas.{same_mark}
+use Rattle.sc_live_steps.specs.following.FollowingDefinitions.{Course, Installs, mark_of, AreHeeded}
 use Rattle.sc_base.specs.Definitions.{is_member}
-use Rattle.sc_node_table.specs.Definitions.{NodeState, group_of_mail}
-use Rattle.sc_meaning.specs.sound.Definitions.{Player}
+use Rattle.sc_node_table.specs.NodeDefinitions.{NodeState, group_of_mail}
+use Rattle.sc_meaning.specs.sound.SoundDefinitions.{Player}
 use Rattle.sc_live_journals.specs.scenes.CreatedReplicas.{Led as JoinsLed, Unled as JoinsUnled}
-use Rattle.sc_live_journals.proofs.ScenesProofs.Lemmas.{no_lead as no_scene_lead}
+use Rattle.sc_live_journals.proofs.ScenesProofs.SceneLemmas.{no_lead as no_scene_lead}
 use Rattle.std.proofs.lemmas.Option.{same_Some}
 
 -- ---- a state

@@ -4,14 +4,14 @@ use Rattle.std.proofs.lemmas.Bool.{cond-true, eqb-true}
 use Rattle.sc_base.specs.Definitions.{same_draw}
 use Rattle.sc_node_table.specs.Values.{Draw, Ballot, Base, OrderLine, Mail, MailBody, Request, Prepare, Accept, Learn, Install, TxPrepare, TxWatch, Input}
 use Rattle.sc_base.proofs.Lemmas.{same_name}
-use Rattle.sc_client_table.specs.table.Definitions.{Client as ClientState, table}
-use Rattle.sc_node_table.specs.Definitions.{NodeState, replica_of, group_of_mail, group_of_order, may_come, unknown, with_made, taken_by, routed, on_mail, ordered_of, on_order, ReplicaState, first_ballot, last_slot, ordered_row, mailed, made_by, slots_ahead}
-use Rattle.sc_live_steps.specs.following.Definitions.{Mark, Asks, Teaches, Installs, Prepares, mark_of}
-use Rattle.sc_words.specs.paxos.Definitions.{IsAtLeast}
-use Rattle.sc_words.proofs.PaxosProofs.Lemmas.{Each-weaker}
-use Rattle.sc_law_walks.proofs.Lemmas.{either_way}
-use Rattle.sc_live_journals.proofs.MailProofs.Lemmas.{IsRequestOf, clients_ask}
-use Rattle.sc_live_answers.specs.Definitions.{SaysWell, AreSaidWell}
+use Rattle.sc_client_table.specs.table.TableDefinitions.{Client as ClientState, table}
+use Rattle.sc_node_table.specs.NodeDefinitions.{NodeState, replica_of, group_of_mail, group_of_order, may_come, unknown, with_made, taken_by, routed, on_mail, ordered_of, on_order, ReplicaState, first_ballot, last_slot, ordered_row, mailed, made_by, slots_ahead}
+use Rattle.sc_live_steps.specs.following.FollowingDefinitions.{Mark, Asks, Teaches, Installs, Prepares, mark_of}
+use Rattle.sc_words.specs.paxos.PaxosDefinitions.{IsAtLeast}
+use Rattle.sc_words.proofs.PaxosProofs.PaxosLemmas.{Each-weaker}
+use Rattle.sc_law_walks.proofs.WalkLemmas.{either_way}
+use Rattle.sc_live_journals.proofs.MailProofs.MailLemmas.{IsRequestOf, clients_ask}
+use Rattle.sc_live_answers.specs.AnswerDefinitions.{SaysWell, AreSaidWell}
 use Rattle.sc_live_answers.proofs.LedMailProofs.ReplicaMail.{made_says}
 
 -- a mail that comes to a node, of which the replica of its group says so; where there is none, a mail of this group has no mark, or is a state with no later ballot

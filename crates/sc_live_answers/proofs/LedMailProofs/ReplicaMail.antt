@@ -3,17 +3,17 @@ use Rattle.std.proofs.Common.{◌≡◌, ℕ, ◌<◌, ◌≤◌, cond, List, []
 use Rattle.std.proofs.lemmas.Bool.{lt-leb}
 use Rattle.sc_base.specs.Definitions.{Each, Drawer}
 use Rattle.sc_node_table.specs.Values.{Ballot, Draw, Command, Base, OrderLine, Mail, MailBody, Request, Answer, Prepare, Promise, Accept, Accepted, Nack, Learn, Ask, Install, TxPrepare, TxVote, TxOutcome, TxElsewhere, TxWatch, TxWatched, Told, Report, PrepareAnswer}
-use Rattle.sc_law_entries.proofs.HistoryProofs.Lemmas.{applied_same}
+use Rattle.sc_law_entries.proofs.HistoryProofs.HistoryLemmas.{applied_same}
 use Rattle.sc_words.specs.declared.paxos.answers.PrepareAnswer.TheVariants as Prepared
-use Rattle.sc_words.specs.paxos.Definitions.{AcceptorState, reports_from, may_promise, after_promise, IsAtLeast, prepared}
-use Rattle.sc_words.proofs.PaxosProofs.Lemmas.{Each-weaker}
-use Rattle.sc_node_table.specs.Definitions.{named, install_to, ordered_row, ReplicaState, Place, name_of, next, first_ballot, forgotten, installed_replica, mailed, made_by, slots_ahead, promise_to, promised, prepare_row}
-use Rattle.sc_law_walks.specs.Definitions.{GoesOn}
-use Rattle.sc_law_walks.proofs.Lemmas.{either_way}
-use Rattle.sc_live_steps.proofs.FollowingProofs.Lemmas.{saw_either}
-use Rattle.sc_live_journals.specs.mail.Definitions.{IsPlainlyKept}
-use Rattle.sc_live_journals.proofs.MailProofs.Lemmas.{entered_up, installed_up, takes_mail, orders, looks_up, PartWalk, Part, part, next_in, named_in, entered_part, jumped_part, IsReported, Sends, AreSaid, Hears}
-use Rattle.sc_live_answers.specs.Definitions.{SaysWell, AreSaidWell}
+use Rattle.sc_words.specs.paxos.PaxosDefinitions.{AcceptorState, reports_from, may_promise, after_promise, IsAtLeast, prepared}
+use Rattle.sc_words.proofs.PaxosProofs.PaxosLemmas.{Each-weaker}
+use Rattle.sc_node_table.specs.NodeDefinitions.{named, install_to, ordered_row, ReplicaState, Place, name_of, next, first_ballot, forgotten, installed_replica, mailed, made_by, slots_ahead, promise_to, promised, prepare_row}
+use Rattle.sc_law_walks.specs.WalkDefinitions.{GoesOn}
+use Rattle.sc_law_walks.proofs.WalkLemmas.{either_way}
+use Rattle.sc_live_steps.proofs.FollowingProofs.FollowingLemmas.{saw_either}
+use Rattle.sc_live_journals.specs.mail.MailDefinitions.{IsPlainlyKept}
+use Rattle.sc_live_journals.proofs.MailProofs.MailLemmas.{entered_up, installed_up, takes_mail, orders, looks_up, PartWalk, Part, part, next_in, named_in, entered_part, jumped_part, IsReported, Sends, AreSaid, Hears}
+use Rattle.sc_live_answers.specs.AnswerDefinitions.{SaysWell, AreSaidWell}
 
 -- the walk of one replica, and a group with this name; if it is the replica's own, it has promised no later ballot and executed these slots
 module _ (name : Draw) (ballot : Ballot) (slots : ℕ) (Own : Type 0) where

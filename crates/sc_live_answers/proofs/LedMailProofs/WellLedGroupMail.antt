@@ -9,25 +9,25 @@ use Rattle.sc_base.proofs.Lemmas.{draw_is, same_name}
 use Rattle.sc_actor.specs.declared.rows.Event.TheVariants.{Told}
 use Rattle.sc_actor.specs.declared.rows.Input.TheVariants.{Go as GoInput, Told as ToldInput}
 use Rattle.sc_actor.specs.Definitions.{mails, numbered, value, acted, input_of, row_of}
-use Rattle.sc_live_orderly.specs.Definitions.{IsCalmEvent, AreInTime}
-use Rattle.sc_live_orderly.proofs.Lemmas.{in_time_before}
-use Rattle.sc_words.specs.paxos.Definitions.{reports_from, IsAtLeast}
-use Rattle.sc_words.proofs.PaxosProofs.Lemmas.{Each-among}
+use Rattle.sc_live_orderly.specs.OrderlyDefinitions.{IsCalmEvent, AreInTime}
+use Rattle.sc_live_orderly.proofs.OrderlyLemmas.{in_time_before}
+use Rattle.sc_words.specs.paxos.PaxosDefinitions.{reports_from, IsAtLeast}
+use Rattle.sc_words.proofs.PaxosProofs.PaxosLemmas.{Each-among}
 use Rattle.sc_scenario.specs.scenario.Definitions.{IsBounded}
 use Rattle.sc_scenario.specs.declared.scenario.scenarios.Scenario.{Scenario}
-use Rattle.sc_node_table.specs.Definitions.{NodeState, replica_of, group_of_mail, group_of_order, may_come, on_mail, on_order, ordered_row, ReplicaState, listed, name_of, next, mailed}
-use Rattle.sc_law_groups.proofs.GroupProofs.Lemmas.{number_among}
-use Rattle.sc_meaning.specs.sound.Definitions.{Player, player_table, births, as_nodes}
-use Rattle.sc_live_steps.specs.calm.Definitions.{players, Rows}
-use Rattle.sc_live_steps.specs.following.Definitions.{Mark, Asks, Teaches, Prepares, mark_of, Course, Sets, IsFit, SlotLeaders, from_slot_of}
-use Rattle.sc_live_steps.proofs.FollowingProofs.Lemmas.{prepares_are_known, same_mark}
-use Rattle.sc_live_journals.specs.rows.Definitions.{view_at, next_in, promise_in, progress_at, TakesMail, HoldsReplica, IsSeat, with_event, IsReplicasRow}
-use Rattle.sc_live_journals.proofs.RowsProofs.Lemmas.{fit, goes_on, known, found_name, rows_replicas, view_was, sent_is, Plays, Found, found_well, replay_well}
-use Rattle.sc_live_journals.specs.groups.Definitions.{Ends, dated_at, IsWellLed, IsLedScene, AreWellBorn, Delivers, HasOneLog, IsSentSo}
-use Rattle.sc_live_journals.proofs.GroupsProofs.Lemmas.{scene, dated_in, taken_dated, rows_dated}
-use Rattle.sc_live_journals.specs.mail.Definitions.{IsPlainlyKept, JournalsKeepIdle}
-use Rattle.sc_live_journals.proofs.MailProofs.Lemmas.{mail_comes}
-use Rattle.sc_live_answers.specs.Definitions.{IsSentOn, SaysWell, AreSaidWell}
+use Rattle.sc_node_table.specs.NodeDefinitions.{NodeState, replica_of, group_of_mail, group_of_order, may_come, on_mail, on_order, ordered_row, ReplicaState, listed, name_of, next, mailed}
+use Rattle.sc_law_groups.proofs.GroupProofs.GroupLemmas.{number_among}
+use Rattle.sc_meaning.specs.sound.SoundDefinitions.{Player, player_table, births, as_nodes}
+use Rattle.sc_live_steps.specs.calm.CalmDefinitions.{players, Rows}
+use Rattle.sc_live_steps.specs.following.FollowingDefinitions.{Mark, Asks, Teaches, Prepares, mark_of, Course, Sets, IsFit, SlotLeaders, from_slot_of}
+use Rattle.sc_live_steps.proofs.FollowingProofs.FollowingLemmas.{prepares_are_known, same_mark}
+use Rattle.sc_live_journals.specs.rows.RowDefinitions.{view_at, next_in, promise_in, progress_at, TakesMail, HoldsReplica, IsSeat, with_event, IsReplicasRow}
+use Rattle.sc_live_journals.proofs.RowsProofs.RowLemmas.{fit, goes_on, known, found_name, rows_replicas, view_was, sent_is, Plays, Found, found_well, replay_well}
+use Rattle.sc_live_journals.specs.groups.GroupDefinitions.{Ends, dated_at, IsWellLed, IsLedScene, AreWellBorn, Delivers, HasOneLog, IsSentSo}
+use Rattle.sc_live_journals.proofs.GroupsProofs.GroupLemmas.{scene, dated_in, taken_dated, rows_dated}
+use Rattle.sc_live_journals.specs.mail.MailDefinitions.{IsPlainlyKept, JournalsKeepIdle}
+use Rattle.sc_live_journals.proofs.MailProofs.MailLemmas.{mail_comes}
+use Rattle.sc_live_answers.specs.AnswerDefinitions.{IsSentOn, SaysWell, AreSaidWell}
 use Rattle.sc_live_answers.proofs.LedMailProofs.ReplicaMail.{Fits, mail_says, order_says, prepare_says}
 use Rattle.sc_live_answers.proofs.LedMailProofs.PlayerMail.{IsLate, node_says, node_orders, client_says}
 use Rattle.sc_live_answers.proofs.BallotsProofs.WellPlayers.{plays_of}

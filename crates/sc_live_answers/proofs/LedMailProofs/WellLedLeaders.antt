@@ -2,18 +2,18 @@
 use Rattle.std.proofs.Common.{List, None, Option, Some, ap, inl, inr, refl, sym, true, true≢false, ℕ, ◌∙◌, ◌≡◌}
 use Rattle.std.proofs.lemmas.Bool.{cases_Bool}
 use Rattle.sc_node_table.specs.Values.{Seat, Base}
-use Rattle.sc_live_answers.specs.Definitions.{LeadsOrNone, QuietLeadersHaveNothing, WellLedLeadAlone}
-use Rattle.sc_live_journals.proofs.GroupsProofs.Lemmas.{kept_leaders_rest}
-use Rattle.sc_live_journals.specs.groups.Definitions.{Ends, IsWellLed}
-use Rattle.sc_live_steps.proofs.CalmStepsProofs.Lemmas.{unbound_new}
-use Rattle.sc_live_steps.specs.calm.Definitions.{Rows}
-use Rattle.sc_live_steps.specs.orders.Definitions.{IsUnbound}
-use Rattle.sc_live_journals.proofs.RowsProofs.Lemmas.{same_some}
-use Rattle.sc_live_journals.specs.rows.Definitions.{progress_at, view_at}
-use Rattle.sc_live_journals.specs.scenes.Definitions.{LeadsAlone}
-use Rattle.sc_live_steps.specs.following.Definitions.{Course, Sets, SlotLeaders, IsLeadOf}
-use Rattle.sc_node_table.specs.Definitions.{ReplicaState}
-use Rattle.sc_meaning.specs.sound.Definitions.{Player}
+use Rattle.sc_live_answers.specs.AnswerDefinitions.{LeadsOrNone, QuietLeadersHaveNothing, WellLedLeadAlone}
+use Rattle.sc_live_journals.proofs.GroupsProofs.GroupLemmas.{kept_leaders_rest}
+use Rattle.sc_live_journals.specs.groups.GroupDefinitions.{Ends, IsWellLed}
+use Rattle.sc_live_steps.proofs.CalmStepsProofs.CalmStepLemmas.{unbound_new}
+use Rattle.sc_live_steps.specs.calm.CalmDefinitions.{Rows}
+use Rattle.sc_live_steps.specs.orders.OrderDefinitions.{IsUnbound}
+use Rattle.sc_live_journals.proofs.RowsProofs.RowLemmas.{same_some}
+use Rattle.sc_live_journals.specs.rows.RowDefinitions.{progress_at, view_at}
+use Rattle.sc_live_journals.specs.scenes.SceneDefinitions.{LeadsAlone}
+use Rattle.sc_live_steps.specs.following.FollowingDefinitions.{Course, Sets, SlotLeaders, IsLeadOf}
+use Rattle.sc_node_table.specs.NodeDefinitions.{ReplicaState}
+use Rattle.sc_meaning.specs.sound.SoundDefinitions.{Player}
 
 module _ (at : Sets) (over : Ends) (by : SlotLeaders) (words : ℕ → ℕ → ℕ × ℕ) (births : List (Seat Player)) (rows : Rows) (base : Base) (course : Course) (was : IsWellLed at over by words births rows base course) where
   module _ (node : ℕ) (r : ReplicaState) (e : view_at births rows base.core.id node ≡ Some r) (runs : r.running ≡ true) where

@@ -1,10 +1,10 @@
 -- Learn at a replica of a group that stands, which is called: what it keeps of what it was.
 use Rattle.std.proofs.Common.{◌≡◌, ℕ, ◌≤◌, [], sym, subst}
 use Rattle.sc_node_table.specs.Values.{Op, Call}
-use Rattle.sc_node_table.specs.Definitions.{ReplicaState, Place, next, last_slot, learn_row}
-use Rattle.sc_live_plain.specs.Definitions.{Frame, IsFrame, Requests, IsPlainCall, IsPlainFollower, IsPlainReplica}
+use Rattle.sc_node_table.specs.NodeDefinitions.{ReplicaState, Place, next, last_slot, learn_row}
+use Rattle.sc_live_plain.specs.PlainDefinitions.{Frame, IsFrame, Requests, IsPlainCall, IsPlainFollower, IsPlainReplica}
 use Rattle.sc_live_plain.proofs.PlainRowsProofs.PlainAcceptAndLearnRows.{learnt_state}
-use Rattle.sc_live_plain.proofs.Lemmas.{learn_is}
+use Rattle.sc_live_plain.proofs.PlainLemmas.{learn_is}
 use Rattle.sc_live_answers.proofs.LinesProofs.CallEffects.{Leaves, leaves_itself, leaves_entry}
 
 pub learn_leaves : (begun : Requests) (frame : Frame) (fact : IsFrame frame) (me : ℕ) (r : ReplicaState) (p : IsPlainReplica begun frame me r) (f : IsPlainFollower r) (client seq : ℕ) (op : Op) (call : IsPlainCall begun frame client seq op)

@@ -5,14 +5,14 @@ use Rattle.std.proofs.lemmas.Bool.{cond_both, eqb-true, and_parts}
 use Rattle.std.specs.Prelude.{nat_le}
 use Rattle.sc_base.specs.Definitions.{Among, Each, same_ballot, is_majority, is_member}
 use Rattle.sc_node_table.specs.Values.{Ballot, Op, Command, Call, Core, AnswerBody, Mail, Counted, Chosen, NotYet, Flight, Report}
-use Rattle.sc_words.specs.paxos.Definitions.{LeaderState, flight_at, without_flight_at, kept_voters, voters_after, with_voters, vote_at}
-use Rattle.sc_words.proofs.PaxosProofs.Lemmas.{Each-among, find_found, from_filter}
-use Rattle.sc_group_table.specs.machine.Definitions.{applied}
-use Rattle.sc_node_table.specs.Definitions.{entered, executed_one, has_room, next_ready, executed, pumped, queued_number, without_request, ReplicaState, Place, Executed, childless, next, set_at, forgotten, queued, requested, refused_at, request_row, at_slot, with_slot, without_slot, leads, readied, vote_tallied, voted, accepted_row}
-use Rattle.sc_law_walks.proofs.Lemmas.{cleared, executed_place, either_way}
-use Rattle.sc_live_plain.specs.Definitions.{Frame, IsFrame, Requests, IsPlainCommand, IsPlainCall, IsPlainFlight, IsPlainGroup}
-use Rattle.sc_live_plain.proofs.Lemmas.{at_found, out_each, with_each, recorded_after, counted_call, call_is, IsServed, call_plain, entered_frame}
-use Rattle.sc_live_steps.proofs.FollowingProofs.Lemmas.{entered_keeps}
+use Rattle.sc_words.specs.paxos.PaxosDefinitions.{LeaderState, flight_at, without_flight_at, kept_voters, voters_after, with_voters, vote_at}
+use Rattle.sc_words.proofs.PaxosProofs.PaxosLemmas.{Each-among, find_found, from_filter}
+use Rattle.sc_group_table.specs.machine.MachineDefinitions.{applied}
+use Rattle.sc_node_table.specs.NodeDefinitions.{entered, executed_one, has_room, next_ready, executed, pumped, queued_number, without_request, ReplicaState, Place, Executed, childless, next, set_at, forgotten, queued, requested, refused_at, request_row, at_slot, with_slot, without_slot, leads, readied, vote_tallied, voted, accepted_row}
+use Rattle.sc_law_walks.proofs.WalkLemmas.{cleared, executed_place, either_way}
+use Rattle.sc_live_plain.specs.PlainDefinitions.{Frame, IsFrame, Requests, IsPlainCommand, IsPlainCall, IsPlainFlight, IsPlainGroup}
+use Rattle.sc_live_plain.proofs.PlainLemmas.{at_found, out_each, with_each, recorded_after, counted_call, call_is, IsServed, call_plain, entered_frame}
+use Rattle.sc_live_steps.proofs.FollowingProofs.FollowingLemmas.{entered_keeps}
 
 -- ---- what a pump leaves
 

@@ -4,10 +4,10 @@ use Rattle.std.specs.Prelude.{nat_le}
 use Rattle.std.proofs.lemmas.List.Sums.{sum_by-cons}
 use Rattle.sc_base.specs.Definitions.{client_actor}
 use Rattle.sc_node_table.specs.Values.{Draw, Op, AnswerBody, Value, NotLeader, NotMine, Gone, Stale, MailBody, Request, Answer}
-use Rattle.sc_client_table.specs.lookup.Definitions.{target_in, preferring, passed_on, learnt_from_not_mine, learnt_from_gone}
-use Rattle.sc_client_table.specs.table.Definitions.{Client as ClientState, waiting_request, ClientStep, request_of, asked_of, sent_where, chosen_for, request_sent, started, waits_for, was_asked, redirected, answer_taken, got}
-use Rattle.sc_live_steps.specs.calm.Definitions.{waiting_one}
-use Rattle.sc_live_answers.specs.Definitions.{body_token, mail_token}
+use Rattle.sc_client_table.specs.lookup.LookupDefinitions.{target_in, preferring, passed_on, learnt_from_not_mine, learnt_from_gone}
+use Rattle.sc_client_table.specs.table.TableDefinitions.{Client as ClientState, waiting_request, ClientStep, request_of, asked_of, sent_where, chosen_for, request_sent, started, waits_for, was_asked, redirected, answer_taken, got}
+use Rattle.sc_live_steps.specs.calm.CalmDefinitions.{waiting_one}
+use Rattle.sc_live_answers.specs.AnswerDefinitions.{body_token, mail_token}
 use Rattle.sc_live_answers.proofs.LinesProofs.PumpTokens.{answer_token}
 
 module _ (c : ℕ) where

@@ -5,20 +5,20 @@ use Rattle.sc_base.specs.Definitions.{Among, same_draw}
 use Rattle.sc_node_table.specs.Values.{Draw, Base, Node, Client}
 use Rattle.sc_base.proofs.Lemmas.{draw_is}
 use Rattle.sc_actor.specs.Definitions.{value}
-use Rattle.sc_words.proofs.PaxosProofs.Lemmas.{find_found}
-use Rattle.sc_group_table.specs.machine.Definitions.{group_of, state_after}
-use Rattle.sc_node_table.specs.Definitions.{replica_of, is_node, ReplicaState, name_of, next}
+use Rattle.sc_words.proofs.PaxosProofs.PaxosLemmas.{find_found}
+use Rattle.sc_group_table.specs.machine.MachineDefinitions.{group_of, state_after}
+use Rattle.sc_node_table.specs.NodeDefinitions.{replica_of, is_node, ReplicaState, name_of, next}
 use Rattle.sc_scenario.specs.declared.scenario.scenarios.Scenario.{Scenario}
 use Rattle.sc_scenario.specs.scenario.Definitions.{ValidScenariosAreBounded}
-use Rattle.sc_meaning.specs.sound.Definitions.{groups_at, decided_log, Player, player_table, node_seat, route_of, as_nodes, HasRun, AllHaveRun}
-use Rattle.sc_law_entries.specs.names.Definitions.{OtherNamesAreFree, TakenOrdersAreAllowed, TakenWishesAreAllowed, WishesAreAtPositions, owner_in}
-use Rattle.sc_law_entries.specs.logs.Definitions.{GroupsAreFound}
-use Rattle.sc_law_groups.specs.whole.Definitions.{section_op, ValidScenariosBeginWell, LawfulJournalsDecideInTurn, ValidJournalsAreSound}
-use Rattle.sc_law_groups.proofs.WholeProofs.Lemmas.{orders_allowed}
-use Rattle.sc_live_steps.specs.calm.Definitions.{HasReplica}
-use Rattle.sc_live_plain.specs.Definitions.{replicas_after, replica_at, replicas_of}
-use Rattle.sc_live_plain.proofs.Lemmas.{Journal}
-use Rattle.sc_live_answers.specs.Definitions.{LawfulJournalsHaveOneLog, HaveOneLog}
+use Rattle.sc_meaning.specs.sound.SoundDefinitions.{groups_at, decided_log, Player, player_table, node_seat, route_of, as_nodes, HasRun, AllHaveRun}
+use Rattle.sc_law_entries.specs.names.NameDefinitions.{OtherNamesAreFree, TakenOrdersAreAllowed, TakenWishesAreAllowed, WishesAreAtPositions, owner_in}
+use Rattle.sc_law_entries.specs.logs.LogDefinitions.{GroupsAreFound}
+use Rattle.sc_law_groups.specs.whole.WholeDefinitions.{section_op, ValidScenariosBeginWell, LawfulJournalsDecideInTurn, ValidJournalsAreSound}
+use Rattle.sc_law_groups.proofs.WholeProofs.WholeLemmas.{orders_allowed}
+use Rattle.sc_live_steps.specs.calm.CalmDefinitions.{HasReplica}
+use Rattle.sc_live_plain.specs.PlainDefinitions.{replicas_after, replica_at, replicas_of}
+use Rattle.sc_live_plain.proofs.PlainLemmas.{Journal}
+use Rattle.sc_live_answers.specs.AnswerDefinitions.{LawfulJournalsHaveOneLog, HaveOneLog}
 
 module _ (scenario : Scenario) (rows : Journal) (apart : (one other : Base) → Among one (groups_at as_nodes scenario.groups rows) → Among other (groups_at as_nodes scenario.groups rows) → one.core.id ≡ other.core.id → one ≡ other)
     (all : AllHaveRun as_nodes scenario rows) (seated : (group : Draw) (node : ℕ) → HasReplica (replicas_after scenario rows) group node → (1 ≤ node) × (node ≤ scenario.nodes)) where

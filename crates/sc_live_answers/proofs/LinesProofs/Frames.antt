@@ -7,16 +7,16 @@ use Rattle.sc_base.proofs.Lemmas.{draw_is, same_name}
 use Rattle.sc_base.specs.Definitions.{Among, most_nodes, same_draw}
 use Rattle.sc_node_table.specs.Values.{Draw, Base, OrderLine, Mail, Row}
 use Rattle.sc_actor.specs.Definitions.{value}
-use Rattle.sc_node_table.specs.Definitions.{is_node, replica_of, ReplicaState, name_of, numbers_from}
+use Rattle.sc_node_table.specs.NodeDefinitions.{is_node, replica_of, ReplicaState, name_of, numbers_from}
 use Rattle.sc_paxos_law.proofs.Lemmas.{Among-flat_map, from_flat_map, from_map}
-use Rattle.sc_words.proofs.PaxosProofs.Lemmas.{Among-filter, Each-among, find_found}
+use Rattle.sc_words.proofs.PaxosProofs.PaxosLemmas.{Among-filter, Each-among, find_found}
 use Rattle.sc_scenario.specs.declared.scenario.scenarios.Scenario.{Scenario}
 use Rattle.sc_scenario.specs.scenario.Definitions.{IsValid, ValidScenariosAreBounded}
-use Rattle.sc_meaning.specs.sound.Definitions.{Player, player_table, node_seat, as_nodes, Lawful}
-use Rattle.sc_live_steps.specs.calm.Definitions.{StandsQuiet}
-use Rattle.sc_live_plain.specs.Definitions.{replicas_after, IsQuietJournal, frame_at_rest, replicas_of, Frame}
-use Rattle.sc_live_plain.proofs.Lemmas.{in_numbers, to_numbers, map_among}
-use Rattle.sc_live_answers.specs.Definitions.{AreNamedOnce, LawfulReplicasAreNamedOnce, nodes_replicas, frames_after, AreAtNodes, QuietJournalsHaveFrames}
+use Rattle.sc_meaning.specs.sound.SoundDefinitions.{Player, player_table, node_seat, as_nodes, Lawful}
+use Rattle.sc_live_steps.specs.calm.CalmDefinitions.{StandsQuiet}
+use Rattle.sc_live_plain.specs.PlainDefinitions.{replicas_after, IsQuietJournal, frame_at_rest, replicas_of, Frame}
+use Rattle.sc_live_plain.proofs.PlainLemmas.{in_numbers, to_numbers, map_among}
+use Rattle.sc_live_answers.specs.AnswerDefinitions.{AreNamedOnce, LawfulReplicasAreNamedOnce, nodes_replicas, frames_after, AreAtNodes, QuietJournalsHaveFrames}
 
 -- ---- lists
 

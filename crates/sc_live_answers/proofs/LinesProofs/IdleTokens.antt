@@ -6,15 +6,15 @@ use Rattle.std.proofs.lemmas.List.Sums.{sum_by-cons}
 use Rattle.sc_base.specs.Definitions.{Among, client_actor}
 use Rattle.sc_node_table.specs.Values.{Base, Seat}
 use Rattle.sc_actor.specs.Definitions.{value, are_apart}
-use Rattle.sc_node_table.specs.Definitions.{numbers_from}
+use Rattle.sc_node_table.specs.NodeDefinitions.{numbers_from}
 use Rattle.sc_paxos_law.proofs.Lemmas.{Among-either, from_map}
 use Rattle.sc_scenario.specs.declared.scenario.scenarios.Asks.{Asks}
 use Rattle.sc_scenario.specs.scenario.Definitions.{ValidScenariosAreBounded}
-use Rattle.sc_meaning.specs.sound.Definitions.{Player, player_table, node_seat, client_seat, route_of, births, as_nodes}
-use Rattle.sc_live_steps.specs.calm.Definitions.{waiting_one}
-use Rattle.sc_live_plain.specs.Definitions.{IsAsking}
-use Rattle.sc_live_plain.proofs.Lemmas.{stage, in_numbers}
-use Rattle.sc_live_answers.specs.Definitions.{mail_token, player_token, IdleCountsOnce}
+use Rattle.sc_meaning.specs.sound.SoundDefinitions.{Player, player_table, node_seat, client_seat, route_of, births, as_nodes}
+use Rattle.sc_live_steps.specs.calm.CalmDefinitions.{waiting_one}
+use Rattle.sc_live_plain.specs.PlainDefinitions.{IsAsking}
+use Rattle.sc_live_plain.proofs.PlainLemmas.{stage, in_numbers}
+use Rattle.sc_live_answers.specs.AnswerDefinitions.{mail_token, player_token, IdleCountsOnce}
 
 -- seats that are apart, of which that with one number counts one at most and all others none
 module _ {A : Type 0} (f : Seat A → ℕ) (who : ℕ) where

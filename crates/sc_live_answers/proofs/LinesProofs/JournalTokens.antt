@@ -9,17 +9,17 @@ use Rattle.sc_actor.specs.declared.rows.Input.TheVariants.{Go as GoInput}
 use Rattle.sc_actor.specs.Definitions.{mails, copies, counts_at, numbered, value, acted, input_of, System, row_of, are_apart, waiting, kth}
 use Rattle.sc_actor.proofs.PendingLemmas as pending
 use Rattle.sc_actor.proofs.Lemmas.{value-snoc}
-use Rattle.sc_node_table.specs.Definitions.{NodeState, replica_of, with_replica, node_table, ReplicaState, name_of, mailed}
+use Rattle.sc_node_table.specs.NodeDefinitions.{NodeState, replica_of, with_replica, node_table, ReplicaState, name_of, mailed}
 use Rattle.sc_scenario.specs.declared.scenario.scenarios.Asks.{Asks}
 use Rattle.sc_scenario.specs.declared.scenario.scenarios.Scenario.{Scenario}
-use Rattle.sc_meaning.specs.sound.Definitions.{Player, player_table, node_seat, client_seat, route_of, births, system_of, as_nodes}
-use Rattle.sc_live_orderly.specs.Definitions.{IsTidy, IsOrderly, IsInOrder, mail_with, is_born, Owing, under_way, owed, owed_by}
-use Rattle.sc_live_orderly.proofs.Lemmas.{delivered, filter_sum, after-row, is_born-from, one_changes}
-use Rattle.sc_live_plain.specs.Definitions.{IsAsking, AreFarFromLast, IsLinkedSetting, Setting, IsSetting, IsCalmNode, ComesInTime, IsBegun, Requests, IsPlainBody}
+use Rattle.sc_meaning.specs.sound.SoundDefinitions.{Player, player_table, node_seat, client_seat, route_of, births, system_of, as_nodes}
+use Rattle.sc_live_orderly.specs.OrderlyDefinitions.{IsTidy, IsOrderly, IsInOrder, mail_with, is_born, Owing, under_way, owed, owed_by}
+use Rattle.sc_live_orderly.proofs.OrderlyLemmas.{delivered, filter_sum, after-row, is_born-from, one_changes}
+use Rattle.sc_live_plain.specs.PlainDefinitions.{IsAsking, AreFarFromLast, IsLinkedSetting, Setting, IsSetting, IsCalmNode, ComesInTime, IsBegun, Requests, IsPlainBody}
 use Rattle.sc_live_plain.proofs.CalmProofs.RequestPhaseClients as clients_of
 use Rattle.sc_live_plain.proofs.CalmProofs.RequestPhaseNodes as turns_of
-use Rattle.sc_live_plain.proofs.Lemmas.{IsStage, Journal, of_player, unasked, Turns, step_is, aside_is, aside_answer, some_is, NodeRow, IsFor, for_node, mail_is, replica_row, mail_of}
-use Rattle.sc_live_answers.specs.Definitions.{body_token, mail_token, replica_tokens, player_token, token_owing}
+use Rattle.sc_live_plain.proofs.PlainLemmas.{IsStage, Journal, of_player, unasked, Turns, step_is, aside_is, aside_answer, some_is, NodeRow, IsFor, for_node, mail_is, replica_row, mail_of}
+use Rattle.sc_live_answers.specs.AnswerDefinitions.{body_token, mail_token, replica_tokens, player_token, token_owing}
 use Rattle.sc_live_answers.proofs.LinesProofs.ClientTokens.{got_tokens, go_tokens}
 use Rattle.sc_live_answers.proofs.LinesProofs.PumpTokens.{answer_token}
 use Rattle.sc_live_answers.proofs.LinesProofs.RowTokens.{stay_row}

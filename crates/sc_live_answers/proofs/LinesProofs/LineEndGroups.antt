@@ -3,14 +3,14 @@ use Rattle.std.proofs.Common.{◌≡◌, ℕ, zero, suc, ◌+◌, ◌<◌, ◌�
 use Rattle.std.proofs.lemmas.Bool.{cases_eq, both_ways}
 use Rattle.sc_base.specs.Definitions.{Among, Each, is_member}
 use Rattle.sc_node_table.specs.Values.{Command, Call, Core, Node, Flight}
-use Rattle.sc_node_table.specs.Definitions.{replica_of, ReplicaState, next}
+use Rattle.sc_node_table.specs.NodeDefinitions.{replica_of, ReplicaState, next}
 use Rattle.sc_scenario.specs.declared.scenario.scenarios.Scenario.{Scenario}
-use Rattle.sc_meaning.specs.sound.Definitions.{node_seat, births, system_of, as_nodes}
-use Rattle.sc_live_orderly.specs.Definitions.{rest, is_born}
-use Rattle.sc_live_orderly.proofs.Lemmas.{is_born-from, seat_found}
-use Rattle.sc_live_steps.specs.calm.Definitions.{IsAtRest}
-use Rattle.sc_live_plain.specs.Definitions.{IsAsking, AreSeated, Asks as AsksFor, Votes, mark, IsVoting, replica_at, votes_in, marks_at, IsGroupAt, Setting, IsSetting, Frame, IsFrame, IsBegun, IsPlainCommand, takers, IsPlainFlight, IsPlainReplica, IsLeading, IsPlainAt}
-use Rattle.sc_live_plain.proofs.Lemmas.{one_if, one_yes, in_range, range_yes, IsStage, node_born, node_number, Journal, replica_is, IsHeld, some_is, call_is, leader_idle, leading_at}
+use Rattle.sc_meaning.specs.sound.SoundDefinitions.{node_seat, births, system_of, as_nodes}
+use Rattle.sc_live_orderly.specs.OrderlyDefinitions.{rest, is_born}
+use Rattle.sc_live_orderly.proofs.OrderlyLemmas.{is_born-from, seat_found}
+use Rattle.sc_live_steps.specs.calm.CalmDefinitions.{IsAtRest}
+use Rattle.sc_live_plain.specs.PlainDefinitions.{IsAsking, AreSeated, Asks as AsksFor, Votes, mark, IsVoting, replica_at, votes_in, marks_at, IsGroupAt, Setting, IsSetting, Frame, IsFrame, IsBegun, IsPlainCommand, takers, IsPlainFlight, IsPlainReplica, IsLeading, IsPlainAt}
+use Rattle.sc_live_plain.proofs.PlainLemmas.{one_if, one_yes, in_range, range_yes, IsStage, node_born, node_number, Journal, replica_is, IsHeld, some_is, call_is, leader_idle, leading_at}
 use Rattle.sc_live_answers.proofs.RequestsProofs.RequestLineReplicas.{HasServed, HaveServed}
 
 module _ (words : ℕ → ℕ → ℕ × ℕ) (scenario : Scenario) (begins : IsStage scenario) (set : Setting) (fact : IsSetting set) (seated : AreSeated scenario set) (rows : Journal) (j : IsAsking words scenario set begins.first rows) (served : HaveServed scenario set rows)

@@ -5,17 +5,17 @@ use Rattle.std.proofs.lemmas.Bool.{cases_lt, both_ways}
 use Rattle.std.proofs.lemmas.Option.{slice_get_past}
 use Rattle.sc_base.specs.Definitions.{Among, Each, end_of, is_member}
 use Rattle.sc_node_table.specs.Values.{Ballot, Draw, Command, Core}
-use Rattle.sc_group_table.specs.machine.Definitions.{Group}
-use Rattle.sc_words.specs.paxos.Definitions.{below, LeaderState, must}
-use Rattle.sc_words.proofs.PaxosProofs.Lemmas.{not_below_parts}
-use Rattle.sc_node_table.specs.Definitions.{ReplicaState, next, members}
+use Rattle.sc_group_table.specs.machine.MachineDefinitions.{Group}
+use Rattle.sc_words.specs.paxos.PaxosDefinitions.{below, LeaderState, must}
+use Rattle.sc_words.proofs.PaxosProofs.PaxosLemmas.{not_below_parts}
+use Rattle.sc_node_table.specs.NodeDefinitions.{ReplicaState, next, members}
 use Rattle.sc_scenario.specs.declared.scenario.scenarios.Scenario.{Scenario}
-use Rattle.sc_meaning.specs.sound.Definitions.{system_of, as_nodes}
-use Rattle.sc_live_orderly.specs.Definitions.{rest, is_born}
-use Rattle.sc_live_steps.specs.calm.Definitions.{AreNines, MayPump, Ways, HasReplica, IsNewest, IsAtRest, IsLinked, StandsQuiet, IsGoneQuiet, RisesAt}
-use Rattle.sc_live_plain.specs.Definitions.{IsAsking, AreSeated, replicas_after, setting_at, AreFramesOf, IsQuietJournal, IsOfNodes, IsKept, frame_at_rest, replica_at, IsSetting, Frame, IsFrame, IsBegun, IsPlainAt}
-use Rattle.sc_live_plain.proofs.Lemmas.{IsStage, Journal}
-use Rattle.sc_live_answers.specs.Definitions.{HaveOneLog, AreReplicasQuiet}
+use Rattle.sc_meaning.specs.sound.SoundDefinitions.{system_of, as_nodes}
+use Rattle.sc_live_orderly.specs.OrderlyDefinitions.{rest, is_born}
+use Rattle.sc_live_steps.specs.calm.CalmDefinitions.{AreNines, MayPump, Ways, HasReplica, IsNewest, IsAtRest, IsLinked, StandsQuiet, IsGoneQuiet, RisesAt}
+use Rattle.sc_live_plain.specs.PlainDefinitions.{IsAsking, AreSeated, replicas_after, setting_at, AreFramesOf, IsQuietJournal, IsOfNodes, IsKept, frame_at_rest, replica_at, IsSetting, Frame, IsFrame, IsBegun, IsPlainAt}
+use Rattle.sc_live_plain.proofs.PlainLemmas.{IsStage, Journal}
+use Rattle.sc_live_answers.specs.AnswerDefinitions.{HaveOneLog, AreReplicasQuiet}
 use Rattle.sc_live_answers.proofs.LinesProofs.LineEndGroups as end_of_line
 use Rattle.sc_live_answers.proofs.LinesProofs.LineEndStandingGroups as ends
 use Rattle.sc_live_answers.proofs.RequestsProofs.RequestLineReplicas.{HaveServed}

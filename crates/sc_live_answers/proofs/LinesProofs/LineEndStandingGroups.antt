@@ -4,17 +4,17 @@ use Rattle.std.specs.Prelude.{slice_get, unwrap_or}
 use Rattle.std.proofs.lemmas.Bool.{cases_eq, both_ways, and_from}
 use Rattle.sc_base.specs.Definitions.{Among, is_member}
 use Rattle.sc_node_table.specs.Values.{Ballot, Draw, Command, Core, Report}
-use Rattle.sc_words.specs.paxos.Definitions.{below, LeaderState}
-use Rattle.sc_words.proofs.PaxosProofs.Lemmas.{at_least_itself, Each-from}
-use Rattle.sc_node_table.specs.Definitions.{ReplicaState, name_of, next, members, first_set, may_offer, numbers_from, slots_ahead}
+use Rattle.sc_words.specs.paxos.PaxosDefinitions.{below, LeaderState}
+use Rattle.sc_words.proofs.PaxosProofs.PaxosLemmas.{at_least_itself, Each-from}
+use Rattle.sc_node_table.specs.NodeDefinitions.{ReplicaState, name_of, next, members, first_set, may_offer, numbers_from, slots_ahead}
 use Rattle.sc_paxos_law.proofs.Lemmas.{place_among}
 use Rattle.sc_scenario.specs.declared.scenario.scenarios.Scenario.{Scenario}
-use Rattle.sc_meaning.specs.sound.Definitions.{system_of, as_nodes}
-use Rattle.sc_live_orderly.specs.Definitions.{rest, is_born}
-use Rattle.sc_live_steps.specs.calm.Definitions.{Ways, IsNewest, LeadsAtRest, IsBelow, MayVote, IsUpToDate, IsLinked, StandsQuiet}
-use Rattle.sc_live_plain.specs.Definitions.{IsAsking, AreSeated, replicas_after, setting_at, AreFramesOf, IsQuietJournal, IsKept, frame_at_rest, taught_slots, replica_at, next_in, IsGroupAt, Setting, IsSetting, Frame, IsFrame, IsBegun, AreTaken, IsPlainReplica, IsLeading, IsPlainAt}
-use Rattle.sc_live_plain.proofs.Lemmas.{IsStage, Journal, some_is}
-use Rattle.sc_live_answers.specs.Definitions.{HaveOneLog}
+use Rattle.sc_meaning.specs.sound.SoundDefinitions.{system_of, as_nodes}
+use Rattle.sc_live_orderly.specs.OrderlyDefinitions.{rest, is_born}
+use Rattle.sc_live_steps.specs.calm.CalmDefinitions.{Ways, IsNewest, LeadsAtRest, IsBelow, MayVote, IsUpToDate, IsLinked, StandsQuiet}
+use Rattle.sc_live_plain.specs.PlainDefinitions.{IsAsking, AreSeated, replicas_after, setting_at, AreFramesOf, IsQuietJournal, IsKept, frame_at_rest, taught_slots, replica_at, next_in, IsGroupAt, Setting, IsSetting, Frame, IsFrame, IsBegun, AreTaken, IsPlainReplica, IsLeading, IsPlainAt}
+use Rattle.sc_live_plain.proofs.PlainLemmas.{IsStage, Journal, some_is}
+use Rattle.sc_live_answers.specs.AnswerDefinitions.{HaveOneLog}
 use Rattle.sc_live_answers.proofs.LinesProofs.LineEndGroups as end_of_line
 use Rattle.sc_live_answers.proofs.RequestsProofs.RequestLineReplicas.{HasServed, HaveServed}
 

@@ -1,14 +1,14 @@
 -- Each replica that runs after some rows of a calm journal leads its group alone, where all groups are well led.
 use Rattle.std.proofs.Common.{◌≡◌, ℕ, true, Some, ◌∙◌, ap, subst}
 use Rattle.sc_node_table.specs.Values.{Draw}
-use Rattle.sc_node_table.specs.Definitions.{ReplicaState, name_of}
+use Rattle.sc_node_table.specs.NodeDefinitions.{ReplicaState, name_of}
 use Rattle.sc_scenario.specs.scenario.Definitions.{ValidScenariosAreBounded}
 use Rattle.sc_scenario.specs.declared.scenario.scenarios.Scenario.{Scenario}
-use Rattle.sc_meaning.specs.sound.Definitions.{births, as_nodes}
-use Rattle.sc_live_steps.specs.calm.Definitions.{Rows}
-use Rattle.sc_live_journals.specs.rows.Definitions.{view_at}
-use Rattle.sc_live_journals.specs.scenes.Definitions.{LeadsAlone}
-use Rattle.sc_live_answers.specs.Definitions.{LawfulReplicasAreNamedOnce, WellLedLeadAlone, IsCalmJournal, IsPrefixOf, AreSent, AllLeadAlone, PrefixesAreFound, ViewsAgree}
+use Rattle.sc_meaning.specs.sound.SoundDefinitions.{births, as_nodes}
+use Rattle.sc_live_steps.specs.calm.CalmDefinitions.{Rows}
+use Rattle.sc_live_journals.specs.rows.RowDefinitions.{view_at}
+use Rattle.sc_live_journals.specs.scenes.SceneDefinitions.{LeadsAlone}
+use Rattle.sc_live_answers.specs.AnswerDefinitions.{LawfulReplicasAreNamedOnce, WellLedLeadAlone, IsCalmJournal, IsPrefixOf, AreSent, AllLeadAlone, PrefixesAreFound, ViewsAgree}
 use Rattle.sc_live_answers.proofs.LedGroupsProofs.GuidedGroups.{named_there}
 use Rattle.sc_live_answers.proofs.ReplicasProofs.PlayerReplicas.{place_of}
 

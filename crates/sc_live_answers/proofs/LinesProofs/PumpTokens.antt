@@ -7,9 +7,9 @@ use Rattle.std.proofs.lemmas.List.Sums.{sum_by_push, sum_by-cons}
 use Rattle.sc_base.specs.Definitions.{client_actor}
 use Rattle.sc_node_table.specs.Values.{Draw, Op, Command, Call, Core, AnswerBody, Mail, MailBody, Accept, Answer, Flight}
 use Rattle.sc_words.specs.declared.paxos.answers.Must.TheVariants.{Free as Open}
-use Rattle.sc_words.specs.paxos.Definitions.{must, flight_at, without_flight, with_voters}
-use Rattle.sc_node_table.specs.Definitions.{sent, sent_all, sent_others, answered, Found, is_act, waits, turned_down, next_queued, from_backlog, from_acts, from_queues, found_for, offered, pumped_from, pumped, queued_number, is_request_of, without_request, ReplicaState, Place, name_of, next, settled, may_offer, taken_at, under_way, is_idle, last_slot, refused_at, queued, requested, request_row, at_slot, with_slot, without_slot}
-use Rattle.sc_live_answers.specs.Definitions.{command_token, body_token, mail_token, flight_tokens, ready_tokens, place_tokens}
+use Rattle.sc_words.specs.paxos.PaxosDefinitions.{must, flight_at, without_flight, with_voters}
+use Rattle.sc_node_table.specs.NodeDefinitions.{sent, sent_all, sent_others, answered, Found, is_act, waits, turned_down, next_queued, from_backlog, from_acts, from_queues, found_for, offered, pumped_from, pumped, queued_number, is_request_of, without_request, ReplicaState, Place, name_of, next, settled, may_offer, taken_at, under_way, is_idle, last_slot, refused_at, queued, requested, request_row, at_slot, with_slot, without_slot}
+use Rattle.sc_live_answers.specs.AnswerDefinitions.{command_token, body_token, mail_token, flight_tokens, ready_tokens, place_tokens}
 use Rattle.sc_live_steps.proofs.CalmStepsProofs.PumpPotential.{queues_leader, offering_must}
 use Rattle.sc_live_steps.proofs.PumpProofs.Pumping.{open_found as found_is}
 

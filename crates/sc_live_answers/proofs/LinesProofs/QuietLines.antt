@@ -4,17 +4,17 @@ use Rattle.std.proofs.lemmas.Bool.{both_ways}
 use Rattle.sc_base.specs.Definitions.{Among, Each, client_actor, least_of}
 use Rattle.sc_node_table.specs.Values.{Draw, Base, Mail, Node, Client}
 use Rattle.sc_actor.specs.Definitions.{value, has_started}
-use Rattle.sc_client_table.specs.table.Definitions.{Client as ClientState, born_client}
-use Rattle.sc_words.proofs.PaxosProofs.Lemmas.{Each-among}
+use Rattle.sc_client_table.specs.table.TableDefinitions.{Client as ClientState, born_client}
+use Rattle.sc_words.proofs.PaxosProofs.PaxosLemmas.{Each-among}
 use Rattle.sc_scenario.specs.declared.scenario.scenarios.Asks.{Asks}
 use Rattle.sc_scenario.specs.declared.scenario.scenarios.Scenario.{Scenario}
 use Rattle.sc_scenario.specs.scenario.Definitions.{ValidScenariosAreBounded}
-use Rattle.sc_meaning.specs.sound.Definitions.{Player, player_table, client_seat, route_of, system_of, as_nodes}
-use Rattle.sc_live_orderly.specs.Definitions.{rest, is_born}
-use Rattle.sc_live_steps.specs.calm.Definitions.{Ways, StandsQuiet, IsGoneQuiet, IsAnswered}
-use Rattle.sc_live_plain.specs.Definitions.{IsAsking, AreSeated, NobodyWaits, HaveAllReplies, replicas_after, setting_at, AreFramesOf, IsQuietJournal, frame_at_rest, Other, mark, Setting, IsSetting, Frame, IsBegun, IsPlainGroup, IsPlainAt}
-use Rattle.sc_live_plain.proofs.Lemmas.{quiet_ask, lines_answered, IsStage, stage, Journal, map_among, client_is}
-use Rattle.sc_live_answers.specs.Definitions.{HaveOneLog, AreReplicasQuiet, LinesLeaveQuiet}
+use Rattle.sc_meaning.specs.sound.SoundDefinitions.{Player, player_table, client_seat, route_of, system_of, as_nodes}
+use Rattle.sc_live_orderly.specs.OrderlyDefinitions.{rest, is_born}
+use Rattle.sc_live_steps.specs.calm.CalmDefinitions.{Ways, StandsQuiet, IsGoneQuiet, IsAnswered}
+use Rattle.sc_live_plain.specs.PlainDefinitions.{IsAsking, AreSeated, NobodyWaits, HaveAllReplies, replicas_after, setting_at, AreFramesOf, IsQuietJournal, frame_at_rest, Other, mark, Setting, IsSetting, Frame, IsBegun, IsPlainGroup, IsPlainAt}
+use Rattle.sc_live_plain.proofs.PlainLemmas.{quiet_ask, lines_answered, IsStage, stage, Journal, map_among, client_is}
+use Rattle.sc_live_answers.specs.AnswerDefinitions.{HaveOneLog, AreReplicasQuiet, LinesLeaveQuiet}
 use Rattle.sc_live_answers.proofs.LinesProofs.LineEndReplicas as all_of
 use Rattle.sc_live_answers.proofs.LinesProofs.LineEndStandingGroups as ends
 use Rattle.sc_live_answers.proofs.RequestsProofs.RequestLineEnds.{line_ends}

@@ -4,13 +4,13 @@ use Rattle.sc_node_table.specs.Values.{Draw, Base}
 use Rattle.sc_client_table.specs.declared.lookup.ways.Way.{Way}
 use Rattle.sc_scenario.specs.scenario.Definitions.{ValidScenariosAreBounded}
 use Rattle.sc_scenario.specs.declared.scenario.scenarios.Scenario.{Scenario}
-use Rattle.sc_node_table.specs.Definitions.{ReplicaState}
-use Rattle.sc_meaning.specs.sound.Definitions.{births, as_nodes}
-use Rattle.sc_live_steps.specs.calm.Definitions.{Chart, players, sent_on, Rows}
-use Rattle.sc_live_journals.specs.charts.Definitions.{all_replicas, chart_at, names_at, reach_in, LedStandOnce, quiet_prefix}
-use Rattle.sc_live_plain.specs.Definitions.{IsAsking, AreRequests, AreSeated, QuietJournalsAsk, IsLinkedSetting, Setting, IsSetting}
-use Rattle.sc_live_plain.proofs.Lemmas.{IsStage, stage, Journal}
-use Rattle.sc_live_answers.specs.Definitions.{QuietGroupsHaveCuts, KnowOne, IsCalmJournal, ChartHintsRise, PrefixesAreFound, IsQuietPrefix, ClientsAreNear, setting_of, IsKnownPrefix, IsRequested, RestsAt, StandingGroupsAreRound, AreNear, QuietJournalsHaveFrames, QuietSettingsAreLinked, LawfulReplicasAreNamedOnce, QuietJournalsKnowOne}
+use Rattle.sc_node_table.specs.NodeDefinitions.{ReplicaState}
+use Rattle.sc_meaning.specs.sound.SoundDefinitions.{births, as_nodes}
+use Rattle.sc_live_steps.specs.calm.CalmDefinitions.{Chart, players, sent_on, Rows}
+use Rattle.sc_live_journals.specs.charts.ChartDefinitions.{all_replicas, chart_at, names_at, reach_in, LedStandOnce, quiet_prefix}
+use Rattle.sc_live_plain.specs.PlainDefinitions.{IsAsking, AreRequests, AreSeated, QuietJournalsAsk, IsLinkedSetting, Setting, IsSetting}
+use Rattle.sc_live_plain.proofs.PlainLemmas.{IsStage, stage, Journal}
+use Rattle.sc_live_answers.specs.AnswerDefinitions.{QuietGroupsHaveCuts, KnowOne, IsCalmJournal, ChartHintsRise, PrefixesAreFound, IsQuietPrefix, ClientsAreNear, setting_of, IsKnownPrefix, IsRequested, RestsAt, StandingGroupsAreRound, AreNear, QuietJournalsHaveFrames, QuietSettingsAreLinked, LawfulReplicasAreNamedOnce, QuietJournalsKnowOne}
 use Rattle.sc_live_answers.proofs.RestProofs.GoneGroupsInPrefixes.{gone_named}
 use Rattle.sc_live_answers.proofs.RequestsProofs.RequestLineClients.{line_keeps, fresh_row}
 use Rattle.sc_live_answers.proofs.ReplicasProofs.NameLists.{sent_few}

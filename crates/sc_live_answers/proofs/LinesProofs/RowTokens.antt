@@ -3,19 +3,19 @@ use Rattle.sc_live_steps.proofs.CalmStepsProofs.PumpInvariants.{pump_kept}
 use Rattle.std.proofs.Common.{◌≡◌, ℕ, ◌+◌, ◌≤◌, eqb, true, List, [], ◌∷◌, ◌++◌, sum_by, Option, Some, None, refl, sym, ◌∙◌, ap, subst, arith}
 use Rattle.sc_base.specs.Definitions.{Each, client_actor, is_member}
 use Rattle.sc_node_table.specs.Values.{Ballot, Draw, Op, Command, Call, Core, AnswerBody, Mail, MailBody, Request, Answer, Accept, Accepted, Learn, Flight}
-use Rattle.sc_words.specs.paxos.Definitions.{must, flight_at, with_voters}
-use Rattle.sc_words.proofs.PaxosProofs.Lemmas.{Each-among, find_found}
-use Rattle.sc_node_table.specs.Definitions.{entered, executed_one, next_child, next_ready, ending, executed_ready, executed, pumped, ReplicaState, Place, Executed, childless, name_of, next, members, last_slot, forgotten, mailed, at_slot, with_slot, slots_ahead, accepted_row}
-use Rattle.sc_law_walks.proofs.Lemmas.{entered_next, cleared}
-use Rattle.sc_live_plain.specs.Definitions.{Frame, IsFrame, Requests, IsPlainCommand, IsPlainCall, IsPlainBody, IsPlainFlight, IsPlainReplica, IsPlainFollower, IsPlainLeader, IsPlainAt, IsDue}
-use Rattle.sc_live_plain.proofs.Lemmas.{learn_is, learnt_plain, learnt_follower, at_found, with_at, with_each, recorded_after, counted_call, call_is, leading_at, following_at, none_stops, call_plain, entered_frame}
-use Rattle.sc_live_answers.specs.Definitions.{command_token, body_token, flight_tokens, ready_tokens, replica_tokens, place_tokens}
+use Rattle.sc_words.specs.paxos.PaxosDefinitions.{must, flight_at, with_voters}
+use Rattle.sc_words.proofs.PaxosProofs.PaxosLemmas.{Each-among, find_found}
+use Rattle.sc_node_table.specs.NodeDefinitions.{entered, executed_one, next_child, next_ready, ending, executed_ready, executed, pumped, ReplicaState, Place, Executed, childless, name_of, next, members, last_slot, forgotten, mailed, at_slot, with_slot, slots_ahead, accepted_row}
+use Rattle.sc_law_walks.proofs.WalkLemmas.{entered_next, cleared}
+use Rattle.sc_live_plain.specs.PlainDefinitions.{Frame, IsFrame, Requests, IsPlainCommand, IsPlainCall, IsPlainBody, IsPlainFlight, IsPlainReplica, IsPlainFollower, IsPlainLeader, IsPlainAt, IsDue}
+use Rattle.sc_live_plain.proofs.PlainLemmas.{learn_is, learnt_plain, learnt_follower, at_found, with_at, with_each, recorded_after, counted_call, call_is, leading_at, following_at, none_stops, call_plain, entered_frame}
+use Rattle.sc_live_answers.specs.AnswerDefinitions.{command_token, body_token, flight_tokens, ready_tokens, replica_tokens, place_tokens}
 use Rattle.sc_live_answers.proofs.LinesProofs.CallEffects.{with_chosen, vote_row, Goes, pumps, entry_goes, leaves_itself}
-use Rattle.sc_live_plain.proofs.Lemmas.{accept_is}
+use Rattle.sc_live_plain.proofs.PlainLemmas.{accept_is}
 use Rattle.sc_live_plain.proofs.PlainRowsProofs.PlainAcceptAndLearnRows.{accepted_state}
 use Rattle.sc_live_answers.proofs.LinesProofs.PumpTokens.{IsFree, sent_token, others_token, answer_token, without_flight_tokens, taken_flight_tokens, with_voters_tokens, taken_slot_tokens, with_slot_tokens, pump_tokens, request_tokens}
 use Rattle.sc_live_answers.proofs.RequestsProofs.RequestRowEffects.{voter_at}
-use Rattle.sc_live_steps.proofs.FollowingProofs.Lemmas.{ready_of}
+use Rattle.sc_live_steps.proofs.FollowingProofs.FollowingLemmas.{ready_of}
 
 module _ (c : ℕ) (begun : Requests) (frame : Frame) (fact : IsFrame frame) (first : ReplicaState) (free : IsFree first) (bound : ℕ) where
   -- ---- entries of a leader

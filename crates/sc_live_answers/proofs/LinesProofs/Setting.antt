@@ -5,15 +5,15 @@ use Rattle.sc_base.specs.Definitions.{Among, is_member}
 use Rattle.sc_node_table.specs.Values.{Draw, Base}
 use Rattle.sc_actor.specs.Definitions.{is_quiet}
 use Rattle.sc_actor.proofs.Lemmas.{lawful-prefix}
-use Rattle.sc_node_table.specs.Definitions.{ReplicaState, next, members}
+use Rattle.sc_node_table.specs.NodeDefinitions.{ReplicaState, next, members}
 use Rattle.sc_scenario.specs.declared.scenario.scenarios.Scenario.{Scenario}
 use Rattle.sc_scenario.specs.scenario.Definitions.{ValidScenariosAreBounded}
-use Rattle.sc_meaning.specs.sound.Definitions.{world_at, births, schedule, system_of, as_nodes, Lawful}
-use Rattle.sc_live_steps.specs.calm.Definitions.{players, StandsQuiet, Rows}
-use Rattle.sc_live_journals.specs.charts.Definitions.{quiet_prefix}
+use Rattle.sc_meaning.specs.sound.SoundDefinitions.{world_at, births, schedule, system_of, as_nodes, Lawful}
+use Rattle.sc_live_steps.specs.calm.CalmDefinitions.{players, StandsQuiet, Rows}
+use Rattle.sc_live_journals.specs.charts.ChartDefinitions.{quiet_prefix}
 use Rattle.sc_live_answers.proofs.AnswersProofs.Segments.{prefix_whole}
-use Rattle.sc_live_plain.specs.Definitions.{IsAsking, NobodyWaits, AreSeated, replicas_after, DoHintsRise, AreFramesOf, QuietJournalsAsk, frame_at_rest, IsLinkedSetting, Setting, IsSetting, Frame}
-use Rattle.sc_live_answers.specs.Definitions.{AreReached, QuietGroupsHaveCuts, AreOfCuts, StandingGroupsAreRound, frames_after, AreAtNodes, QuietJournalsHaveFrames, QuietSettingsAreLinked, IsCalmJournal, IsPrefixOf, RestsAt, ChartHintsRise, setting_of, IsKnownPrefix}
+use Rattle.sc_live_plain.specs.PlainDefinitions.{IsAsking, NobodyWaits, AreSeated, replicas_after, DoHintsRise, AreFramesOf, QuietJournalsAsk, frame_at_rest, IsLinkedSetting, Setting, IsSetting, Frame}
+use Rattle.sc_live_answers.specs.AnswerDefinitions.{AreReached, QuietGroupsHaveCuts, AreOfCuts, StandingGroupsAreRound, frames_after, AreAtNodes, QuietJournalsHaveFrames, QuietSettingsAreLinked, IsCalmJournal, IsPrefixOf, RestsAt, ChartHintsRise, setting_of, IsKnownPrefix}
 use Rattle.sc_paxos_law.proofs.Lemmas.{place_among}
 
 -- the first rows of a lawful journal are one

@@ -2,9 +2,9 @@
 use Rattle.sc_live_answers.proofs.LinesProofs.Frames.{quiet_frames}
 use Rattle.sc_scenario.proofs.ScenarioProofs.Lemmas.{valid_scenarios_are_bounded}
 use Rattle.sc_live_answers.proofs.RequestsProofs.RequestLaws.{lawful_replicas_are_named_once}
-use Rattle.sc_live_answers.specs.Definitions.{QuietJournalsHaveFrames, QuietChartsCount}
+use Rattle.sc_live_answers.specs.AnswerDefinitions.{QuietJournalsHaveFrames, QuietChartsCount}
 use Rattle.sc_live_answers.proofs.AnswersProofs.SettingCharts.{charts_count}
-use Rattle.sc_live_journals.proofs.ChartsProofs.Lemmas.{led_stand_once, ends_fall}
+use Rattle.sc_live_journals.proofs.ChartsProofs.ChartLemmas.{led_stand_once, ends_fall}
 
 -- In a quiet lawful journal whose replicas are at nodes of the scenario, the frames of the replicas that lead are those of the groups that stand.
 pub quiet_journals_have_frames : QuietJournalsHaveFrames

@@ -1,10 +1,10 @@
 -- The setting of a quiet journal is linked.
 use Rattle.std.proofs.Common.{◌≡◌, Some, sym, ◌∙◌, ap, subst}
 use Rattle.std.proofs.lemmas.Option.{none-some}
-use Rattle.sc_live_steps.proofs.FollowingProofs.Lemmas.{least_in}
+use Rattle.sc_live_steps.proofs.FollowingProofs.FollowingLemmas.{least_in}
 use Rattle.sc_base.specs.Definitions.{least_of}
-use Rattle.sc_live_plain.specs.Definitions.{setting_at, IsHome, Frame}
-use Rattle.sc_live_answers.specs.Definitions.{QuietSettingsAreLinked}
+use Rattle.sc_live_plain.specs.PlainDefinitions.{setting_at, IsHome, Frame}
+use Rattle.sc_live_answers.specs.AnswerDefinitions.{QuietSettingsAreLinked}
 
 -- Its setting is linked, where its groups stand round the ring, links and routes name nodes, and those that a route names have a replica of its group.
 pub settings_linked : QuietSettingsAreLinked

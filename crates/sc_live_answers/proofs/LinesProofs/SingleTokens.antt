@@ -4,22 +4,22 @@ use Rattle.std.proofs.lemmas.Bool.{both_ways, eqb-true, eq-eqb, cond-true}
 use Rattle.std.proofs.lemmas.List.Sums.{sum_by-append, sum_by-cons}
 use Rattle.sc_base.specs.Definitions.{Among, client_actor, same_draw, is_member}
 use Rattle.sc_node_table.specs.Values.{Draw, Op, Command, Call, Base, OrderLine, AnswerBody, Mail, MailBody, Request, Answer, Prepare, Accept, Accepted, Learn, Node, Client, Flight, Seat, Row}
-use Rattle.sc_words.proofs.PaxosProofs.Lemmas.{find_found}
+use Rattle.sc_words.proofs.PaxosProofs.PaxosLemmas.{find_found}
 use Rattle.sc_actor.specs.Definitions.{mails, copies, numbered, value, System, waiting, kth}
-use Rattle.sc_client_table.specs.table.Definitions.{Client as ClientState}
-use Rattle.sc_node_table.specs.Definitions.{replica_of, is_node, ReplicaState, name_of, numbers_from, slots_ahead}
+use Rattle.sc_client_table.specs.table.TableDefinitions.{Client as ClientState}
+use Rattle.sc_node_table.specs.NodeDefinitions.{replica_of, is_node, ReplicaState, name_of, numbers_from, slots_ahead}
 use Rattle.sc_scenario.specs.declared.scenario.scenarios.Asks.{Asks}
 use Rattle.sc_scenario.specs.declared.scenario.scenarios.Scenario.{Scenario}
 use Rattle.sc_scenario.specs.scenario.Definitions.{ValidScenariosAreBounded}
-use Rattle.sc_meaning.specs.sound.Definitions.{Player, player_table, node_seat, client_seat, route_of, births, system_of, as_nodes}
-use Rattle.sc_live_orderly.specs.Definitions.{IsTidy, IsOrderly, rest, mail_with, is_born, under_way, owed}
-use Rattle.sc_live_orderly.proofs.Lemmas.{TakesFirst, is_born-from, seat_found}
+use Rattle.sc_meaning.specs.sound.SoundDefinitions.{Player, player_table, node_seat, client_seat, route_of, births, system_of, as_nodes}
+use Rattle.sc_live_orderly.specs.OrderlyDefinitions.{IsTidy, IsOrderly, rest, mail_with, is_born, under_way, owed}
+use Rattle.sc_live_orderly.proofs.OrderlyLemmas.{TakesFirst, is_born-from, seat_found}
 use Rattle.sc_paxos_law.proofs.Lemmas.{Among-right}
-use Rattle.sc_live_plain.specs.Definitions.{Frame, Requests, IsPlainBody, IsAsking, AreFarFromLast, AreSeated, NobodyWaits, IsLinkedSetting, Setting, IsSetting, IsAsideBody, IsCalmMail, IsWaiting, IsBegun}
-use Rattle.sc_live_steps.specs.calm.Definitions.{waiting_one}
+use Rattle.sc_live_plain.specs.PlainDefinitions.{Frame, Requests, IsPlainBody, IsAsking, AreFarFromLast, AreSeated, NobodyWaits, IsLinkedSetting, Setting, IsSetting, IsAsideBody, IsCalmMail, IsWaiting, IsBegun}
+use Rattle.sc_live_steps.specs.calm.CalmDefinitions.{waiting_one}
 use Rattle.sc_live_plain.proofs.CalmProofs.RequestPhaseClients as clients_of
-use Rattle.sc_live_plain.proofs.Lemmas.{AreSought, IsSought, sought_row, IsStage, stage, node_born, node_number, client_number, one_of_sum, Journal, replica_is, asking, IsHeld, some_is, map_among, client_is, mail_of, asked_node}
-use Rattle.sc_live_answers.specs.Definitions.{IsAnswerTo, AnswersAreExpected, command_token, body_token, mail_token, replica_tokens, player_token, token_owing}
+use Rattle.sc_live_plain.proofs.PlainLemmas.{AreSought, IsSought, sought_row, IsStage, stage, node_born, node_number, client_number, one_of_sum, Journal, replica_is, asking, IsHeld, some_is, map_among, client_is, mail_of, asked_node}
+use Rattle.sc_live_answers.specs.AnswerDefinitions.{IsAnswerTo, AnswersAreExpected, command_token, body_token, mail_token, replica_tokens, player_token, token_owing}
 use Rattle.sc_live_answers.proofs.RequestsProofs.RequestLineClients.{line_keeps}
 use Rattle.sc_live_answers.proofs.LinesProofs.JournalTokens.{falls}
 

@@ -2,16 +2,16 @@
 use Rattle.std.proofs.Common.{◌≡◌, ℕ, List, [], ◌∷◌, ◌⊎◌, inl, inr, refl, sym, ◌∙◌, subst}
 use Rattle.sc_base.specs.Definitions.{Among, Each}
 use Rattle.sc_node_table.specs.Values.{Command, Base, Node}
-use Rattle.sc_node_table.specs.Definitions.{NodeState, ReplicaState, name_of}
-use Rattle.sc_words.proofs.PaxosProofs.Lemmas.{Each-weaker}
+use Rattle.sc_node_table.specs.NodeDefinitions.{NodeState, ReplicaState, name_of}
+use Rattle.sc_words.proofs.PaxosProofs.PaxosLemmas.{Each-weaker}
 use Rattle.sc_scenario.specs.scenario.Definitions.{ValidScenariosAreBounded}
-use Rattle.sc_meaning.specs.sound.Definitions.{groups_at, Ahead, route_of, as_nodes}
-use Rattle.sc_law_entries.specs.ring.Definitions.{Sources}
-use Rattle.sc_law_entries.specs.names.Definitions.{OtherNamesAreFree, TakenOrdersAreAllowed, TakenWishesAreAllowed, WishesAreAtPositions, owner_in}
-use Rattle.sc_law_groups.proofs.GroupProofs.Lemmas.{h_of, Holds, IsOther, Steps, IsOneOf}
-use Rattle.sc_law_groups.specs.whole.Definitions.{section_op, MayQueue, ValidScenariosBeginWell}
-use Rattle.sc_law_groups.proofs.WholeProofs.Lemmas.{holds, orders_allowed}
-use Rattle.sc_live_answers.specs.Definitions.{AreNamedOnce, LawfulReplicasAreNamedOnce, LawfulQuietJournalsCountOnce, QuietJournalsCountOnce}
+use Rattle.sc_meaning.specs.sound.SoundDefinitions.{groups_at, Ahead, route_of, as_nodes}
+use Rattle.sc_law_entries.specs.ring.RingDefinitions.{Sources}
+use Rattle.sc_law_entries.specs.names.NameDefinitions.{OtherNamesAreFree, TakenOrdersAreAllowed, TakenWishesAreAllowed, WishesAreAtPositions, owner_in}
+use Rattle.sc_law_groups.proofs.GroupProofs.GroupLemmas.{h_of, Holds, IsOther, Steps, IsOneOf}
+use Rattle.sc_law_groups.specs.whole.WholeDefinitions.{section_op, MayQueue, ValidScenariosBeginWell}
+use Rattle.sc_law_groups.proofs.WholeProofs.WholeLemmas.{holds, orders_allowed}
+use Rattle.sc_live_answers.specs.AnswerDefinitions.{AreNamedOnce, LawfulReplicasAreNamedOnce, LawfulQuietJournalsCountOnce, QuietJournalsCountOnce}
 
 module _ (ahead : Ahead) (bases : List Base) (made : Base → Command → Type 0) (me : ℕ) (h : Base → Steps) where
   -- of these replicas one at most is the group's

@@ -2,16 +2,16 @@
 use Rattle.std.proofs.Common.{◌≡◌, ◌<◌, ◌^◌, Some, None, inl, ◌∙◌, ap}
 use Rattle.sc_base.specs.Definitions.{IsArc}
 use Rattle.sc_node_table.specs.Values.{Draw, Free}
-use Rattle.sc_group_table.specs.machine.Definitions.{Group}
-use Rattle.sc_meaning.specs.entries.Definitions.{StoreWorld, named_group}
-use Rattle.sc_law_entries.specs.ring.Definitions.{StoryWorld, first_recorded, recorded_after}
-use Rattle.sc_law_entries.proofs.RingProofs.Lemmas.{decisions, eff, arc_of, store_after, at_start, serving, groups_in, KeptWorld, kept_after}
+use Rattle.sc_group_table.specs.machine.MachineDefinitions.{Group}
+use Rattle.sc_meaning.specs.entries.EntryDefinitions.{StoreWorld, named_group}
+use Rattle.sc_law_entries.specs.ring.RingDefinitions.{StoryWorld, first_recorded, recorded_after}
+use Rattle.sc_law_entries.proofs.RingProofs.RingLemmas.{decisions, eff, arc_of, store_after, at_start, serving, groups_in, KeptWorld, kept_after}
 use Rattle.sc_scenario.specs.scenario.Definitions.{ValidScenariosAreBounded}
-use Rattle.sc_meaning.specs.sound.Definitions.{entries_at, decided_state, as_nodes}
-use Rattle.sc_law_entries.proofs.LogsProofs.Lemmas.{state_there}
-use Rattle.sc_law_entries.specs.names.Definitions.{OtherNamesAreFree, TakenOrdersAreAllowed, TakenWishesAreAllowed, WishesAreAtPositions}
-use Rattle.sc_law_groups.specs.whole.Definitions.{ValidScenariosBeginWell}
-use Rattle.sc_live_answers.specs.Definitions.{FreeGroupsHaveArcs}
+use Rattle.sc_meaning.specs.sound.SoundDefinitions.{entries_at, decided_state, as_nodes}
+use Rattle.sc_law_entries.proofs.LogsProofs.LogLemmas.{state_there}
+use Rattle.sc_law_entries.specs.names.NameDefinitions.{OtherNamesAreFree, TakenOrdersAreAllowed, TakenWishesAreAllowed, WishesAreAtPositions}
+use Rattle.sc_law_groups.specs.whole.WholeDefinitions.{ValidScenariosBeginWell}
+use Rattle.sc_live_answers.specs.AnswerDefinitions.{FreeGroupsHaveArcs}
 use Rattle.sc_live_answers.proofs.LinksProofs.LinkLogs.{sources, well, told, found}
 
 -- in a world that allowed entries made

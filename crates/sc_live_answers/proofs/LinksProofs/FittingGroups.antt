@@ -4,12 +4,12 @@ use Rattle.std.specs.Prelude.{length, ◌&&◌, ◌||◌, ◌==◌, not, nat_le,
 use Rattle.std.specs.FinMap.{empty, entries}
 use Rattle.std.proofs.lemmas.Bool.{and_from, cases_Bool, cond-true, cond-false, eq-eqb, le-leb, lt-ltb, ltb-true, ltb-false, or_parts}
 use Rattle.sc_base.specs.Definitions.{Arc, before, end_of, holds, offset, pos_of, is_member, united}
-use Rattle.sc_words.specs.commands.Definitions.{is_alone}
+use Rattle.sc_words.specs.commands.CommandDefinitions.{is_alone}
 use Rattle.sc_node_table.specs.Values.{Body, Offer, Core, Route, No, Apart, TooMany}
 use Rattle.sc_words.specs.declared.commands.bodies.Body.TheVariants as At
-use Rattle.sc_words.specs.ideal.Definitions.{holds_key, part_of, with_pairs}
-use Rattle.sc_group_table.specs.machine.Definitions.{Group, limit_refused, locked_in, migrate_refused, repart_refused, can_cut, can_join, can_merge, can_migrate, can_repart, frozen_of, has_key_of, may_merge, taken, body_no, no_of, offer_no, place_no, size_no, vote_of}
-use Rattle.sc_law_entries.proofs.RingProofs.Lemmas.{InsideOf, inside_part, no_shared, outside_next, IsOnRing, part_room as before_room}
+use Rattle.sc_words.specs.ideal.IdealDefinitions.{holds_key, part_of, with_pairs}
+use Rattle.sc_group_table.specs.machine.MachineDefinitions.{Group, limit_refused, locked_in, migrate_refused, repart_refused, can_cut, can_join, can_merge, can_migrate, can_repart, frozen_of, has_key_of, may_merge, taken, body_no, no_of, offer_no, place_no, size_no, vote_of}
+use Rattle.sc_law_entries.proofs.RingProofs.RingLemmas.{InsideOf, inside_part, no_shared, outside_next, IsOnRing, part_room as before_room}
 use Rattle.sc_live_answers.proofs.VotesProofs.OpenedTransactions.{opening_refused}
 
 -- two groups, where one ends the other begins, and each has what lies on its arc

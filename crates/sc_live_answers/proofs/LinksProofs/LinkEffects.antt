@@ -5,17 +5,17 @@ use Rattle.std.proofs.lemmas.Bool.{cond_both, cond-true, cond-false}
 use Rattle.std.proofs.lemmas.Option.{none-some, same_Some}
 use Rattle.sc_base.specs.Definitions.{same_draw, united}
 use Rattle.sc_node_table.specs.Values.{Draw, Body, Offer, Command, Call, Join, Leave, Split, Begin, Prepared, RecordVote, GiveUp, Finish, Watched, RecordWatch, Core, Coordinating, Effect, Link, Route, Frozen, Gift, No, Outcome, Abort, Merged, Moved, Migrated, Divided, Past, Vote}
-use Rattle.sc_words.specs.commands.Definitions.{is_alone, is_changed, decided_in, is_divided}
+use Rattle.sc_words.specs.commands.CommandDefinitions.{is_alone, is_changed, decided_in, is_divided}
 use Rattle.sc_words.specs.declared.commands.bodies.Body.TheVariants as At
 use Rattle.sc_words.specs.declared.commands.effects.Effect.TheVariants as Was
 use Rattle.sc_words.specs.declared.commands.votes.Vote.TheVariants as Ballot
-use Rattle.sc_group_table.specs.machine.Definitions.{Group, decided, applied, splits_at_once, left_link, left_members, right_members, right_core, left_group, frozen_of, merged_link, merged_succ, merged_route, closing_group, giving_group, taking_group, part_gift, succ_with, migrated_group, past_of, vote_of, watch_vote_of}
-use Rattle.sc_meaning.specs.entries.Definitions.{division_in, division_of}
+use Rattle.sc_group_table.specs.machine.MachineDefinitions.{Group, decided, applied, splits_at_once, left_link, left_members, right_members, right_core, left_group, frozen_of, merged_link, merged_succ, merged_route, closing_group, giving_group, taking_group, part_gift, succ_with, migrated_group, past_of, vote_of, watch_vote_of}
+use Rattle.sc_meaning.specs.entries.EntryDefinitions.{division_in, division_of}
 use Rattle.sc_meaning.specs.declared.entries.Division.{Division}
-use Rattle.sc_law_entries.specs.ring.Definitions.{vote_in, watch_vote_in, with_answer, Sources, IsVoteCast, IsAllowed, Groups, IsCoordinating, Facts, Story, Stories, put, with_story, unsigned, offer_for, new_story, vote_by, with_vote, with_watch_vote, with_decision, with_asked, stories_after}
-use Rattle.sc_law_entries.proofs.RingProofs.Lemmas.{from_at, own_story}
+use Rattle.sc_law_entries.specs.ring.RingDefinitions.{vote_in, watch_vote_in, with_answer, Sources, IsVoteCast, IsAllowed, Groups, IsCoordinating, Facts, Story, Stories, put, with_story, unsigned, offer_for, new_story, vote_by, with_vote, with_watch_vote, with_decision, with_asked, stories_after}
+use Rattle.sc_law_entries.proofs.RingProofs.RingLemmas.{from_at, own_story}
 use Rattle.sc_law_entries.proofs.RingProofs.Rings.{no_division as no_child}
-use Rattle.sc_law_walks.proofs.Lemmas.{MachineWalk, machine_step, EndsIt, ChangesNothing}
+use Rattle.sc_law_walks.proofs.WalkLemmas.{MachineWalk, machine_step, EndsIt, ChangesNothing}
 use Rattle.sc_live_answers.proofs.LinksProofs.LinkOutcomes.{Good, IsLinkedSo, GivesAllowedOrder, good_come, more_good, kept_links}
 
 -- ---- what is said of nodes

@@ -9,18 +9,18 @@ use Rattle.sc_node_table.specs.Values.{Draw, Body, Offer, Command, RecordVote, F
 use Rattle.sc_words.specs.declared.commands.bodies.Body.TheVariants as At
 use Rattle.sc_words.specs.declared.commands.effects.Effect.TheVariants as Was
 use Rattle.sc_words.specs.declared.commands.votes.Vote.TheVariants as Ballot
-use Rattle.sc_group_table.specs.machine.Definitions.{Group, group_of, state_after, applied, child_of, participant_answered, asks_watcher, vote_recorded, participant_after}
-use Rattle.sc_meaning.specs.entries.Definitions.{division_of, birth_of, StoreWorld, is_named, named_group, after_command, world_of}
+use Rattle.sc_group_table.specs.machine.MachineDefinitions.{Group, group_of, state_after, applied, child_of, participant_answered, asks_watcher, vote_recorded, participant_after}
+use Rattle.sc_meaning.specs.entries.EntryDefinitions.{division_of, birth_of, StoreWorld, is_named, named_group, after_command, world_of}
 use Rattle.sc_meaning.specs.declared.entries.Division.{Division}
 use Rattle.sc_meaning.specs.declared.entries.LogEntry.{LogEntry}
-use Rattle.sc_meaning.proofs.EntriesProofs.Lemmas.{draw_cases, found_name}
-use Rattle.sc_law_entries.proofs.HistoryProofs.Lemmas.{own_first, other_first, logs_make_states, applied_same}
-use Rattle.sc_law_entries.specs.ring.Definitions.{Sources, IsVoteCast, IsAllowed, AreAllowed, StoryWorld, first_recorded, recorded_stories, recorded_next, recorded_after, Groups, Facts, BeginInPlace, stories_of, Story, Stories, put, unsigned, offer_for, stories_after}
-use Rattle.sc_law_entries.proofs.RingProofs.Lemmas.{at-same, at-other, from_at, arcs_in, own_story, same_lock, some_none, allowed_entries_stay_allowed, store_after, at_start, groups_in, with_child, groups_are, KeptWorld, kept_after, fits}
-use Rattle.sc_words.proofs.PaxosProofs.Lemmas.{find_found}
+use Rattle.sc_meaning.proofs.EntriesProofs.EntryLemmas.{draw_cases, found_name}
+use Rattle.sc_law_entries.proofs.HistoryProofs.HistoryLemmas.{own_first, other_first, logs_make_states, applied_same}
+use Rattle.sc_law_entries.specs.ring.RingDefinitions.{Sources, IsVoteCast, IsAllowed, AreAllowed, StoryWorld, first_recorded, recorded_stories, recorded_next, recorded_after, Groups, Facts, BeginInPlace, stories_of, Story, Stories, put, unsigned, offer_for, stories_after}
+use Rattle.sc_law_entries.proofs.RingProofs.RingLemmas.{at-same, at-other, from_at, arcs_in, own_story, same_lock, some_none, allowed_entries_stay_allowed, store_after, at_start, groups_in, with_child, groups_are, KeptWorld, kept_after, fits}
+use Rattle.sc_words.proofs.PaxosProofs.PaxosLemmas.{find_found}
 use Rattle.sc_paxos_law.proofs.Lemmas.{from_map}
-use Rattle.sc_law_entries.proofs.LogsProofs.Lemmas.{allowed_parts, allows, groups_allow_others, recorded_append}
-use Rattle.sc_law_entries.specs.logs.Definitions.{MakesAllowed}
+use Rattle.sc_law_entries.proofs.LogsProofs.LogLemmas.{allowed_parts, allows, groups_allow_others, recorded_append}
+use Rattle.sc_law_entries.specs.logs.LogDefinitions.{MakesAllowed}
 use Rattle.sc_live_answers.proofs.LinksProofs.LinkOutcomes.{Good, IsLinkedSo, GivesAllowedOrder}
 use Rattle.sc_live_answers.proofs.LinksProofs.LinkEffects.{Lands, lands}
 use Rattle.sc_live_answers.proofs.RestProofs.BoundGroups.{stays_or_ends, takes_node}

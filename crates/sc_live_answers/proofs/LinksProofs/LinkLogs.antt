@@ -3,26 +3,26 @@ use Rattle.std.proofs.Common.{◌≡◌, ℕ, ◌≤◌, ◌⊎◌, List, [], �
 use Rattle.std.proofs.lemmas.Option.{same_Some}
 use Rattle.sc_base.specs.Definitions.{Among, IsRoster, is_member}
 use Rattle.sc_node_table.specs.Values.{Draw, Command, Base, Free, Route}
-use Rattle.sc_group_table.specs.machine.Definitions.{Group, group_of, state_after}
+use Rattle.sc_group_table.specs.machine.MachineDefinitions.{Group, group_of, state_after}
 use Rattle.sc_scenario.specs.scenario.Definitions.{place_right, base_at, IsValid, ValidScenariosAreBounded}
 use Rattle.sc_scenario.specs.declared.scenario.scenarios.Scenario.{Scenario}
-use Rattle.sc_meaning.specs.sound.Definitions.{groups_at, entries_at, world_at, decided_log, decided_state, as_nodes, Lawful, route_of}
+use Rattle.sc_meaning.specs.sound.SoundDefinitions.{groups_at, entries_at, world_at, decided_log, decided_state, as_nodes, Lawful, route_of}
 use Rattle.sc_meaning.specs.declared.entries.LogEntry.{LogEntry}
-use Rattle.sc_meaning.specs.entries.Definitions.{StoreWorld, first_world, named_group, world_of}
-use Rattle.sc_meaning.proofs.EntriesProofs.Lemmas.{world_append}
-use Rattle.sc_law_entries.specs.history.Definitions.{log_in}
-use Rattle.sc_law_entries.proofs.HistoryProofs.Lemmas.{logs_make_states}
-use Rattle.sc_law_entries.specs.ring.Definitions.{Sources, first_recorded}
-use Rattle.sc_law_entries.proofs.RingProofs.Lemmas.{store_after}
-use Rattle.sc_law_entries.specs.logs.Definitions.{Rows, AreFound, DecideInTurn}
-use Rattle.sc_law_entries.proofs.LogsProofs.Lemmas.{stays_there, log_append, deciding_rows, groups_are_found, Told, IsBorn, state_there}
-use Rattle.sc_law_entries.specs.names.Definitions.{OtherNamesAreFree, TakenOrdersAreAllowed, TakenWishesAreAllowed, WishesAreAtPositions, owner_in}
-use Rattle.sc_law_groups.specs.whole.Definitions.{BeginsWell, IsReady, section_op, OrdersAreAllowed, ValidScenariosBeginWell}
-use Rattle.sc_law_groups.proofs.WholeProofs.Lemmas.{holds, members_stay_rosters, orders_allowed, Holds}
-use Rattle.sc_live_answers.specs.Definitions.{WasMember, WereMembers, AreAllFree, LinksWereMembers}
+use Rattle.sc_meaning.specs.entries.EntryDefinitions.{StoreWorld, first_world, named_group, world_of}
+use Rattle.sc_meaning.proofs.EntriesProofs.EntryLemmas.{world_append}
+use Rattle.sc_law_entries.specs.history.HistoryDefinitions.{log_in}
+use Rattle.sc_law_entries.proofs.HistoryProofs.HistoryLemmas.{logs_make_states}
+use Rattle.sc_law_entries.specs.ring.RingDefinitions.{Sources, first_recorded}
+use Rattle.sc_law_entries.proofs.RingProofs.RingLemmas.{store_after}
+use Rattle.sc_law_entries.specs.logs.LogDefinitions.{Rows, AreFound, DecideInTurn}
+use Rattle.sc_law_entries.proofs.LogsProofs.LogLemmas.{stays_there, log_append, deciding_rows, groups_are_found, Told, IsBorn, state_there}
+use Rattle.sc_law_entries.specs.names.NameDefinitions.{OtherNamesAreFree, TakenOrdersAreAllowed, TakenWishesAreAllowed, WishesAreAtPositions, owner_in}
+use Rattle.sc_law_groups.specs.whole.WholeDefinitions.{BeginsWell, IsReady, section_op, OrdersAreAllowed, ValidScenariosBeginWell}
+use Rattle.sc_law_groups.proofs.WholeProofs.WholeLemmas.{holds, members_stay_rosters, orders_allowed, Holds}
+use Rattle.sc_live_answers.specs.AnswerDefinitions.{WasMember, WereMembers, AreAllFree, LinksWereMembers}
 use Rattle.sc_live_answers.proofs.LinksProofs.LinkOutcomes.{Good, IsLinkedSo}
 use Rattle.sc_live_answers.proofs.LinksProofs.LinkEntries.{groups_then, Come, all_linked, moved}
-use Rattle.sc_live_steps.proofs.OrderStepsProofs.Lemmas.{right_none}
+use Rattle.sc_live_steps.proofs.OrderStepsProofs.OrderStepLemmas.{right_none}
 pub use Rattle.sc_law_groups.proofs.WholeProofs.LineGroups.{of_up_to}
 use Rattle.sc_law_groups.proofs.WholeProofs.LineGroups.{in_up_to, right_in}
 

@@ -6,9 +6,9 @@ use Rattle.sc_base.specs.Definitions.{is_member, with_member, united}
 use Rattle.sc_node_table.specs.Values.{Draw, Offer, Core, Link, Route, Frozen, Merged}
 use Rattle.sc_base.proofs.Lemmas.{grows}
 use Rattle.sc_words.specs.declared.commands.votes.Vote.TheVariants as Ballot
-use Rattle.sc_group_table.specs.machine.Definitions.{Group}
-use Rattle.sc_law_entries.specs.ring.Definitions.{Sources, Story, Stories}
-use Rattle.sc_meaning.proofs.EntriesProofs.Lemmas.{one_of as or_true}
+use Rattle.sc_group_table.specs.machine.MachineDefinitions.{Group}
+use Rattle.sc_law_entries.specs.ring.RingDefinitions.{Sources, Story, Stories}
+use Rattle.sc_meaning.proofs.EntriesProofs.EntryLemmas.{one_of as or_true}
 use Rattle.std.proofs.lemmas.List.Folds.{list_any-append}
 
 -- some nodes, of each of which something holds with a group's name

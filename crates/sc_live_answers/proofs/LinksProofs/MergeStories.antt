@@ -4,20 +4,20 @@ use Rattle.std.proofs.lemmas.Bool.{cond_both}
 use Rattle.std.proofs.lemmas.Option.{same_Some}
 use Rattle.sc_node_table.specs.Values.{Draw, Body, Offer, Command, Noop, Call, Join, Leave, Split, Begin, Prepared, RecordVote, GiveUp, Finish, Watched, RecordWatch, Base, Core, Coordinating, Effect, Route, Frozen, Heard, Outcome, Past, Vote}
 use Rattle.sc_base.proofs.Lemmas.{same_name}
-use Rattle.sc_words.specs.commands.Definitions.{is_alone, decided_in, is_changed}
+use Rattle.sc_words.specs.commands.CommandDefinitions.{is_alone, decided_in, is_changed}
 use Rattle.sc_words.specs.declared.commands.bodies.Body.TheVariants as At
 use Rattle.sc_words.specs.declared.commands.effects.Effect.TheVariants as Was
 use Rattle.sc_words.specs.declared.commands.votes.Outcome.TheVariants as Is
 use Rattle.sc_words.specs.declared.commands.votes.Vote.TheVariants as Vows
-use Rattle.sc_meaning.specs.entries.Definitions.{named_group}
+use Rattle.sc_meaning.specs.entries.EntryDefinitions.{named_group}
 use Rattle.sc_meaning.specs.declared.entries.LogEntry.{LogEntry}
-use Rattle.sc_group_table.specs.machine.Definitions.{Group, applied, begin_refused, refused_in, locked_in, merged_route, part_gift, decided}
-use Rattle.sc_law_entries.specs.ring.Definitions.{AreAllowed, IsAllowed, Sources, StoryWorld, first_recorded, recorded_stories, recorded_after, recorded_next, Groups, IsCoordinating, LockOk, BeginInPlace, stories_of, Stories, Story, new_story, put, stories_after, vote_in, watch_vote_in, with_answer, with_asked, with_decision, with_vote, with_watch_vote}
-use Rattle.sc_law_entries.proofs.RingProofs.Lemmas.{arcs_in, at_start, Kept, groups_in, Ring, KeptWorld, kept_on}
-use Rattle.sc_law_groups.proofs.WholeProofs.Lemmas.{comes, dull_same}
+use Rattle.sc_group_table.specs.machine.MachineDefinitions.{Group, applied, begin_refused, refused_in, locked_in, merged_route, part_gift, decided}
+use Rattle.sc_law_entries.specs.ring.RingDefinitions.{AreAllowed, IsAllowed, Sources, StoryWorld, first_recorded, recorded_stories, recorded_after, recorded_next, Groups, IsCoordinating, LockOk, BeginInPlace, stories_of, Stories, Story, new_story, put, stories_after, vote_in, watch_vote_in, with_answer, with_asked, with_decision, with_vote, with_watch_vote}
+use Rattle.sc_law_entries.proofs.RingProofs.RingLemmas.{arcs_in, at_start, Kept, groups_in, Ring, KeptWorld, kept_on}
+use Rattle.sc_law_groups.proofs.WholeProofs.WholeLemmas.{comes, dull_same}
 use Rattle.sc_law_groups.proofs.WholeProofs.Fitting.{put_so, with_story_so}
 use Rattle.sc_live_answers.proofs.LinksProofs.FittingGroups.{none_of}
-use Rattle.sc_law_walks.proofs.Lemmas.{MachineWalk, machine_step, EndsIt, ChangesNothing}
+use Rattle.sc_law_walks.proofs.WalkLemmas.{MachineWalk, machine_step, EndsIt, ChangesNothing}
 
 -- ---- where a decision leads
 

@@ -4,11 +4,11 @@ use Rattle.std.specs.Option.{option_map}
 use Rattle.std.proofs.lemmas.Bool.{cases_Bool, cond-true, cond-false}
 use Rattle.sc_base.specs.Definitions.{Among}
 use Rattle.sc_node_table.specs.Values.{Command, Noop, Call, Flight}
-use Rattle.sc_words.specs.paxos.Definitions.{flight_at}
-use Rattle.sc_words.proofs.PaxosProofs.Lemmas.{find_found}
-use Rattle.sc_node_table.specs.Definitions.{is_act, ReplicaState, listed, at_slot}
-use Rattle.sc_live_steps.specs.orders.Definitions.{work_by, works_in, works_flying, works_ready, works, Work}
-use Rattle.sc_live_steps.proofs.OrderStepsProofs.Lemmas.{among-left, among-right}
+use Rattle.sc_words.specs.paxos.PaxosDefinitions.{flight_at}
+use Rattle.sc_words.proofs.PaxosProofs.PaxosLemmas.{find_found}
+use Rattle.sc_node_table.specs.NodeDefinitions.{is_act, ReplicaState, listed, at_slot}
+use Rattle.sc_live_steps.specs.orders.OrderDefinitions.{work_by, works_in, works_flying, works_ready, works, Work}
+use Rattle.sc_live_steps.proofs.OrderStepsProofs.OrderStepLemmas.{among-left, among-right}
 use Rattle.sc_live_answers.proofs.LedGroupsProofs.JoiningMembers.{HasAct}
 
 abbrev IsWork : Command → Type 0

@@ -1,9 +1,9 @@
 -- Which groups go while an order is under way since a quiet prefix of a calm journal.
 use Rattle.sc_live_answers.proofs.VotesProofs.RecordedLocks.{merges_end_at_owner as merges_go_home_by}
 use Rattle.sc_scenario.proofs.ScenarioProofs.Lemmas.{valid_scenarios_are_bounded}
-use Rattle.sc_law_groups.proofs.WholeProofs.Lemmas.{valid_scenarios_begin_well}
-use Rattle.sc_law_entries.proofs.NamesProofs.Lemmas.{orders_are_allowed_allowed, orders_are_allowed_wishes, orders_are_allowed_positions, names_have_one_owner_others}
-use Rattle.sc_live_answers.specs.Definitions.{MergesEndAtOwner, EndingGroupsBegin, EndingGroupsGoOn, OneGroupEnds, GroupsEndInTurn}
+use Rattle.sc_law_groups.proofs.WholeProofs.WholeLemmas.{valid_scenarios_begin_well}
+use Rattle.sc_law_entries.proofs.NamesProofs.NameLemmas.{orders_are_allowed_allowed, orders_are_allowed_wishes, orders_are_allowed_positions, names_have_one_owner_others}
+use Rattle.sc_live_answers.specs.AnswerDefinitions.{MergesEndAtOwner, EndingGroupsBegin, EndingGroupsGoOn, OneGroupEnds, GroupsEndInTurn}
 use Rattle.sc_live_answers.proofs.OrdersProofs.EndingGroupsAtStart.{ending_groups_begin as ending_groups_begin_by}
 use Rattle.sc_live_answers.proofs.QuietProofs.QuietPrefixLaws.{prefixes_are_found, still_prefixes_are_free, prefixes_go_in_turn}
 use Rattle.sc_live_answers.proofs.LedGroupsProofs.LedGroupLaws.{ends_are_logged, replicas_run_logs, groups_begin_standing}

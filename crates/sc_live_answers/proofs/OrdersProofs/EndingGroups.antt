@@ -2,16 +2,16 @@
 use Rattle.std.proofs.Common.{◌≡◌, ◌++◌, ◌⊎◌, ℕ, Option, Some, None, inl, inr, refl, sym, ◌∙◌, ap}
 use Rattle.std.proofs.lemmas.Option.{none-some}
 use Rattle.sc_node_table.specs.Values.{Draw, Offer, Route}
-use Rattle.sc_node_table.specs.Definitions.{ReplicaState}
-use Rattle.sc_law_entries.specs.ring.Definitions.{Story}
+use Rattle.sc_node_table.specs.NodeDefinitions.{ReplicaState}
+use Rattle.sc_law_entries.specs.ring.RingDefinitions.{Story}
 use Rattle.sc_scenario.specs.declared.scenario.scenarios.Scenario.{Scenario}
-use Rattle.sc_meaning.specs.sound.Definitions.{as_nodes}
-use Rattle.sc_law_groups.specs.whole.Definitions.{stories_at}
-use Rattle.sc_live_steps.specs.calm.Definitions.{Rows}
-use Rattle.sc_live_journals.specs.logs.Definitions.{IsGroupOf}
-use Rattle.sc_live_steps.specs.orders.Definitions.{Stage}
-use Rattle.sc_live_plain.specs.Definitions.{replicas_after}
-use Rattle.sc_live_answers.specs.Definitions.{OneGroupEnds, GroupsEndInTurn, HasMerged, IsGoingSince, WasGone, IsCalmJournal, IsPrefixOf, StillPrefixesAreFree, PrefixesAreFound, IsFoundPrefix, IsQuietPrefix, PrefixesGoInTurn, OnlyOneEnds, MergesEndAtOwner}
+use Rattle.sc_meaning.specs.sound.SoundDefinitions.{as_nodes}
+use Rattle.sc_law_groups.specs.whole.WholeDefinitions.{stories_at}
+use Rattle.sc_live_steps.specs.calm.CalmDefinitions.{Rows}
+use Rattle.sc_live_journals.specs.logs.LogDefinitions.{IsGroupOf}
+use Rattle.sc_live_steps.specs.orders.OrderDefinitions.{Stage}
+use Rattle.sc_live_plain.specs.PlainDefinitions.{replicas_after}
+use Rattle.sc_live_answers.specs.AnswerDefinitions.{OneGroupEnds, GroupsEndInTurn, HasMerged, IsGoingSince, WasGone, IsCalmJournal, IsPrefixOf, StillPrefixesAreFree, PrefixesAreFound, IsFoundPrefix, IsQuietPrefix, PrefixesGoInTurn, OnlyOneEnds, MergesEndAtOwner}
 use Rattle.sc_live_answers.proofs.LedGroupsProofs.GuidedGroups.{named_there}
 
 -- the participant of a story, if it has one

@@ -4,21 +4,21 @@ use Rattle.std.proofs.lemmas.Option.{none-some, same_Some}
 use Rattle.sc_base.specs.Definitions.{Among, Each}
 use Rattle.sc_node_table.specs.Values.{Draw, Seat, Deliver, Command, Split, Begin, Base, Route, Flight}
 use Rattle.sc_actor.specs.Definitions.{row_of}
-use Rattle.sc_group_table.specs.machine.Definitions.{Group}
-use Rattle.sc_node_table.specs.Definitions.{Place, ReplicaState, born_replica, listed, next, slots_ahead}
-use Rattle.sc_words.proofs.PaxosProofs.Lemmas.{Each-among}
+use Rattle.sc_group_table.specs.machine.MachineDefinitions.{Group}
+use Rattle.sc_node_table.specs.NodeDefinitions.{Place, ReplicaState, born_replica, listed, next, slots_ahead}
+use Rattle.sc_words.proofs.PaxosProofs.PaxosLemmas.{Each-among}
 use Rattle.sc_scenario.specs.declared.scenario.scenarios.Scenario.{Scenario}
-use Rattle.sc_meaning.specs.sound.Definitions.{groups_at, Player, as_nodes, births, player_table}
-use Rattle.sc_live_steps.specs.following.Definitions.{Course}
-use Rattle.sc_live_steps.specs.calm.Definitions.{StandsQuiet, Rows}
-use Rattle.sc_live_journals.specs.groups.Definitions.{RowElects, RowLeads, RowMakes, RowPasses, RowRests, RowTakes}
-use Rattle.sc_live_journals.specs.logs.Definitions.{IsGroupOf, logged_sets}
-use Rattle.sc_live_journals.proofs.LogsProofs.Lemmas.{views_are_replicas}
-use Rattle.sc_live_steps.specs.orders.Definitions.{OfQuestion, OfVote, OfOutcome, LastTakes, OneTakes, TwoTakes, LastFreed, OneFreed, TwoFreed, IsStepOf, BeginsDeal, ByRest, ByOrder, ByChange, ByDeal, ByPassing, ByAsking, ByTaking, ByVote, ByNo, ByHearing, ByDeciding, ByEnd, work_by, works, Turn, First, Lone, Next, Answers, Asking, Bond, Bound, Elsewhere, Ends, Errand, Here, Opens, Question, Records, Reply, Scene, Unbound, Work, is_watch, Asks, Closes, ClosesBoth, Deal, Filed, IsAt, Leg, Mailed, Ordered, Recorded, Replied, SentOn, Stage, Still, Weighs, asked_one, bound_by, closing, coordinator, heard, parties_of, party_of}
-use Rattle.sc_live_journals.specs.rows.Definitions.{view_at, IsReplicasRow, with_event}
-use Rattle.sc_live_journals.specs.scenes.Definitions.{IsNowhere, GoesBy, scene_at}
-use Rattle.sc_live_plain.specs.Definitions.{replicas_after}
-use Rattle.sc_live_answers.specs.Definitions.{Executed, HasDone, HasStepped, Rested, doer, doers_of, EndingGroupsGoOn, HasBegun, HasMerged, IsGoingSince, NoneGone, OwnerStood, WasGone, IsReachedSo, AreSent, IsYoungAt, PrefixesAreFound, EndsAreLogged, GroupsBeginStanding, over_at, tx_of, IsSentStep, ReplicasRunLogs, state_at, slot_leaders_at, IsAllowedBy, ReplicasAreRecorded, sources_of, LeadsSince, ContinuesSince}
+use Rattle.sc_meaning.specs.sound.SoundDefinitions.{groups_at, Player, as_nodes, births, player_table}
+use Rattle.sc_live_steps.specs.following.FollowingDefinitions.{Course}
+use Rattle.sc_live_steps.specs.calm.CalmDefinitions.{StandsQuiet, Rows}
+use Rattle.sc_live_journals.specs.groups.GroupDefinitions.{RowElects, RowLeads, RowMakes, RowPasses, RowRests, RowTakes}
+use Rattle.sc_live_journals.specs.logs.LogDefinitions.{IsGroupOf, logged_sets}
+use Rattle.sc_live_journals.proofs.LogsProofs.GroupLogLemmas.{views_are_replicas}
+use Rattle.sc_live_steps.specs.orders.OrderDefinitions.{OfQuestion, OfVote, OfOutcome, LastTakes, OneTakes, TwoTakes, LastFreed, OneFreed, TwoFreed, IsStepOf, BeginsDeal, ByRest, ByOrder, ByChange, ByDeal, ByPassing, ByAsking, ByTaking, ByVote, ByNo, ByHearing, ByDeciding, ByEnd, work_by, works, Turn, First, Lone, Next, Answers, Asking, Bond, Bound, Elsewhere, Ends, Errand, Here, Opens, Question, Records, Reply, Scene, Unbound, Work, is_watch, Asks, Closes, ClosesBoth, Deal, Filed, IsAt, Leg, Mailed, Ordered, Recorded, Replied, SentOn, Stage, Still, Weighs, asked_one, bound_by, closing, coordinator, heard, parties_of, party_of}
+use Rattle.sc_live_journals.specs.rows.RowDefinitions.{view_at, IsReplicasRow, with_event}
+use Rattle.sc_live_journals.specs.scenes.SceneDefinitions.{IsNowhere, GoesBy, scene_at}
+use Rattle.sc_live_plain.specs.PlainDefinitions.{replicas_after}
+use Rattle.sc_live_answers.specs.AnswerDefinitions.{Executed, HasDone, HasStepped, Rested, doer, doers_of, EndingGroupsGoOn, HasBegun, HasMerged, IsGoingSince, NoneGone, OwnerStood, WasGone, IsReachedSo, AreSent, IsYoungAt, PrefixesAreFound, EndsAreLogged, GroupsBeginStanding, over_at, tx_of, IsSentStep, ReplicasRunLogs, state_at, slot_leaders_at, IsAllowedBy, ReplicasAreRecorded, sources_of, LeadsSince, ContinuesSince}
 use Rattle.sc_live_answers.proofs.OrdersProofs.OrderDeliveries.{there_or}
 use Rattle.sc_live_answers.proofs.WorkProofs.LeaderDeeds.{lead_runs_so, lead_works, one_not_none, same_one}
 use Rattle.sc_live_answers.proofs.RestProofs.LeaderWork.{IsWorkAt, OfOrder, OfOutcome, OfQuestion, OfVote, at_stage, was_there}

@@ -7,21 +7,21 @@ use Rattle.sc_node_table.specs.Values.{Draw, Seat, Base, Route, OrderLine, Order
 use Rattle.sc_actor.specs.declared.rows.Event.TheVariants.{Told}
 use Rattle.sc_actor.specs.declared.rows.Input.TheVariants.{Told as ToldInput}
 use Rattle.sc_actor.specs.Definitions.{value, row_of}
-use Rattle.sc_client_table.specs.table.Definitions.{Client as ClientState}
-use Rattle.sc_group_table.specs.machine.Definitions.{Group}
-use Rattle.sc_node_table.specs.Definitions.{NodeState, group_of_order, on_order, ordered_of, replica_of, ordered_row, untaken, ReplicaState, born_replica, listed, next, slots_ahead}
+use Rattle.sc_client_table.specs.table.TableDefinitions.{Client as ClientState}
+use Rattle.sc_group_table.specs.machine.MachineDefinitions.{Group}
+use Rattle.sc_node_table.specs.NodeDefinitions.{NodeState, group_of_order, on_order, ordered_of, replica_of, ordered_row, untaken, ReplicaState, born_replica, listed, next, slots_ahead}
 use Rattle.sc_scenario.specs.declared.scenario.scenarios.Scenario.{Scenario}
-use Rattle.sc_meaning.specs.sound.Definitions.{Player, as_nodes, births, player_table}
-use Rattle.sc_live_steps.specs.calm.Definitions.{Rows}
-use Rattle.sc_live_journals.specs.logs.Definitions.{IsGroupOf}
-use Rattle.sc_live_journals.proofs.LogsProofs.Lemmas.{views_are_replicas}
-use Rattle.sc_live_steps.specs.orders.Definitions.{works, Here, Scene, Asks, Closes, ClosesBoth, IsAt, Ordered, Recorded, Replied, SentOn, Stage, Still, Weighs}
-use Rattle.sc_live_steps.proofs.OrderStepsProofs.Lemmas.{cases-draw, tables-order}
-use Rattle.sc_live_journals.specs.rows.Definitions.{view_at, with_event}
-use Rattle.sc_live_journals.proofs.RowsProofs.Lemmas.{view_is, view_others}
-use Rattle.sc_live_journals.specs.scenes.Definitions.{ByAnother, ByLeader, FindsQuiet, IsGivenInQuiet, scene_at, IsOfGroup, IsTablesRow, LeavesOrMakes}
-use Rattle.sc_live_journals.proofs.ScenesProofs.Lemmas.{now_is, rows_taken, was_is}
-use Rattle.sc_live_answers.specs.Definitions.{EndingGroupsBegin, HasBegun, IsGoingSince, WasGone, IsCalmJournal, IsPrefixOf, PrefixesAreFound, EndsAreLogged, tx_of, RestsAt, AreSeen}
+use Rattle.sc_meaning.specs.sound.SoundDefinitions.{Player, as_nodes, births, player_table}
+use Rattle.sc_live_steps.specs.calm.CalmDefinitions.{Rows}
+use Rattle.sc_live_journals.specs.logs.LogDefinitions.{IsGroupOf}
+use Rattle.sc_live_journals.proofs.LogsProofs.GroupLogLemmas.{views_are_replicas}
+use Rattle.sc_live_steps.specs.orders.OrderDefinitions.{works, Here, Scene, Asks, Closes, ClosesBoth, IsAt, Ordered, Recorded, Replied, SentOn, Stage, Still, Weighs}
+use Rattle.sc_live_steps.proofs.OrderStepsProofs.OrderStepLemmas.{cases-draw, tables-order}
+use Rattle.sc_live_journals.specs.rows.RowDefinitions.{view_at, with_event}
+use Rattle.sc_live_journals.proofs.RowsProofs.RowLemmas.{view_is, view_others}
+use Rattle.sc_live_journals.specs.scenes.SceneDefinitions.{ByAnother, ByLeader, FindsQuiet, IsGivenInQuiet, scene_at, IsOfGroup, IsTablesRow, LeavesOrMakes}
+use Rattle.sc_live_journals.proofs.ScenesProofs.SceneLemmas.{now_is, rows_taken, was_is}
+use Rattle.sc_live_answers.specs.AnswerDefinitions.{EndingGroupsBegin, HasBegun, IsGoingSince, WasGone, IsCalmJournal, IsPrefixOf, PrefixesAreFound, EndsAreLogged, tx_of, RestsAt, AreSeen}
 use Rattle.sc_live_answers.proofs.LedGroupsProofs.GuidedGroups.{named_there}
 use Rattle.sc_live_answers.proofs.ErrandsProofs.QuestionedGroups.{rests_idle}
 use Rattle.sc_live_answers.proofs.OrdersProofs.OrderFactsAtStart.{no_deal, no_party}

@@ -2,24 +2,24 @@
 use Rattle.std.proofs.Common.{◌≡◌, ◌⊎◌, ℕ, Bool, true, false, true≢false, cond, List, [], ◌∷◌, ◌++◌, Option, Some, None, inl, inr, refl, sym, ◌∙◌, ap, subst, append_assoc}
 use Rattle.std.proofs.lemmas.Option.{same_Some}
 use Rattle.sc_base.specs.Definitions.{Among, Each, same_draw}
-use Rattle.sc_group_table.specs.policy.Definitions.{is_reported}
+use Rattle.sc_group_table.specs.policy.PolicyDefinitions.{is_reported}
 use Rattle.sc_node_table.specs.Values.{Draw, Body, Command, Core, Lock, Free, Coordinating, Promised, Watching, Heard, No, Vote, OrderLine, OrderResult, Mail, MailBody, TxPrepare, TxVote, TxOutcome, TxElsewhere, TxWatch, TxWatched, Seat, Event, Deliver, Row, Flight}
 use Rattle.sc_words.specs.declared.commands.votes.Vote.TheVariants as Says
 use Rattle.sc_actor.specs.Definitions.{mails, copies, numbers_of, row_of}
 use Rattle.sc_actor.proofs.Lemmas.{mails-snoc, mails-append}
 use Rattle.sc_paxos_law.proofs.Lemmas.{Among-left, Among-either}
-use Rattle.sc_words.proofs.PaxosProofs.Lemmas.{Each-among}
-use Rattle.sc_live_orderly.specs.Definitions.{AreInTime}
-use Rattle.sc_group_table.specs.machine.Definitions.{Group, has_named}
-use Rattle.sc_node_table.specs.Definitions.{ReplicaState}
-use Rattle.sc_meaning.specs.sound.Definitions.{Player, player_table}
-use Rattle.sc_live_steps.specs.calm.Definitions.{players, Rows}
-use Rattle.sc_live_steps.specs.orders.Definitions.{OfQuestion, OfVote, OfOutcome, LastTakes, OneTakes, TwoTakes, LastFreed, OneFreed, TwoFreed, IsStepOf, ByRest, ByOrder, ByChange, ByDeal, ByPassing, ByAsking, ByTaking, ByVote, ByNo, ByHearing, ByDeciding, ByEnd, IsTaken, closed, Turn, First, Lone, Next, is_watch, is_yes, is_cast_yes, IsVote, Errand, Question, Elsewhere, Reply, Result, errand_by, errand_for, errands_for, bond_in, Asking, Work, Opens, Records, Ends, IsOrder, Here, Scene, free, closing, Leg, Mailed, Filed, Deal, Stage, Still, Ordered, Asks, SentOn, Weighs, Replied, Recorded, Closes, ClosesBoth, IsAt, bond_of, works}
-use Rattle.sc_live_steps.proofs.OrderStepsProofs.Lemmas.{cases-draw}
-use Rattle.sc_live_journals.specs.rows.Definitions.{view_at, IsSeat, with_event}
-use Rattle.sc_live_journals.specs.scenes.Definitions.{FindsOrder, GoesBy, LeadsAlone, bond_by, bond_there, left_after, scene_at}
-use Rattle.sc_live_journals.proofs.ScenesProofs.Lemmas.{tell}
-use Rattle.sc_live_answers.specs.Definitions.{HasDone, doer, doers_of, opened, IsTrueEntry, HasNumber, LockNumber, IsTold, IsRefusedIn, IsVotedDown, IsRefusalSent, IsReported, HoldsOrder, Waits, Coordinates, IsOrderHeld}
+use Rattle.sc_words.proofs.PaxosProofs.PaxosLemmas.{Each-among}
+use Rattle.sc_live_orderly.specs.OrderlyDefinitions.{AreInTime}
+use Rattle.sc_group_table.specs.machine.MachineDefinitions.{Group, has_named}
+use Rattle.sc_node_table.specs.NodeDefinitions.{ReplicaState}
+use Rattle.sc_meaning.specs.sound.SoundDefinitions.{Player, player_table}
+use Rattle.sc_live_steps.specs.calm.CalmDefinitions.{players, Rows}
+use Rattle.sc_live_steps.specs.orders.OrderDefinitions.{OfQuestion, OfVote, OfOutcome, LastTakes, OneTakes, TwoTakes, LastFreed, OneFreed, TwoFreed, IsStepOf, ByRest, ByOrder, ByChange, ByDeal, ByPassing, ByAsking, ByTaking, ByVote, ByNo, ByHearing, ByDeciding, ByEnd, IsTaken, closed, Turn, First, Lone, Next, is_watch, is_yes, is_cast_yes, IsVote, Errand, Question, Elsewhere, Reply, Result, errand_by, errand_for, errands_for, bond_in, Asking, Work, Opens, Records, Ends, IsOrder, Here, Scene, free, closing, Leg, Mailed, Filed, Deal, Stage, Still, Ordered, Asks, SentOn, Weighs, Replied, Recorded, Closes, ClosesBoth, IsAt, bond_of, works}
+use Rattle.sc_live_steps.proofs.OrderStepsProofs.OrderStepLemmas.{cases-draw}
+use Rattle.sc_live_journals.specs.rows.RowDefinitions.{view_at, IsSeat, with_event}
+use Rattle.sc_live_journals.specs.scenes.SceneDefinitions.{FindsOrder, GoesBy, LeadsAlone, bond_by, bond_there, left_after, scene_at}
+use Rattle.sc_live_journals.proofs.ScenesProofs.SceneLemmas.{tell}
+use Rattle.sc_live_answers.specs.AnswerDefinitions.{HasDone, doer, doers_of, opened, IsTrueEntry, HasNumber, LockNumber, IsTold, IsRefusedIn, IsVotedDown, IsRefusalSent, IsReported, HoldsOrder, Waits, Coordinates, IsOrderHeld}
 use Rattle.sc_live_answers.proofs.WorkProofs.LeaderDeeds.{lead_runs_so, lead_works, one_not_none, same_one}
 use Rattle.sc_live_answers.proofs.WorkProofs.LeaderDeliveries.{HasActed, Waited, Ran, Acts, acts_on}
 use Rattle.sc_live_answers.proofs.OrdersProofs.OrderResults.{order_ends, record_ends}

@@ -3,7 +3,7 @@ use Rattle.std.proofs.Common.{◌≡◌, ◌⊎◌, ℕ, ◌≤◌, ◌&&◌, na
 use Rattle.std.specs.Prelude.{is_some}
 use Rattle.std.proofs.lemmas.Bool.{and_parts, leb-true, lt-ltb}
 use Rattle.sc_base.specs.Definitions.{Among}
-use Rattle.sc_group_table.specs.policy.Definitions.{is_reported}
+use Rattle.sc_group_table.specs.policy.PolicyDefinitions.{is_reported}
 use Rattle.sc_node_table.specs.Values.{Draw, Command, OrderLine, OrderRefusal, Refused, Mail, Node, Client, Seat, Go, Input, Row, Report}
 use Rattle.sc_words.specs.declared.commands.orders.OrderRefusal.TheVariants.{NotLeader}
 use Rattle.sc_actor.specs.declared.rows.Event.TheVariants.{Told}
@@ -11,21 +11,21 @@ use Rattle.sc_actor.specs.declared.rows.Input.TheVariants.{Told as ToldInput}
 use Rattle.sc_actor.specs.Definitions.{mails, value, acted, input_of, replay, row_of}
 use Rattle.sc_actor.proofs.Lemmas.{mails-snoc}
 use Rattle.sc_paxos_law.proofs.Lemmas.{Among-either, Among-left, Among-right}
-use Rattle.sc_words.proofs.PaxosProofs.Lemmas.{Each-among}
-use Rattle.sc_words.specs.paxos.Definitions.{must_without, names_above, chosen_value}
-use Rattle.sc_live_orderly.specs.Definitions.{GivesAllowedOrder}
-use Rattle.sc_law_walks.proofs.Lemmas.{either_way}
+use Rattle.sc_words.proofs.PaxosProofs.PaxosLemmas.{Each-among}
+use Rattle.sc_words.specs.paxos.PaxosDefinitions.{must_without, names_above, chosen_value}
+use Rattle.sc_live_orderly.specs.OrderlyDefinitions.{GivesAllowedOrder}
+use Rattle.sc_law_walks.proofs.WalkLemmas.{either_way}
 use Rattle.sc_scenario.specs.declared.scenario.scenarios.Scenario.{Scenario}
-use Rattle.sc_node_table.specs.Definitions.{NodeState, result_sent, replica_of, group_of_order, ordered_of, untaken, ordered_row, ReplicaState, Place, next, last_slot, settled, may_offer, first_set}
-use Rattle.sc_meaning.specs.sound.Definitions.{Player, player_table, node_seat, births, as_nodes}
-use Rattle.sc_live_steps.specs.calm.Definitions.{IsAtRest, Rows}
-use Rattle.sc_live_steps.specs.orders.Definitions.{Asking, Unbound, Here, Stage, Still, Recorded, IsAt, MayFile}
-use Rattle.sc_live_steps.proofs.OrderStepsProofs.Lemmas.{tables-order}
-use Rattle.sc_live_journals.specs.rows.Definitions.{view_at, IsSeat, with_event, IsReplicasRow}
-use Rattle.sc_live_journals.proofs.RowsProofs.Lemmas.{rows_replicas, view_was}
-use Rattle.sc_live_journals.specs.scenes.Definitions.{LeadsAlone, StageAfter, scene_at}
-use Rattle.sc_live_journals.proofs.ScenesProofs.Lemmas.{all_sent, tell}
-use Rattle.sc_live_answers.specs.Definitions.{IsCalmJournal, IsPrefixOf, IsGiven, IsTold, IsRefusalSent, IsReported, Waits, IsOrderHeld}
+use Rattle.sc_node_table.specs.NodeDefinitions.{NodeState, result_sent, replica_of, group_of_order, ordered_of, untaken, ordered_row, ReplicaState, Place, next, last_slot, settled, may_offer, first_set}
+use Rattle.sc_meaning.specs.sound.SoundDefinitions.{Player, player_table, node_seat, births, as_nodes}
+use Rattle.sc_live_steps.specs.calm.CalmDefinitions.{IsAtRest, Rows}
+use Rattle.sc_live_steps.specs.orders.OrderDefinitions.{Asking, Unbound, Here, Stage, Still, Recorded, IsAt, MayFile}
+use Rattle.sc_live_steps.proofs.OrderStepsProofs.OrderStepLemmas.{tables-order}
+use Rattle.sc_live_journals.specs.rows.RowDefinitions.{view_at, IsSeat, with_event, IsReplicasRow}
+use Rattle.sc_live_journals.proofs.RowsProofs.RowLemmas.{rows_replicas, view_was}
+use Rattle.sc_live_journals.specs.scenes.SceneDefinitions.{LeadsAlone, StageAfter, scene_at}
+use Rattle.sc_live_journals.proofs.ScenesProofs.SceneLemmas.{all_sent, tell}
+use Rattle.sc_live_answers.specs.AnswerDefinitions.{IsCalmJournal, IsPrefixOf, IsGiven, IsTold, IsRefusalSent, IsReported, Waits, IsOrderHeld}
 use Rattle.sc_live_answers.specs.GivenOrders.{may_be_given, names_nodes}
 use Rattle.sc_live_answers.proofs.ErrandsProofs.ErrandReceivers.{node_seated}
 use Rattle.sc_live_answers.proofs.OrdersProofs.OrderCommands.{settled_by}
@@ -33,7 +33,7 @@ use Rattle.sc_live_answers.proofs.ErrandsProofs.QuestionedGroups.{rests_idle}
 use Rattle.sc_live_answers.proofs.VotesProofs.ReportedMail.{told_behind, desk_reports}
 use Rattle.sc_live_answers.proofs.OrdersProofs.OrderFactsAtStart.{begun_so, still_unbound, ordered_unbound}
 use Rattle.sc_words.specs.declared.commands.orders.OrderResult.TheVariants.{Aborted}
-use Rattle.sc_law_walks.proofs.Lemmas.{order_refused}
+use Rattle.sc_law_walks.proofs.WalkLemmas.{order_refused}
 
 -- ---- the orders that rows give
 

@@ -7,14 +7,14 @@ use Rattle.sc_base.specs.Definitions.{Each, Drawer, next_name}
 use Rattle.sc_node_table.specs.Values.{Draw, Command, Core, Free, Order, OrderLine, OrderRefusal, Refused, AnswerBody, Mail, Told, Must}
 use Rattle.sc_words.specs.declared.commands.orders.Order.TheVariants as An
 use Rattle.sc_words.specs.declared.commands.orders.OrderRefusal.TheVariants.{NotLeader}
-use Rattle.sc_node_table.specs.Definitions.{answered, group_of_order, ordered_command, untaken, queued_or_refused, ordered_row, Found, is_act, waits, turned_down, next_queued, from_backlog, from_acts, from_queues, found_by, found_for, offered, pumped_from, pumped, ReplicaState, Place, name_of, next, settled, may_offer, first_set, taken_at, under_way, is_idle, open_slots, last_slot, slots_ahead}
-use Rattle.sc_live_steps.specs.calm.Definitions.{IsAtRest}
-use Rattle.sc_live_answers.specs.Definitions.{is_split}
+use Rattle.sc_node_table.specs.NodeDefinitions.{answered, group_of_order, ordered_command, untaken, queued_or_refused, ordered_row, Found, is_act, waits, turned_down, next_queued, from_backlog, from_acts, from_queues, found_by, found_for, offered, pumped_from, pumped, ReplicaState, Place, name_of, next, settled, may_offer, first_set, taken_at, under_way, is_idle, open_slots, last_slot, slots_ahead}
+use Rattle.sc_live_steps.specs.calm.CalmDefinitions.{IsAtRest}
+use Rattle.sc_live_answers.specs.AnswerDefinitions.{is_split}
 use Rattle.sc_live_answers.proofs.WorkProofs.Affairs.{Affair, BeginsFree}
 use Rattle.sc_live_answers.proofs.WorkProofs.WorkMail.{one_sent}
 use Rattle.sc_live_answers.proofs.WorkProofs.AffairParts.{Held, Fine, must_open, slot_offered, from_pumps}
 use Rattle.sc_live_answers.proofs.WorkProofs.OrderTasks.{affair_of, begins_free}
-use Rattle.sc_live_steps.proofs.PumpProofs.Lemmas.{none_at as free_at, none_from as none_taken}
+use Rattle.sc_live_steps.proofs.PumpProofs.PumpLemmas.{none_at as free_at, none_from as none_taken}
 
 -- its command stands at its group
 pub order_does : (name : Draw) (number : ℕ) (order : Order) → (affair_of number (is_split order) (group_of_order order) name).Does (group_of_order order) (ordered_command name number order)

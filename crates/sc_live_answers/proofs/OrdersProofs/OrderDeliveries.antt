@@ -6,28 +6,28 @@ use Rattle.sc_base.specs.Definitions.{Among, Each, same_draw}
 use Rattle.sc_base.proofs.Lemmas.{draw_is}
 use Rattle.sc_node_table.specs.Values.{Draw, Base, Route, OrderLine, Mail, MailBody, Request, Promise, Accepted, TxPrepare, TxVote, TxOutcome, TxElsewhere, TxWatch, TxWatched, Node, Client, Seat, Deliver}
 use Rattle.sc_actor.specs.Definitions.{mails, numbered, value, System, row_of, numbers_of}
-use Rattle.sc_live_orderly.specs.Definitions.{IsCalmRow, AreInTime}
-use Rattle.sc_live_orderly.proofs.Lemmas.{in_time_before, in_time_tidy, last_in_time, TakesFirst, takes_first, is_born-from}
-use Rattle.sc_node_table.specs.Definitions.{NodeState, replica_of, group_of_mail, ReplicaState, name_of}
-use Rattle.sc_words.proofs.PaxosProofs.Lemmas.{find_found}
+use Rattle.sc_live_orderly.specs.OrderlyDefinitions.{IsCalmRow, AreInTime}
+use Rattle.sc_live_orderly.proofs.OrderlyLemmas.{in_time_before, in_time_tidy, last_in_time, TakesFirst, takes_first, is_born-from}
+use Rattle.sc_node_table.specs.NodeDefinitions.{NodeState, replica_of, group_of_mail, ReplicaState, name_of}
+use Rattle.sc_words.proofs.PaxosProofs.PaxosLemmas.{find_found}
 use Rattle.sc_scenario.specs.declared.scenario.scenarios.Scenario.{Scenario}
 use Rattle.sc_scenario.specs.scenario.Definitions.{ValidScenariosAreBounded}
-use Rattle.sc_meaning.specs.sound.Definitions.{Player, player_table, births, as_nodes}
-use Rattle.sc_live_steps.specs.calm.Definitions.{Chart, players, IsCalmFor, FindsCalm, MayAskThere, Points, StandsOnce, Rows, led_elsewhere, leads, is_leading, is_led}
-use Rattle.sc_live_journals.proofs.ChartsProofs.Lemmas.{upto_low}
-use Rattle.sc_live_journals.specs.rows.Definitions.{replicas_of, replica_in, view_at, with_event}
-use Rattle.sc_live_journals.specs.mail.Definitions.{SlotsAreLeft}
-use Rattle.sc_live_journals.specs.logs.Definitions.{SlotsHaveRosters}
-use Rattle.sc_live_journals.specs.groups.Definitions.{ScenariosAreKeptBorn, ReplicasAreKept, Delivers}
-use Rattle.sc_live_answers.specs.Definitions.{FindsBy, JournalMailFinds, StrayMailFinds, MailIsForItsNode, IsPlainAt, IsNoRequest, NeedsAt, NeedsBesides, MayCountAt, IsUnsettled, WellLedLeadAlone, StagesLeaveOneWork, IsCalmJournal, AreSent, ContinuesBy, IsUnder, StagesAsk, ViewsAgree, IsKnownMail, IsKnownDelivery, OrderRowsFindCalm}
-use Rattle.sc_live_journals.specs.charts.Definitions.{replicas_of as chart_replicas, all_replicas, chart_at, LedStandOnce, quiet_upto}
-use Rattle.sc_live_journals.proofs.ChartsProofs.Lemmas.{led_by}
-use Rattle.sc_live_steps.specs.orders.Definitions.{Turn, is_watch, Errand, Question, Elsewhere, Asking, Here, Scene, errand_by, bond_of, Stage, Asks, SentOn, IsAt}
-use Rattle.sc_live_steps.proofs.OrderStepsProofs.Lemmas.{among-right}
-use Rattle.sc_live_journals.specs.scenes.Definitions.{IsThere, IsNowhere, IsFresh, FreshGroupsStay, WorksFlyLone, is_running, left_after, scene_at, AnswersReachLeaders, ScenesDescribe}
-use Rattle.sc_live_journals.proofs.ScenesProofs.Lemmas.{takes_one, lead_runs, calm_is}
+use Rattle.sc_meaning.specs.sound.SoundDefinitions.{Player, player_table, births, as_nodes}
+use Rattle.sc_live_steps.specs.calm.CalmDefinitions.{Chart, players, IsCalmFor, FindsCalm, MayAskThere, Points, StandsOnce, Rows, led_elsewhere, leads, is_leading, is_led}
+use Rattle.sc_live_journals.proofs.ChartsProofs.ChartLemmas.{upto_low}
+use Rattle.sc_live_journals.specs.rows.RowDefinitions.{replicas_of, replica_in, view_at, with_event}
+use Rattle.sc_live_journals.specs.mail.MailDefinitions.{SlotsAreLeft}
+use Rattle.sc_live_journals.specs.logs.LogDefinitions.{SlotsHaveRosters}
+use Rattle.sc_live_journals.specs.groups.GroupDefinitions.{ScenariosAreKeptBorn, ReplicasAreKept, Delivers}
+use Rattle.sc_live_answers.specs.AnswerDefinitions.{FindsBy, JournalMailFinds, StrayMailFinds, MailIsForItsNode, IsPlainAt, IsNoRequest, NeedsAt, NeedsBesides, MayCountAt, IsUnsettled, WellLedLeadAlone, StagesLeaveOneWork, IsCalmJournal, AreSent, ContinuesBy, IsUnder, StagesAsk, ViewsAgree, IsKnownMail, IsKnownDelivery, OrderRowsFindCalm}
+use Rattle.sc_live_journals.specs.charts.ChartDefinitions.{replicas_of as chart_replicas, all_replicas, chart_at, LedStandOnce, quiet_upto}
+use Rattle.sc_live_journals.proofs.ChartsProofs.ChartLemmas.{led_by}
+use Rattle.sc_live_steps.specs.orders.OrderDefinitions.{Turn, is_watch, Errand, Question, Elsewhere, Asking, Here, Scene, errand_by, bond_of, Stage, Asks, SentOn, IsAt}
+use Rattle.sc_live_steps.proofs.OrderStepsProofs.OrderStepLemmas.{among-right}
+use Rattle.sc_live_journals.specs.scenes.SceneDefinitions.{IsThere, IsNowhere, IsFresh, FreshGroupsStay, WorksFlyLone, is_running, left_after, scene_at, AnswersReachLeaders, ScenesDescribe}
+use Rattle.sc_live_journals.proofs.ScenesProofs.SceneLemmas.{takes_one, lead_runs, calm_is}
 use Rattle.sc_live_steps.specs.entries.StageEntries.{BondsAsk, OrderEntriesCount}
-use Rattle.sc_live_plain.specs.Definitions.{replicas_after}
+use Rattle.sc_live_plain.specs.PlainDefinitions.{replicas_after}
 use Rattle.sc_live_answers.proofs.VotesProofs.CountableVotes.{may_count}
 use Rattle.sc_live_answers.proofs.ErrandsProofs.Questions.{IsQuestionOf, question_stage, IsSentOnIn, elsewhere_stage}
 use Rattle.sc_live_answers.proofs.ErrandsProofs.QuestionTargets.{errand_there}

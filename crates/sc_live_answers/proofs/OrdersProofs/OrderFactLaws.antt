@@ -1,9 +1,9 @@
 -- What the commands and the mail of one order are at the group that takes them, since the quiet before it.
 use Rattle.sc_live_answers.proofs.VotesProofs.RecordedLocks.{replicas_are_recorded as replicas_are_recorded_by, outcomes_taken}
 use Rattle.sc_scenario.proofs.ScenarioProofs.Lemmas.{valid_scenarios_are_bounded}
-use Rattle.sc_law_groups.proofs.WholeProofs.Lemmas.{valid_scenarios_begin_well, valid_journals_are_sound, valid_entries_are_logs}
-use Rattle.sc_law_entries.proofs.NamesProofs.Lemmas.{orders_are_allowed_allowed, orders_are_allowed_wishes, orders_are_allowed_positions, names_have_one_owner_others, counters_part_names, drawn_names_are_new_drawn}
-use Rattle.sc_live_answers.specs.Definitions.{ReplicasAreRecorded, OutcomesAreTaken, MailComesUnsettled, AskedGroupsStood, TrueOrdersGoOn, TrueOrdersBegin, VotesAreTrue, RecordsAreTrue, EntriesAreTrue, SettledOrdersBegin, SettledOrdersGoOn, CoordinatorsAreSettled, HintedOrdersGoOn}
+use Rattle.sc_law_groups.proofs.WholeProofs.WholeLemmas.{valid_scenarios_begin_well, valid_journals_are_sound, valid_entries_are_logs}
+use Rattle.sc_law_entries.proofs.NamesProofs.NameLemmas.{orders_are_allowed_allowed, orders_are_allowed_wishes, orders_are_allowed_positions, names_have_one_owner_others, counters_part_names, drawn_names_are_new_drawn}
+use Rattle.sc_live_answers.specs.AnswerDefinitions.{ReplicasAreRecorded, OutcomesAreTaken, MailComesUnsettled, AskedGroupsStood, TrueOrdersGoOn, TrueOrdersBegin, VotesAreTrue, RecordsAreTrue, EntriesAreTrue, SettledOrdersBegin, SettledOrdersGoOn, CoordinatorsAreSettled, HintedOrdersGoOn}
 use Rattle.sc_live_answers.proofs.VotesProofs.UnsettledMail.{mail_unsettled}
 use Rattle.sc_live_answers.proofs.ErrandsProofs.QuestionedGroups.{asked_groups_stood as asked_groups_stood_by, true_goes_on}
 use Rattle.sc_live_answers.proofs.OrdersProofs.OrderFactsAtStart.{true_begins}

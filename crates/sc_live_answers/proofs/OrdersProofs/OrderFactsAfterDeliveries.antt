@@ -3,15 +3,15 @@ use Rattle.std.proofs.Common.{◌≡◌, ℕ, List, [], ◌∷◌, Some, ◌⊎�
 use Rattle.sc_base.specs.Definitions.{Each}
 use Rattle.sc_node_table.specs.Values.{Draw, Seat, Deliver, Base}
 use Rattle.sc_actor.specs.Definitions.{row_of}
-use Rattle.sc_node_table.specs.Definitions.{listed}
+use Rattle.sc_node_table.specs.NodeDefinitions.{listed}
 use Rattle.sc_scenario.specs.declared.scenario.scenarios.Scenario.{Scenario}
-use Rattle.sc_meaning.specs.sound.Definitions.{Player, as_nodes, births, player_table}
-use Rattle.sc_live_steps.specs.calm.Definitions.{StandsQuiet, Rows}
-use Rattle.sc_live_steps.specs.orders.Definitions.{OfQuestion, OfVote, OfOutcome, LastTakes, OneTakes, TwoTakes, LastFreed, OneFreed, TwoFreed, IsStepOf, ByRest, ByOrder, ByChange, ByDeal, ByPassing, ByAsking, ByTaking, ByVote, ByNo, ByHearing, ByDeciding, ByEnd, closed, First, Here, Lone, Next, Scene, Turn, Asks, Deal, IsAt, Stage, Still, Weighs}
-use Rattle.sc_live_journals.specs.rows.Definitions.{with_event}
-use Rattle.sc_live_journals.specs.scenes.Definitions.{GoesBy, scene_at}
-use Rattle.sc_live_plain.specs.Definitions.{replicas_after}
-use Rattle.sc_live_answers.specs.Definitions.{Doer, FlightsBeginSo, HasDone, doer, doers_of, ContinuesSince, IsUnused, tx_of, ReplicasAreRecorded, asked_of}
+use Rattle.sc_meaning.specs.sound.SoundDefinitions.{Player, as_nodes, births, player_table}
+use Rattle.sc_live_steps.specs.calm.CalmDefinitions.{StandsQuiet, Rows}
+use Rattle.sc_live_steps.specs.orders.OrderDefinitions.{OfQuestion, OfVote, OfOutcome, LastTakes, OneTakes, TwoTakes, LastFreed, OneFreed, TwoFreed, IsStepOf, ByRest, ByOrder, ByChange, ByDeal, ByPassing, ByAsking, ByTaking, ByVote, ByNo, ByHearing, ByDeciding, ByEnd, closed, First, Here, Lone, Next, Scene, Turn, Asks, Deal, IsAt, Stage, Still, Weighs}
+use Rattle.sc_live_journals.specs.rows.RowDefinitions.{with_event}
+use Rattle.sc_live_journals.specs.scenes.SceneDefinitions.{GoesBy, scene_at}
+use Rattle.sc_live_plain.specs.PlainDefinitions.{replicas_after}
+use Rattle.sc_live_answers.specs.AnswerDefinitions.{Doer, FlightsBeginSo, HasDone, doer, doers_of, ContinuesSince, IsUnused, tx_of, ReplicasAreRecorded, asked_of}
 use Rattle.sc_live_answers.proofs.WorkProofs.LeaderDeeds.{stays, steps}
 use Rattle.sc_live_answers.proofs.WorkProofs.PartiesSinceQuiet.{asked_stands, begin_so}
 

@@ -9,20 +9,20 @@ use Rattle.sc_actor.specs.declared.rows.Input.TheVariants.{Told as ToldInput}
 use Rattle.sc_actor.specs.Definitions.{value, numbers_of, row_of}
 use Rattle.sc_actor.proofs.Lemmas.{lawful-prefix}
 use Rattle.sc_words.specs.declared.commands.orders.Order.TheVariants as An
-use Rattle.sc_node_table.specs.Definitions.{NodeState, group_of_order, on_order, ordered_of, replica_of, ordered_command, ordered_row, untaken, ReplicaState, born_replica, listed, slots_ahead}
-use Rattle.sc_law_entries.specs.names.Definitions.{NodesHaveNames, OtherNamesAreFree, TakenOrdersAreAllowed, TakenWishesAreAllowed, WishesAreAtPositions}
+use Rattle.sc_node_table.specs.NodeDefinitions.{NodeState, group_of_order, on_order, ordered_of, replica_of, ordered_command, ordered_row, untaken, ReplicaState, born_replica, listed, slots_ahead}
+use Rattle.sc_law_entries.specs.names.NameDefinitions.{NodesHaveNames, OtherNamesAreFree, TakenOrdersAreAllowed, TakenWishesAreAllowed, WishesAreAtPositions}
 use Rattle.sc_scenario.specs.scenario.Definitions.{ValidScenariosAreBounded}
 use Rattle.sc_scenario.specs.declared.scenario.scenarios.Scenario.{Scenario}
-use Rattle.sc_law_groups.specs.whole.Definitions.{ValidScenariosBeginWell}
-use Rattle.sc_meaning.specs.sound.Definitions.{Lawful, Player, as_nodes, births, player_table, schedule, system_of}
-use Rattle.sc_live_steps.specs.calm.Definitions.{Rows}
-use Rattle.sc_live_steps.specs.orders.Definitions.{IsStepOf, ByRest, ByOrder, ByChange, ByDeal, ByPassing, ByAsking, ByTaking, ByVote, ByNo, ByHearing, ByDeciding, ByEnd, LastFreed, LastTakes, OfOutcome, OfQuestion, OfVote, OneFreed, OneTakes, TwoFreed, TwoTakes, work_by, works, Asking, Bound, Here, Opens, Scene, Turn, Unbound, Work, free, Asks, Closes, ClosesBoth, Filed, IsAt, Leg, Mailed, Ordered, Recorded, Replied, SentOn, Stage, Still, Weighs, closing, MayFile}
-use Rattle.sc_live_steps.proofs.OrderStepsProofs.Lemmas.{cases-draw, tables-order}
-use Rattle.sc_live_journals.specs.rows.Definitions.{view_at, with_event}
-use Rattle.sc_live_journals.proofs.RowsProofs.Lemmas.{view_is, view_others, none_some}
-use Rattle.sc_live_journals.specs.scenes.Definitions.{IsOrdered, ByAnother, ByLeader, FindsQuiet, IsGivenInQuiet, StageAfter, is_running, scene_at, IsOfGroup, IsTablesRow, LeavesOrMakes}
-use Rattle.sc_live_journals.proofs.ScenesProofs.Lemmas.{found_step, lead_runs, now_is, rows_taken, was_is}
-use Rattle.sc_live_answers.specs.Definitions.{IsCalmJournal, RestsAt, TrueOrdersBegin, HasDone, doer, IsUnused, opened_by, AreSeen, IsTrueSince}
+use Rattle.sc_law_groups.specs.whole.WholeDefinitions.{ValidScenariosBeginWell}
+use Rattle.sc_meaning.specs.sound.SoundDefinitions.{Lawful, Player, as_nodes, births, player_table, schedule, system_of}
+use Rattle.sc_live_steps.specs.calm.CalmDefinitions.{Rows}
+use Rattle.sc_live_steps.specs.orders.OrderDefinitions.{IsStepOf, ByRest, ByOrder, ByChange, ByDeal, ByPassing, ByAsking, ByTaking, ByVote, ByNo, ByHearing, ByDeciding, ByEnd, LastFreed, LastTakes, OfOutcome, OfQuestion, OfVote, OneFreed, OneTakes, TwoFreed, TwoTakes, work_by, works, Asking, Bound, Here, Opens, Scene, Turn, Unbound, Work, free, Asks, Closes, ClosesBoth, Filed, IsAt, Leg, Mailed, Ordered, Recorded, Replied, SentOn, Stage, Still, Weighs, closing, MayFile}
+use Rattle.sc_live_steps.proofs.OrderStepsProofs.OrderStepLemmas.{cases-draw, tables-order}
+use Rattle.sc_live_journals.specs.rows.RowDefinitions.{view_at, with_event}
+use Rattle.sc_live_journals.proofs.RowsProofs.RowLemmas.{view_is, view_others, none_some}
+use Rattle.sc_live_journals.specs.scenes.SceneDefinitions.{IsOrdered, ByAnother, ByLeader, FindsQuiet, IsGivenInQuiet, StageAfter, is_running, scene_at, IsOfGroup, IsTablesRow, LeavesOrMakes}
+use Rattle.sc_live_journals.proofs.ScenesProofs.SceneLemmas.{found_step, lead_runs, now_is, rows_taken, was_is}
+use Rattle.sc_live_answers.specs.AnswerDefinitions.{IsCalmJournal, RestsAt, TrueOrdersBegin, HasDone, doer, IsUnused, opened_by, AreSeen, IsTrueSince}
 use Rattle.sc_live_answers.proofs.WorkProofs.LeaderDeeds.{lead_works, one_not_none, same_one as same_work}
 use Rattle.sc_live_answers.proofs.ReplicasProofs.SeatNumbers.{next_unused}
 use Rattle.sc_live_answers.proofs.ErrandsProofs.QuestionedGroups.{rests_idle}

@@ -3,28 +3,28 @@ use Rattle.std.proofs.Common.{◌≡◌, ◌⊎◌, ◌≤◌, ℕ, true, false,
 use Rattle.sc_base.specs.Definitions.{Among, Each}
 use Rattle.sc_node_table.specs.Values.{Draw, Command, Base, OrderLine, Mail, MailBody, Request, TxPrepare, TxVote, TxOutcome, TxElsewhere, TxWatch, TxWatched, Node, Client, Seat, Deliver, Row, Flight, Op}
 use Rattle.sc_actor.specs.Definitions.{mails, numbered, value, System, row_of}
-use Rattle.sc_live_orderly.specs.Definitions.{is_told, AreInTime}
-use Rattle.sc_live_orderly.proofs.Lemmas.{count_push, is_born-from}
+use Rattle.sc_live_orderly.specs.OrderlyDefinitions.{is_told, AreInTime}
+use Rattle.sc_live_orderly.proofs.OrderlyLemmas.{count_push, is_born-from}
 use Rattle.sc_scenario.specs.scenario.Definitions.{ValidScenariosAreBounded}
 use Rattle.sc_scenario.specs.declared.scenario.scenarios.Scenario.{Scenario}
-use Rattle.sc_group_table.specs.machine.Definitions.{applied}
-use Rattle.sc_node_table.specs.Definitions.{NodeState, replica_of, group_of_mail, may_come, ReplicaState, name_of}
-use Rattle.sc_meaning.specs.sound.Definitions.{groups_at, Player, player_table, births, as_nodes}
-use Rattle.sc_live_steps.specs.calm.Definitions.{players, FindsCalm, Rows}
+use Rattle.sc_group_table.specs.machine.MachineDefinitions.{applied}
+use Rattle.sc_node_table.specs.NodeDefinitions.{NodeState, replica_of, group_of_mail, may_come, ReplicaState, name_of}
+use Rattle.sc_meaning.specs.sound.SoundDefinitions.{groups_at, Player, player_table, births, as_nodes}
+use Rattle.sc_live_steps.specs.calm.CalmDefinitions.{players, FindsCalm, Rows}
 use Rattle.sc_actor.specs.declared.rows.Event.TheVariants.{Told}
-use Rattle.sc_words.proofs.PaxosProofs.Lemmas.{Each-from, Each-among, Each-weaker}
-use Rattle.sc_live_steps.specs.orders.Definitions.{Stage}
-use Rattle.sc_live_journals.specs.rows.Definitions.{view_at, with_event}
-use Rattle.sc_live_journals.proofs.RowsProofs.Lemmas.{view_was}
-use Rattle.sc_live_journals.specs.mail.Definitions.{SlotsAreLeft, ReplicasLast, MailMayCome}
-use Rattle.sc_live_journals.specs.logs.Definitions.{ViewsAreReplicas, SlotsHaveRosters, logged_sets}
-use Rattle.sc_live_answers.specs.Definitions.{ReplicasRunLogs, IsUnsettled, IsNamedGuide, NewestStay, WellLedLeadAlone, IsOrdersRow, OrdersRowsFind, OrdersRowsMeet, IsSentStep, NextRowsAreSent, SentReplicas, IsNoRequest, IsPlainAt, over_at, slot_leaders_at, NextRowsRise, IsRisingOn, IsRoundSince, OrdersKeepRounds, PrefixesAreFound, NoMailForStrangers, IsCalmJournal, AreSent, ContinuesBy, IsNamedGroup, IsUnder, IsYoungAt, AllLeadAlone, IsKnownMail, OrderRowsFindCalm, ViewsAgree, ChildrenAreCreated, IsWorkingRow, ChildrenWereNowhere, IsUnanswered, YoungGroupsStay, AreSeen, IsTrueSince, LeadsSince, EntriesAreTrue, MailComesUnsettled, TakesSince, IsHinted, CoordinatorsAreHinted, HintedOrdersGoOn, AreSettled, CoordinatorsAreSettled, SettledOrdersGoOn, EndingGroupsGoOn, IsGoingSince, NamesStayFew, NoneWaits, AskedGroupsStood, ContinuesSince, TrueOrdersGoOn, IsGuidedRow, DeliveriesKeepWork, WorkStandsAlone, FlightsAreEntries, OrderErrandsGoToNodes, IsOfJournal, IsOrderedSince, DeliveriesKeepOrdered, TakersAreNodes, LawfulReplicasAreNamedOnce, IsTrueEntry, Does, HasNumber, LockNumber, IsRefusalSent, IsReported, IsGiven, IsOrderHeld, IsPrefixOf}
-use Rattle.sc_live_journals.specs.scenes.Definitions.{IsThere, IsNowhere, AreUntouched, IsDelivered, FreshGroupsStay, FindsOrder, GoesBy, StageAfter, IsTaking, LeadsAlone, scene_at}
+use Rattle.sc_words.proofs.PaxosProofs.PaxosLemmas.{Each-from, Each-among, Each-weaker}
+use Rattle.sc_live_steps.specs.orders.OrderDefinitions.{Stage}
+use Rattle.sc_live_journals.specs.rows.RowDefinitions.{view_at, with_event}
+use Rattle.sc_live_journals.proofs.RowsProofs.RowLemmas.{view_was}
+use Rattle.sc_live_journals.specs.mail.MailDefinitions.{SlotsAreLeft, ReplicasLast, MailMayCome}
+use Rattle.sc_live_journals.specs.logs.LogDefinitions.{ViewsAreReplicas, SlotsHaveRosters, logged_sets}
+use Rattle.sc_live_answers.specs.AnswerDefinitions.{ReplicasRunLogs, IsUnsettled, IsNamedGuide, NewestStay, WellLedLeadAlone, IsOrdersRow, OrdersRowsFind, OrdersRowsMeet, IsSentStep, NextRowsAreSent, SentReplicas, IsNoRequest, IsPlainAt, over_at, slot_leaders_at, NextRowsRise, IsRisingOn, IsRoundSince, OrdersKeepRounds, PrefixesAreFound, NoMailForStrangers, IsCalmJournal, AreSent, ContinuesBy, IsNamedGroup, IsUnder, IsYoungAt, AllLeadAlone, IsKnownMail, OrderRowsFindCalm, ViewsAgree, ChildrenAreCreated, IsWorkingRow, ChildrenWereNowhere, IsUnanswered, YoungGroupsStay, AreSeen, IsTrueSince, LeadsSince, EntriesAreTrue, MailComesUnsettled, TakesSince, IsHinted, CoordinatorsAreHinted, HintedOrdersGoOn, AreSettled, CoordinatorsAreSettled, SettledOrdersGoOn, EndingGroupsGoOn, IsGoingSince, NamesStayFew, NoneWaits, AskedGroupsStood, ContinuesSince, TrueOrdersGoOn, IsGuidedRow, DeliveriesKeepWork, WorkStandsAlone, FlightsAreEntries, OrderErrandsGoToNodes, IsOfJournal, IsOrderedSince, DeliveriesKeepOrdered, TakersAreNodes, LawfulReplicasAreNamedOnce, IsTrueEntry, Does, HasNumber, LockNumber, IsRefusalSent, IsReported, IsGiven, IsOrderHeld, IsPrefixOf}
+use Rattle.sc_live_journals.specs.scenes.SceneDefinitions.{IsThere, IsNowhere, AreUntouched, IsDelivered, FreshGroupsStay, FindsOrder, GoesBy, StageAfter, IsTaking, LeadsAlone, scene_at}
 use Rattle.sc_live_steps.specs.entries.StageEntries.{IsEntry}
-use Rattle.sc_live_journals.specs.charts.Definitions.{chart_at, quiet_prefix}
-use Rattle.sc_live_plain.specs.Definitions.{replicas_after, DoHintsRise}
-use Rattle.sc_live_plain.proofs.Lemmas.{each_numbered}
-use Rattle.sc_client_table.specs.table.Definitions.{Client as ClientState}
+use Rattle.sc_live_journals.specs.charts.ChartDefinitions.{chart_at, quiet_prefix}
+use Rattle.sc_live_plain.specs.PlainDefinitions.{replicas_after, DoHintsRise}
+use Rattle.sc_live_plain.proofs.PlainLemmas.{each_numbered}
+use Rattle.sc_client_table.specs.table.TableDefinitions.{Client as ClientState}
 use Rattle.sc_live_answers.proofs.LedGroupsProofs.GuidedGroups as at_row
 use Rattle.sc_live_answers.proofs.LedGroupsProofs.GuidedGroups.{AreQuietWhileYoung, named_there, lead_alone}
 use Rattle.sc_live_answers.proofs.OrdersProofs.ClientsUnderOrders.{started_still, other_stays}

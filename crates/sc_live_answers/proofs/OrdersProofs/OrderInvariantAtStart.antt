@@ -4,25 +4,25 @@ use Rattle.sc_base.specs.Definitions.{Among, Each}
 use Rattle.sc_node_table.specs.Values.{Draw, Base, OrderLine, Mail, Seat, Row}
 use Rattle.sc_actor.specs.declared.rows.Event.TheVariants.{Told}
 use Rattle.sc_actor.specs.Definitions.{System, row_of, mails}
-use Rattle.sc_live_orderly.specs.Definitions.{is_born, is_told, AreInTime}
-use Rattle.sc_live_orderly.proofs.Lemmas.{count_push}
+use Rattle.sc_live_orderly.specs.OrderlyDefinitions.{is_born, is_told, AreInTime}
+use Rattle.sc_live_orderly.proofs.OrderlyLemmas.{count_push}
 use Rattle.sc_scenario.specs.scenario.Definitions.{ValidScenariosAreBounded}
 use Rattle.sc_scenario.specs.declared.scenario.scenarios.Scenario.{Scenario}
-use Rattle.sc_node_table.specs.Definitions.{ReplicaState, next, last_slot}
-use Rattle.sc_meaning.specs.sound.Definitions.{groups_at, Player, player_table, births, as_nodes}
-use Rattle.sc_live_steps.specs.calm.Definitions.{players, FindsCalm, IsAtRest, Rows}
-use Rattle.sc_live_steps.specs.orders.Definitions.{Stage, Still}
-use Rattle.sc_live_journals.specs.rows.Definitions.{view_at, marks_at, IsSeat, with_event}
-use Rattle.sc_live_journals.specs.mail.Definitions.{SlotsAreLeft}
-use Rattle.sc_live_journals.specs.logs.Definitions.{ViewsAreReplicas, SlotsHaveRosters, logged_sets}
-use Rattle.sc_live_answers.specs.Definitions.{ReplicasRunLogs, IsNamedGuide, IsReachedSo, NewestStay, IsOrdersRow, OrdersRowsFind, IsSentStep, NextRowsAreSent, SentReplicas, over_at, slot_leaders_at, NextRowsRise, IsRisingOn, IsRoundSince, OrdersKeepRounds, PrefixesAreFound, IsFoundPrefix, NoMailForStrangers, GoesToNode, OrderErrandsGoToNodes, NodeErrandsReachPlayers, IsCalmJournal, IsPrefixOf, AreSent, IsNamedGroup, RestsAt, IsUnder, GivenOrdersFindCalm, ViewsAgree, ChildrenAreCreated, YoungGroupsStay, TrueOrdersBegin, EndingGroupsBegin, NamesStayFew, NoneWaits, IsHinted, HintedOrdersBegin, SettledOrdersBegin, AreSeen, OrdersBeginWork, WorkStandsAlone, IsOrderedSince, OrdersBeginOrdered, IsGiven}
-use Rattle.sc_live_journals.specs.scenes.Definitions.{AreUntouched, IsGivenInQuiet, FreshGroupsStay, FindsOrder, FoundOrdersStep, StageAfter}
-use Rattle.sc_live_journals.specs.charts.Definitions.{chart_at}
+use Rattle.sc_node_table.specs.NodeDefinitions.{ReplicaState, next, last_slot}
+use Rattle.sc_meaning.specs.sound.SoundDefinitions.{groups_at, Player, player_table, births, as_nodes}
+use Rattle.sc_live_steps.specs.calm.CalmDefinitions.{players, FindsCalm, IsAtRest, Rows}
+use Rattle.sc_live_steps.specs.orders.OrderDefinitions.{Stage, Still}
+use Rattle.sc_live_journals.specs.rows.RowDefinitions.{view_at, marks_at, IsSeat, with_event}
+use Rattle.sc_live_journals.specs.mail.MailDefinitions.{SlotsAreLeft}
+use Rattle.sc_live_journals.specs.logs.LogDefinitions.{ViewsAreReplicas, SlotsHaveRosters, logged_sets}
+use Rattle.sc_live_answers.specs.AnswerDefinitions.{ReplicasRunLogs, IsNamedGuide, IsReachedSo, NewestStay, IsOrdersRow, OrdersRowsFind, IsSentStep, NextRowsAreSent, SentReplicas, over_at, slot_leaders_at, NextRowsRise, IsRisingOn, IsRoundSince, OrdersKeepRounds, PrefixesAreFound, IsFoundPrefix, NoMailForStrangers, GoesToNode, OrderErrandsGoToNodes, NodeErrandsReachPlayers, IsCalmJournal, IsPrefixOf, AreSent, IsNamedGroup, RestsAt, IsUnder, GivenOrdersFindCalm, ViewsAgree, ChildrenAreCreated, YoungGroupsStay, TrueOrdersBegin, EndingGroupsBegin, NamesStayFew, NoneWaits, IsHinted, HintedOrdersBegin, SettledOrdersBegin, AreSeen, OrdersBeginWork, WorkStandsAlone, IsOrderedSince, OrdersBeginOrdered, IsGiven}
+use Rattle.sc_live_journals.specs.scenes.SceneDefinitions.{AreUntouched, IsGivenInQuiet, FreshGroupsStay, FindsOrder, FoundOrdersStep, StageAfter}
+use Rattle.sc_live_journals.specs.charts.ChartDefinitions.{chart_at}
 use Rattle.sc_live_answers.proofs.LedGroupsProofs.GuidedGroups as at_row
 use Rattle.sc_live_answers.proofs.LedGroupsProofs.GuidedGroups.{AreQuietWhileYoung, named_there, reached_even, lead_alone}
 use Rattle.sc_live_answers.proofs.OrdersProofs.ClientsUnderOrders.{started_still, told_stays}
 use Rattle.sc_live_answers.proofs.ErrandsProofs.SentMailGroups.{known_told}
-use Rattle.sc_group_table.specs.policy.Definitions.{is_reported as is_told_order}
+use Rattle.sc_group_table.specs.policy.PolicyDefinitions.{is_reported as is_told_order}
 use Rattle.sc_live_answers.proofs.OrdersProofs.HeldOrdersAtStart.{given_allowed, given_rows, refusal_at_start, held_at_start}
 use Rattle.sc_live_answers.proofs.LedMailProofs.WellLedLeaders.{well_led_lead_alone}
 use Rattle.sc_live_answers.proofs.LedGroupsProofs.JournalGroups.{calm_group, calm_slots}

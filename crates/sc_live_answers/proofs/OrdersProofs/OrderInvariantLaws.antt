@@ -1,14 +1,14 @@
 -- All that holds while an order is under way since a quiet prefix of a calm journal.
 use Rattle.sc_live_answers.proofs.VotesProofs.EntriesInFlight.{flights_are_entries as flights_are_entries_by}
 use Rattle.sc_live_answers.proofs.OrdersProofs.OrderFactLaws.{replicas_are_recorded, records_are_true, mail_comes_unsettled, asked_groups_stood, true_orders_go_on, settled_orders_go_on, coordinators_are_settled, hinted_orders_go_on, entries_are_true, true_orders_begin, settled_orders_begin}
-use Rattle.sc_live_journals.proofs.ScenesProofs.Lemmas.{quiet_scenes_are_over, fresh_groups_stay, found_orders_step}
-use Rattle.sc_law_groups.proofs.WholeProofs.Lemmas.{members_stay_rosters}
-use Rattle.sc_live_journals.proofs.LogsProofs.Lemmas.{slots_have_rosters, views_are_replicas}
+use Rattle.sc_live_journals.proofs.ScenesProofs.SceneLemmas.{quiet_scenes_are_over, fresh_groups_stay, found_orders_step}
+use Rattle.sc_law_groups.proofs.WholeProofs.WholeLemmas.{members_stay_rosters}
+use Rattle.sc_live_journals.proofs.LogsProofs.GroupLogLemmas.{slots_have_rosters, views_are_replicas}
 use Rattle.sc_live_answers.proofs.LedGroupsProofs.LedGroupLaws.{replicas_run_logs}
-use Rattle.sc_live_answers.specs.Definitions.{FlightsAreEntries, DeliveriesKeepOrdered, OrdersBeginOrdered}
+use Rattle.sc_live_answers.specs.AnswerDefinitions.{FlightsAreEntries, DeliveriesKeepOrdered, OrdersBeginOrdered}
 use Rattle.sc_live_answers.proofs.OrdersProofs.OrderInvariantAfterDeliveries.{deliveries_keep}
 use Rattle.sc_scenario.proofs.ScenarioProofs.Lemmas.{valid_scenarios_are_bounded}
-use Rattle.sc_live_journals.proofs.MailProofs.Lemmas.{slots_are_left, replicas_last, mail_may_come}
+use Rattle.sc_live_journals.proofs.MailProofs.MailLemmas.{slots_are_left, replicas_last, mail_may_come}
 use Rattle.sc_live_answers.proofs.LedMailProofs.GroupMailLaws.{next_rows_are_sent}
 use Rattle.sc_live_answers.proofs.BallotsProofs.NewestReplicas.{newest_stay}
 use Rattle.sc_live_answers.proofs.QuietProofs.QuietPrefixLaws.{prefixes_are_found, no_mail_for_strangers}

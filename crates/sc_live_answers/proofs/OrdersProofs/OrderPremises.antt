@@ -6,19 +6,19 @@ use Rattle.std.proofs.lemmas.List.{take_all}
 use Rattle.sc_node_table.specs.Values.{Draw, Base, OrderLine, OrderRefusal, Node, Client, Seat}
 use Rattle.sc_base.specs.Definitions.{Drawer, next_name}
 use Rattle.sc_words.specs.declared.commands.orders.OrderRefusal.TheVariants.{NotLeader}
-use Rattle.sc_group_table.specs.machine.Definitions.{refusal_of, Group}
+use Rattle.sc_group_table.specs.machine.MachineDefinitions.{refusal_of, Group}
 use Rattle.sc_actor.specs.declared.rows.Event.TheVariants.{Told}
 use Rattle.sc_actor.specs.Definitions.{value}
-use Rattle.sc_node_table.specs.Definitions.{NodeState, replica_of, group_of_order, first_of_both, named_refused, ordered_command, ordered_row, untaken, Place, ReplicaState, first_set, may_offer, settled}
+use Rattle.sc_node_table.specs.NodeDefinitions.{NodeState, replica_of, group_of_order, first_of_both, named_refused, ordered_command, ordered_row, untaken, Place, ReplicaState, first_set, may_offer, settled}
 use Rattle.sc_scenario.specs.declared.scenario.scenarios.Scenario.{Scenario}
 use Rattle.sc_scenario.specs.scenario.Definitions.{ValidScenariosAreBounded}
-use Rattle.sc_meaning.specs.sound.Definitions.{Player, player_table, births, as_nodes}
-use Rattle.sc_live_steps.specs.calm.Definitions.{players, FindsCalm, MayBeOrdered, idle_owes, StandsOnce, IsCalmOrder, IsAtRest, Rows, led_elsewhere, is_led}
-use Rattle.sc_live_journals.specs.rows.Definitions.{replicas_of, replica_in, view_at, IsSeat}
-use Rattle.sc_live_journals.specs.charts.Definitions.{names_at, chart_at, LedStandOnce}
-use Rattle.sc_live_steps.specs.orders.Definitions.{works, works_in, works_flying, works_ready, TablesOrder}
-use Rattle.sc_live_plain.specs.Definitions.{replicas_after}
-use Rattle.sc_live_answers.specs.Definitions.{AreAtNodes, IsCalmJournal, RestsAt, GivenOrdersFindCalm, ViewsAgree}
+use Rattle.sc_meaning.specs.sound.SoundDefinitions.{Player, player_table, births, as_nodes}
+use Rattle.sc_live_steps.specs.calm.CalmDefinitions.{players, FindsCalm, MayBeOrdered, idle_owes, StandsOnce, IsCalmOrder, IsAtRest, Rows, led_elsewhere, is_led}
+use Rattle.sc_live_journals.specs.rows.RowDefinitions.{replicas_of, replica_in, view_at, IsSeat}
+use Rattle.sc_live_journals.specs.charts.ChartDefinitions.{names_at, chart_at, LedStandOnce}
+use Rattle.sc_live_steps.specs.orders.OrderDefinitions.{works, works_in, works_flying, works_ready, TablesOrder}
+use Rattle.sc_live_plain.specs.PlainDefinitions.{replicas_after}
+use Rattle.sc_live_answers.specs.AnswerDefinitions.{AreAtNodes, IsCalmJournal, RestsAt, GivenOrdersFindCalm, ViewsAgree}
 use Rattle.sc_live_answers.proofs.OrdersProofs.OrderDeliveries.{led_there, named_so, gone_leads}
 
 -- one at rest has no work

@@ -7,17 +7,17 @@ use Rattle.sc_base.proofs.Lemmas.{same_name}
 use Rattle.sc_node_table.specs.Values.{Draw, Body, Command, Noop, Call, Join, Leave, Split, Begin, RecordVote, RecordWatch, Core, Lock, Free, Coordinating, Promised, Watching, Effect, Route, OrderResult, OrderRefusal, Heard, Frozen, No, Outcome, Abort, Merged, Moved, Migrated, Divided}
 use Rattle.sc_words.specs.declared.commands.orders.OrderResult.TheVariants.{Committed, Aborted}
 use Rattle.sc_words.specs.declared.commands.votes.Past.TheVariants as Cast
-use Rattle.sc_words.specs.commands.Definitions.{is_alone, is_changed, decided_in, result_of}
+use Rattle.sc_words.specs.commands.CommandDefinitions.{is_alone, is_changed, decided_in, result_of}
 use Rattle.sc_words.specs.declared.commands.bodies.Body.TheVariants as At
 use Rattle.sc_words.specs.declared.commands.effects.Effect.TheVariants.{NoEffect}
 use Rattle.sc_words.specs.declared.commands.votes.Vote.TheVariants as Says
-use Rattle.sc_group_table.specs.machine.Definitions.{Group, applied, ordered, split_group, begun_group, left_group, has_named, refusal_of, with_node, without_node, asks_watcher, participant_answered, committed, granted, released, vote_recorded, watch_recorded, can_split, may_merge, merged_route, merged_group, closing_group, closing_plan, can_repart, giving_plan, taking_plan, giving_group, taking_group, part_gift, taken, has_key_of, can_migrate, migrated_group}
-use Rattle.sc_node_table.specs.Definitions.{before_of, before_in, begun_result, outcome_result}
-use Rattle.sc_live_steps.specs.orders.Definitions.{Turn, First, Lone, Next, is_watch, Work, Opens, Records, Asking, IsOrder, work_by, bond_of, bond_in, turn_of}
-use Rattle.sc_live_steps.proofs.OrderStepsProofs.Lemmas.{orders-leave, records-leave}
+use Rattle.sc_group_table.specs.machine.MachineDefinitions.{Group, applied, ordered, split_group, begun_group, left_group, has_named, refusal_of, with_node, without_node, asks_watcher, participant_answered, committed, granted, released, vote_recorded, watch_recorded, can_split, may_merge, merged_route, merged_group, closing_group, closing_plan, can_repart, giving_plan, taking_plan, giving_group, taking_group, part_gift, taken, has_key_of, can_migrate, migrated_group}
+use Rattle.sc_node_table.specs.NodeDefinitions.{before_of, before_in, begun_result, outcome_result}
+use Rattle.sc_live_steps.specs.orders.OrderDefinitions.{Turn, First, Lone, Next, is_watch, Work, Opens, Records, Asking, IsOrder, work_by, bond_of, bond_in, turn_of}
+use Rattle.sc_live_steps.proofs.OrderStepsProofs.OrderStepLemmas.{orders-leave, records-leave}
 use Rattle.sc_live_steps.proofs.OrderStepsProofs.ErrandTables.{watch_is as asks_by}
-use Rattle.sc_live_journals.specs.scenes.Definitions.{StaysIn}
-use Rattle.sc_live_answers.specs.Definitions.{IsTrueEntry, HasNumber, LockNumber}
+use Rattle.sc_live_journals.specs.scenes.SceneDefinitions.{StaysIn}
+use Rattle.sc_live_answers.specs.AnswerDefinitions.{IsTrueEntry, HasNumber, LockNumber}
 use Rattle.sc_live_answers.proofs.VotesProofs.ReportedMail.{Ends}
 use Rattle.sc_live_answers.proofs.VotesProofs.TransactionTurns.{first_turn}
 

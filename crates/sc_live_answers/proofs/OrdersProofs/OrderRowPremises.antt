@@ -9,23 +9,23 @@ use Rattle.sc_live_answers.proofs.LedMailProofs.LeaderMail.{leaders_found}
 use Rattle.sc_live_answers.proofs.LedMailProofs.WellLedLeaders.{alone, quiet_leaders_have_nothing, unbound}
 use Rattle.sc_live_answers.proofs.LedMailProofs.MailWithoutReplica.{missed_found, young_may}
 use Rattle.sc_live_answers.proofs.VotesProofs.LeaderVotes.{votes_found}
-use Rattle.sc_live_answers.specs.Definitions.{IsHere, IsGuided, IsNamedGuide, IsYoung, IsOrdersRow, IsGivenCalmly, MakesYoung, OrdersRowsFind, OrdersRowsMeet}
-use Rattle.sc_live_journals.proofs.GroupsProofs.Lemmas.{replicas_kept, scenarios_kept_born, Plays as TopPlays, replay_well as tops_replay, top_plays as plays_of}
-use Rattle.sc_live_journals.specs.groups.Definitions.{IsSlotKept}
-use Rattle.sc_live_steps.specs.calm.Definitions.{players, Rows}
-use Rattle.sc_live_journals.proofs.MailProofs.Lemmas.{journals_idle, mail_comes, mail_posted}
-use Rattle.sc_live_journals.specs.mail.Definitions.{IsPlainlyKept, IsPosted}
-use Rattle.sc_live_steps.specs.orders.Definitions.{works_in, IsIdle}
-use Rattle.sc_live_journals.proofs.RowsProofs.Lemmas.{view_was}
-use Rattle.sc_live_journals.specs.rows.Definitions.{view_at}
-use Rattle.sc_live_journals.specs.scenes.Definitions.{IsOrdered, AtAnother, AtLeader, ByAnother, ByLeader, FindsOrder, FindsQuiet, FindsReplica, NodeFinds, HasNothing, IsTaking, MayCreate, LeadsAlone}
-use Rattle.sc_node_table.specs.Definitions.{NodeState, group_of_order, may_come, replica_of, ReplicaState, mailed}
-use Rattle.sc_live_orderly.proofs.Lemmas.{in_time_before}
-use Rattle.sc_live_orderly.specs.Definitions.{AreInTime}
-use Rattle.sc_words.proofs.PaxosProofs.Lemmas.{Each-among, Each-weaker}
+use Rattle.sc_live_answers.specs.AnswerDefinitions.{IsHere, IsGuided, IsNamedGuide, IsYoung, IsOrdersRow, IsGivenCalmly, MakesYoung, OrdersRowsFind, OrdersRowsMeet}
+use Rattle.sc_live_journals.proofs.GroupsProofs.GroupLemmas.{replicas_kept, scenarios_kept_born, Plays as TopPlays, replay_well as tops_replay, top_plays as plays_of}
+use Rattle.sc_live_journals.specs.groups.GroupDefinitions.{IsSlotKept}
+use Rattle.sc_live_steps.specs.calm.CalmDefinitions.{players, Rows}
+use Rattle.sc_live_journals.proofs.MailProofs.MailLemmas.{journals_idle, mail_comes, mail_posted}
+use Rattle.sc_live_journals.specs.mail.MailDefinitions.{IsPlainlyKept, IsPosted}
+use Rattle.sc_live_steps.specs.orders.OrderDefinitions.{works_in, IsIdle}
+use Rattle.sc_live_journals.proofs.RowsProofs.RowLemmas.{view_was}
+use Rattle.sc_live_journals.specs.rows.RowDefinitions.{view_at}
+use Rattle.sc_live_journals.specs.scenes.SceneDefinitions.{IsOrdered, AtAnother, AtLeader, ByAnother, ByLeader, FindsOrder, FindsQuiet, FindsReplica, NodeFinds, HasNothing, IsTaking, MayCreate, LeadsAlone}
+use Rattle.sc_node_table.specs.NodeDefinitions.{NodeState, group_of_order, may_come, replica_of, ReplicaState, mailed}
+use Rattle.sc_live_orderly.proofs.OrderlyLemmas.{in_time_before}
+use Rattle.sc_live_orderly.specs.OrderlyDefinitions.{AreInTime}
+use Rattle.sc_words.proofs.PaxosProofs.PaxosLemmas.{Each-among, Each-weaker}
 use Rattle.sc_scenario.specs.declared.scenario.scenarios.Scenario.{Scenario}
-use Rattle.sc_meaning.specs.sound.Definitions.{Player, as_nodes, births, player_table}
-use Rattle.sc_law_groups.proofs.GroupProofs.Lemmas.{number_among}
+use Rattle.sc_meaning.specs.sound.SoundDefinitions.{Player, as_nodes, births, player_table}
+use Rattle.sc_law_groups.proofs.GroupProofs.GroupLemmas.{number_among}
 
 -- a replica that is kept has nothing to do where it does not run
 idle_kept : (who : ℕ) (r : ReplicaState) → IsPlainlyKept who r → IsSlotKept r → r.running ≡ false → IsIdle r

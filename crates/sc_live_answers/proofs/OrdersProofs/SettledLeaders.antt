@@ -5,26 +5,26 @@ use Rattle.sc_base.specs.Definitions.{Among, Each, is_majority, is_member}
 use Rattle.sc_node_table.specs.Values.{Draw, Seat, Event, Deliver, Base, OrderLine, Mail, TxElsewhere, Node}
 use Rattle.sc_actor.specs.declared.rows.Event.TheVariants.{Told}
 use Rattle.sc_actor.specs.Definitions.{numbers_of, row_of}
-use Rattle.sc_group_table.specs.machine.Definitions.{Group}
-use Rattle.sc_node_table.specs.Definitions.{NodeState, group_of_mail, ReplicaState, first_set, may_offer, members, next, settled}
-use Rattle.sc_live_orderly.specs.Definitions.{IsCalmEvent, is_born, AreInTime}
-use Rattle.sc_live_orderly.proofs.Lemmas.{in_time_tidy, last_in_time, quiet-empty}
-use Rattle.sc_words.specs.paxos.Definitions.{below}
-use Rattle.sc_words.proofs.PaxosProofs.Lemmas.{Each-among}
+use Rattle.sc_group_table.specs.machine.MachineDefinitions.{Group}
+use Rattle.sc_node_table.specs.NodeDefinitions.{NodeState, group_of_mail, ReplicaState, first_set, may_offer, members, next, settled}
+use Rattle.sc_live_orderly.specs.OrderlyDefinitions.{IsCalmEvent, is_born, AreInTime}
+use Rattle.sc_live_orderly.proofs.OrderlyLemmas.{in_time_tidy, last_in_time, quiet-empty}
+use Rattle.sc_words.specs.paxos.PaxosDefinitions.{below}
+use Rattle.sc_words.proofs.PaxosProofs.PaxosLemmas.{Each-among}
 use Rattle.sc_scenario.specs.declared.scenario.scenarios.Scenario.{Scenario}
-use Rattle.sc_meaning.specs.sound.Definitions.{Player, as_nodes, births, player_table}
-use Rattle.sc_live_steps.specs.following.Definitions.{Course, IsOpen, Prepares, Promises, marks_of, members_at, IsLeadOf}
-use Rattle.sc_live_steps.proofs.FollowingProofs.Lemmas.{order_is_kept, decided as all_decide}
-use Rattle.sc_live_steps.specs.calm.Definitions.{players, Rows}
-use Rattle.sc_live_journals.specs.logs.Definitions.{IsGroupOf, logged_sets}
-use Rattle.sc_live_answers.specs.Definitions.{over_at, slot_leaders_at, IsSentThrough, IsOrdersAlone, AreSent, IsCalmJournal, IsPrefixOf, RestsAt, HasDone, doer, doers_of, opened, AreSettled, CoordinatorsAreSettled, HasNoRounds, IsNoRound, SettledOrdersBegin, SettledOrdersGoOn, coords_of, ReplicasAreRecorded, AreSeen, IsTrueSince, TakesSince}
-use Rattle.sc_live_journals.specs.groups.Definitions.{IsLedStep}
-use Rattle.sc_live_journals.proofs.GroupsProofs.Lemmas.{scenarios_well_born, events_go_on, first_at}
-use Rattle.sc_live_steps.specs.orders.Definitions.{OfQuestion, OfVote, OfOutcome, LastTakes, OneTakes, TwoTakes, LastFreed, OneFreed, TwoFreed, IsStepOf, ByRest, ByOrder, ByChange, ByDeal, ByPassing, ByAsking, ByTaking, ByVote, ByNo, ByHearing, ByDeciding, ByEnd, closed, errand_by, Asking, Elsewhere, First, Here, Lone, Next, Turn, Asks, Closes, ClosesBoth, Deal, IsAt, Ordered, Recorded, Replied, SentOn, Stage, Still, Weighs}
-use Rattle.sc_live_journals.specs.rows.Definitions.{marks_at, progress_at, view_at, IsSeat, with_event}
-use Rattle.sc_live_journals.proofs.RowsProofs.Lemmas.{view_was}
-use Rattle.sc_live_journals.specs.scenes.Definitions.{IsThere, GoesBy, is_running, scene_at}
-use Rattle.sc_live_journals.proofs.ScenesProofs.Lemmas.{lead_runs, calm_is}
+use Rattle.sc_meaning.specs.sound.SoundDefinitions.{Player, as_nodes, births, player_table}
+use Rattle.sc_live_steps.specs.following.FollowingDefinitions.{Course, IsOpen, Prepares, Promises, marks_of, members_at, IsLeadOf}
+use Rattle.sc_live_steps.proofs.FollowingProofs.FollowingLemmas.{order_is_kept, decided as all_decide}
+use Rattle.sc_live_steps.specs.calm.CalmDefinitions.{players, Rows}
+use Rattle.sc_live_journals.specs.logs.LogDefinitions.{IsGroupOf, logged_sets}
+use Rattle.sc_live_answers.specs.AnswerDefinitions.{over_at, slot_leaders_at, IsSentThrough, IsOrdersAlone, AreSent, IsCalmJournal, IsPrefixOf, RestsAt, HasDone, doer, doers_of, opened, AreSettled, CoordinatorsAreSettled, HasNoRounds, IsNoRound, SettledOrdersBegin, SettledOrdersGoOn, coords_of, ReplicasAreRecorded, AreSeen, IsTrueSince, TakesSince}
+use Rattle.sc_live_journals.specs.groups.GroupDefinitions.{IsLedStep}
+use Rattle.sc_live_journals.proofs.GroupsProofs.GroupLemmas.{scenarios_well_born, events_go_on, first_at}
+use Rattle.sc_live_steps.specs.orders.OrderDefinitions.{OfQuestion, OfVote, OfOutcome, LastTakes, OneTakes, TwoTakes, LastFreed, OneFreed, TwoFreed, IsStepOf, ByRest, ByOrder, ByChange, ByDeal, ByPassing, ByAsking, ByTaking, ByVote, ByNo, ByHearing, ByDeciding, ByEnd, closed, errand_by, Asking, Elsewhere, First, Here, Lone, Next, Turn, Asks, Closes, ClosesBoth, Deal, IsAt, Ordered, Recorded, Replied, SentOn, Stage, Still, Weighs}
+use Rattle.sc_live_journals.specs.rows.RowDefinitions.{marks_at, progress_at, view_at, IsSeat, with_event}
+use Rattle.sc_live_journals.proofs.RowsProofs.RowLemmas.{view_was}
+use Rattle.sc_live_journals.specs.scenes.SceneDefinitions.{IsThere, GoesBy, is_running, scene_at}
+use Rattle.sc_live_journals.proofs.ScenesProofs.SceneLemmas.{lead_runs, calm_is}
 use Rattle.sc_live_answers.proofs.WorkProofs.Parties.{Coordinates}
 use Rattle.sc_live_answers.proofs.ErrandsProofs.PendingErrands.{IsSentOn, elsewhere_at, is_pending}
 use Rattle.sc_live_answers.proofs.BallotsProofs.RowsWithoutRounds.{rounds_stay}

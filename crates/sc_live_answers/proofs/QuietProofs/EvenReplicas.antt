@@ -3,14 +3,14 @@ use Rattle.std.proofs.Common.{◌≡◌, ℕ, ◌+◌, ◌≤◌, Bool, true, fa
 use Rattle.std.proofs.lemmas.Bool.{cases_Bool}
 use Rattle.sc_node_table.specs.Values.{Draw, Base, Seat}
 use Rattle.sc_base.specs.Definitions.{is_member, least_of}
-use Rattle.sc_node_table.specs.Definitions.{ReplicaState}
-use Rattle.sc_meaning.specs.sound.Definitions.{Player}
-use Rattle.sc_live_steps.specs.calm.Definitions.{players, HasReplica, Rows}
-use Rattle.sc_live_steps.specs.following.Definitions.{Course, Progress, Sets, members_at, IsEven, IsEvenLed, SlotLeaders}
-use Rattle.sc_live_steps.proofs.FollowingProofs.Lemmas.{quiet-even, least_in}
-use Rattle.sc_live_journals.specs.rows.Definitions.{view_at, marks_at, next_in, progress_at, IsLedBy}
-use Rattle.sc_live_journals.specs.groups.Definitions.{Ends}
-use Rattle.sc_live_answers.specs.Definitions.{IsSentThrough}
+use Rattle.sc_node_table.specs.NodeDefinitions.{ReplicaState}
+use Rattle.sc_meaning.specs.sound.SoundDefinitions.{Player}
+use Rattle.sc_live_steps.specs.calm.CalmDefinitions.{players, HasReplica, Rows}
+use Rattle.sc_live_steps.specs.following.FollowingDefinitions.{Course, Progress, Sets, members_at, IsEven, IsEvenLed, SlotLeaders}
+use Rattle.sc_live_steps.proofs.FollowingProofs.FollowingLemmas.{quiet-even, least_in}
+use Rattle.sc_live_journals.specs.rows.RowDefinitions.{view_at, marks_at, next_in, progress_at, IsLedBy}
+use Rattle.sc_live_journals.specs.groups.GroupDefinitions.{Ends}
+use Rattle.sc_live_answers.specs.AnswerDefinitions.{IsSentThrough}
 
 module _ (words : ℕ → ℕ → ℕ × ℕ) (at : Sets) (over : Ends) (by : SlotLeaders) (births : List (Seat Player)) (prefix : Rows) (base : Base) (t : IsSentThrough at over by words births prefix base) where
   abbrev name : Draw

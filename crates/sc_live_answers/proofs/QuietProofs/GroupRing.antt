@@ -4,11 +4,11 @@ use Rattle.std.specs.Prelude.{IsTrue}
 use Rattle.std.proofs.lemmas.Bool.{lt-ltb}
 use Rattle.sc_base.proofs.Lemmas.{draw_is, same_name}
 use Rattle.sc_base.specs.Definitions.{Among, Each, Arc, IsArc, offset, holds, end_of, same_draw}
-use Rattle.sc_meaning.specs.entries.Definitions.{IsPlaced, Covers, StoreWorld}
+use Rattle.sc_meaning.specs.entries.EntryDefinitions.{IsPlaced, Covers, StoreWorld}
 use Rattle.sc_meaning.specs.declared.entries.Cut.{Cut}
-use Rattle.sc_words.proofs.PaxosProofs.Lemmas.{Each-among}
-use Rattle.sc_live_plain.specs.Definitions.{IsRingOf, FollowedBy, Setting, Frame}
-use Rattle.sc_live_answers.specs.Definitions.{IsOfCut, AreOfCuts, StandingGroupsAreRound}
+use Rattle.sc_words.proofs.PaxosProofs.PaxosLemmas.{Each-among}
+use Rattle.sc_live_plain.specs.PlainDefinitions.{IsRingOf, FollowedBy, Setting, Frame}
+use Rattle.sc_live_answers.specs.AnswerDefinitions.{IsOfCut, AreOfCuts, StandingGroupsAreRound}
 use Rattle.sc_live_answers.proofs.LinksProofs.RingCycles.{IsNoneOf, AreDistinct, IsChain, last_from, IsRound, round}
 
 -- ---- chains by their places

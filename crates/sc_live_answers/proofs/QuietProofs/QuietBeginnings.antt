@@ -4,22 +4,22 @@ use Rattle.std.proofs.lemmas.Bool.{cond_both, cond-true, eqb-true, eq-eqb}
 use Rattle.sc_base.specs.Definitions.{Among, Each, same_draw, is_member, least_of}
 use Rattle.sc_node_table.specs.Values.{Draw, Base, Core}
 use Rattle.sc_base.proofs.Lemmas.{draw_is}
-use Rattle.sc_client_table.specs.table.Definitions.{Client as ClientState, born_client}
-use Rattle.sc_words.proofs.PaxosProofs.Lemmas.{at_least_itself, Each-among, find_found}
+use Rattle.sc_client_table.specs.table.TableDefinitions.{Client as ClientState, born_client}
+use Rattle.sc_words.proofs.PaxosProofs.PaxosLemmas.{at_least_itself, Each-among, find_found}
 use Rattle.sc_paxos_law.proofs.Lemmas.{from_map}
-use Rattle.sc_group_table.specs.machine.Definitions.{group_of}
-use Rattle.sc_node_table.specs.Definitions.{born_replicas, born_node, replica_of, is_node, ReplicaState, name_of, next, members, first_ballot, born_replica, slots_ahead}
+use Rattle.sc_group_table.specs.machine.MachineDefinitions.{group_of}
+use Rattle.sc_node_table.specs.NodeDefinitions.{born_replicas, born_node, replica_of, is_node, ReplicaState, name_of, next, members, first_ballot, born_replica, slots_ahead}
 use Rattle.sc_scenario.specs.scenario.Definitions.{IsBounded, ValidScenariosAreBounded}
 use Rattle.sc_scenario.specs.declared.scenario.scenarios.Asks.{Asks}
 use Rattle.sc_scenario.specs.declared.scenario.scenarios.Scenario.{Scenario}
-use Rattle.sc_meaning.specs.sound.Definitions.{route_of}
-use Rattle.sc_live_steps.specs.calm.Definitions.{View, IsNewest, IsAtRest, IsBelow, IsLinked, StandsQuiet, RisesAt, IsAnswered, IsQuiet}
-use Rattle.sc_live_steps.proofs.CalmStepsProofs.Lemmas.{begin_at_rest, first_leads}
-use Rattle.sc_live_plain.specs.Definitions.{replicas_after, IsQuietJournal, IsOfNodes, IsKept, frame_at_rest, Frame, IsFrame, frame_of, IsBegun, Requests, IsPlainGroup}
-use Rattle.sc_live_plain.proofs.Lemmas.{born_plain, born_found, frames_of, stage, IsBefore, parts_of, map_among, round}
+use Rattle.sc_meaning.specs.sound.SoundDefinitions.{route_of}
+use Rattle.sc_live_steps.specs.calm.CalmDefinitions.{View, IsNewest, IsAtRest, IsBelow, IsLinked, StandsQuiet, RisesAt, IsAnswered, IsQuiet}
+use Rattle.sc_live_steps.proofs.CalmStepsProofs.CalmStepLemmas.{begin_at_rest, first_leads}
+use Rattle.sc_live_plain.specs.PlainDefinitions.{replicas_after, IsQuietJournal, IsOfNodes, IsKept, frame_at_rest, Frame, IsFrame, frame_of, IsBegun, Requests, IsPlainGroup}
+use Rattle.sc_live_plain.proofs.PlainLemmas.{born_plain, born_found, frames_of, stage, IsBefore, parts_of, map_among, round}
 use Rattle.sc_live_journals.proofs.RowsProofs.ScenarioGroups.{named_once}
-use Rattle.sc_law_groups.proofs.WholeProofs.Lemmas.{group_place}
-use Rattle.sc_live_answers.specs.Definitions.{QuietJournalsBegin}
+use Rattle.sc_law_groups.proofs.WholeProofs.WholeLemmas.{group_place}
+use Rattle.sc_live_answers.specs.AnswerDefinitions.{QuietJournalsBegin}
 
 -- the replicas of a node are those of the groups of which it is a member
 born_members : (P : ReplicaState → Type 0) (me : ℕ) (groups : List Base) → ((base : Base) → Among base groups → is_member base.core.members me ≡ true → P (born_replica slots_ahead me base)) → Each P (born_replicas slots_ahead me groups)

@@ -6,18 +6,18 @@ use Rattle.std.proofs.lemmas.Bool.{cases_Bool, lt-ltb}
 use Rattle.sc_base.proofs.Lemmas.{draw_is, same_name}
 use Rattle.sc_base.specs.Definitions.{Among, Arc, IsArc, offset, holds, same_draw, pos_of}
 use Rattle.sc_node_table.specs.Values.{Draw, Base, Free, OrderLine, Mail, Row}
-use Rattle.sc_words.specs.ideal.Definitions.{holds_key}
-use Rattle.sc_meaning.specs.entries.Definitions.{effective, effective_by, is_open, serves, IsPlaced, StoreWorld, named_group, is_named}
+use Rattle.sc_words.specs.ideal.IdealDefinitions.{holds_key}
+use Rattle.sc_meaning.specs.entries.EntryDefinitions.{effective, effective_by, is_open, serves, IsPlaced, StoreWorld, named_group, is_named}
 use Rattle.sc_meaning.specs.declared.entries.Cut.{Cut}
-use Rattle.sc_law_entries.specs.logs.Definitions.{AreItsLogs}
-use Rattle.sc_group_table.specs.machine.Definitions.{Group}
-use Rattle.sc_node_table.specs.Definitions.{ReplicaState, next}
-use Rattle.sc_words.proofs.PaxosProofs.Lemmas.{find_found}
+use Rattle.sc_law_entries.specs.logs.LogDefinitions.{AreItsLogs}
+use Rattle.sc_group_table.specs.machine.MachineDefinitions.{Group}
+use Rattle.sc_node_table.specs.NodeDefinitions.{ReplicaState, next}
+use Rattle.sc_words.proofs.PaxosProofs.PaxosLemmas.{find_found}
 use Rattle.sc_scenario.specs.declared.scenario.scenarios.Scenario.{Scenario}
-use Rattle.sc_meaning.specs.sound.Definitions.{groups_at, is_birth_of, world_at, as_nodes, IsOneMap}
-use Rattle.sc_live_steps.specs.calm.Definitions.{IsNewest, StandsQuiet}
-use Rattle.sc_live_plain.specs.Definitions.{replicas_after, IsQuietJournal}
-use Rattle.sc_live_answers.specs.Definitions.{state_of, AreKnown}
+use Rattle.sc_meaning.specs.sound.SoundDefinitions.{groups_at, is_birth_of, world_at, as_nodes, IsOneMap}
+use Rattle.sc_live_steps.specs.calm.CalmDefinitions.{IsNewest, StandsQuiet}
+use Rattle.sc_live_plain.specs.PlainDefinitions.{replicas_after, IsQuietJournal}
+use Rattle.sc_live_answers.specs.AnswerDefinitions.{state_of, AreKnown}
 
 -- ---- names
 

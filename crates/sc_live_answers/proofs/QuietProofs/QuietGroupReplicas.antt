@@ -3,24 +3,24 @@ use Rattle.std.proofs.Common.{◌≡◌, ℕ, ◌+◌, ◌<◌, ◌≤◌, Bool,
 use Rattle.std.proofs.lemmas.Bool.{cases_Bool, cases_lt}
 use Rattle.sc_base.specs.Definitions.{Among, is_member}
 use Rattle.sc_node_table.specs.Values.{Base, Seat}
-use Rattle.sc_live_orderly.specs.Definitions.{is_born}
-use Rattle.sc_live_orderly.proofs.Lemmas.{in_time_tidy, quiet-empty}
+use Rattle.sc_live_orderly.specs.OrderlyDefinitions.{is_born}
+use Rattle.sc_live_orderly.proofs.OrderlyLemmas.{in_time_tidy, quiet-empty}
 use Rattle.sc_scenario.specs.declared.scenario.scenarios.Scenario.{Scenario}
-use Rattle.sc_node_table.specs.Definitions.{ReplicaState, next, last_slot}
-use Rattle.sc_meaning.specs.sound.Definitions.{Player, births, as_nodes}
-use Rattle.sc_live_steps.specs.calm.Definitions.{players, HasReplica}
-use Rattle.sc_law_entries.specs.logs.Definitions.{Rows}
-use Rattle.sc_live_steps.specs.following.Definitions.{marks_of, Course, Progress, Sets, members_at, SlotLeaders, AreAt}
-use Rattle.sc_live_steps.proofs.FollowingProofs.Lemmas.{quiet_members_know}
-use Rattle.sc_live_journals.specs.rows.Definitions.{IsEvenAt, next_in, progress_at, marks_at}
-use Rattle.sc_live_journals.proofs.RowsProofs.Lemmas.{quiet_rests}
-use Rattle.sc_live_journals.specs.logs.Definitions.{logged_sets, HasReplica as HasLogged}
-use Rattle.sc_live_journals.proofs.LogsProofs.Lemmas.{views_are_replicas}
-use Rattle.sc_live_journals.specs.mail.Definitions.{IsPlainlyKept}
-use Rattle.sc_live_journals.proofs.MailProofs.Lemmas.{journals_idle, slots_left}
-use Rattle.sc_live_journals.specs.groups.Definitions.{Ends, IsOfLog, IsSlotKept, IsTopKept}
-use Rattle.sc_live_journals.proofs.GroupsProofs.Lemmas.{replicas_kept, scenarios_kept_born}
-use Rattle.sc_live_answers.specs.Definitions.{over_at, state_at, ReplicasRunLogs, replicas_at, IsQuietGroup}
+use Rattle.sc_node_table.specs.NodeDefinitions.{ReplicaState, next, last_slot}
+use Rattle.sc_meaning.specs.sound.SoundDefinitions.{Player, births, as_nodes}
+use Rattle.sc_live_steps.specs.calm.CalmDefinitions.{players, HasReplica}
+use Rattle.sc_law_entries.specs.logs.LogDefinitions.{Rows}
+use Rattle.sc_live_steps.specs.following.FollowingDefinitions.{marks_of, Course, Progress, Sets, members_at, SlotLeaders, AreAt}
+use Rattle.sc_live_steps.proofs.FollowingProofs.FollowingLemmas.{quiet_members_know}
+use Rattle.sc_live_journals.specs.rows.RowDefinitions.{IsEvenAt, next_in, progress_at, marks_at}
+use Rattle.sc_live_journals.proofs.RowsProofs.RowLemmas.{quiet_rests}
+use Rattle.sc_live_journals.specs.logs.LogDefinitions.{logged_sets, HasReplica as HasLogged}
+use Rattle.sc_live_journals.proofs.LogsProofs.GroupLogLemmas.{views_are_replicas}
+use Rattle.sc_live_journals.specs.mail.MailDefinitions.{IsPlainlyKept}
+use Rattle.sc_live_journals.proofs.MailProofs.MailLemmas.{journals_idle, slots_left}
+use Rattle.sc_live_journals.specs.groups.GroupDefinitions.{Ends, IsOfLog, IsSlotKept, IsTopKept}
+use Rattle.sc_live_journals.proofs.GroupsProofs.GroupLemmas.{replicas_kept, scenarios_kept_born}
+use Rattle.sc_live_answers.specs.AnswerDefinitions.{over_at, state_at, ReplicasRunLogs, replicas_at, IsQuietGroup}
 
 -- the members of as many slots from one on are the same
 pub opens_same : (at : Sets) (slot : ℕ) (xs ys : List (List ℕ)) → AreAt at slot xs → AreAt at slot ys → length xs ≡ length ys → xs ≡ ys

@@ -1,8 +1,8 @@
 -- What a quiet group is does not depend on how its replicas are seen.
 use Rattle.std.proofs.Common.{◌≡◌, ℕ, Some, sym, ◌∙◌}
 use Rattle.sc_node_table.specs.Values.{Draw}
-use Rattle.sc_node_table.specs.Definitions.{ReplicaState}
-use Rattle.sc_live_steps.specs.calm.Definitions.{View, HasReplica, IsNewest, IsLinked, StandsQuiet, IsGoneQuiet}
+use Rattle.sc_node_table.specs.NodeDefinitions.{ReplicaState}
+use Rattle.sc_live_steps.specs.calm.CalmDefinitions.{View, HasReplica, IsNewest, IsLinked, StandsQuiet, IsGoneQuiet}
 
 module _ (one other : View) (same : (name : Draw) (node : ℕ) → other name node ≡ one name node) where
   has_as : (name : Draw) (node : ℕ) → HasReplica one name node → HasReplica other name node

@@ -3,18 +3,18 @@ use Rattle.std.proofs.Common.{◌≡◌, ◌⊎◌, inl, inr, ℕ, Bool, true, f
 use Rattle.std.specs.Prelude.{nat_le}
 use Rattle.sc_node_table.specs.Values.{Draw, Base, OrderLine, Mail}
 use Rattle.sc_actor.specs.Definitions.{mails, copies, System, numbers_of}
-use Rattle.sc_live_orderly.proofs.Lemmas.{in_time_tidy, quiet-empty}
+use Rattle.sc_live_orderly.proofs.OrderlyLemmas.{in_time_tidy, quiet-empty}
 use Rattle.sc_scenario.specs.declared.scenario.scenarios.Scenario.{Scenario}
-use Rattle.sc_node_table.specs.Definitions.{ReplicaState, next}
-use Rattle.sc_meaning.specs.sound.Definitions.{Player, births, as_nodes}
-use Rattle.sc_live_steps.specs.calm.Definitions.{players, IsAtRest, Rows}
-use Rattle.sc_live_steps.specs.orders.Definitions.{bond_in, errands_for, Bond, Unbound, Work, Errand, Here, free, Still, IsAt}
-use Rattle.sc_live_journals.specs.rows.Definitions.{view_at}
-use Rattle.sc_live_journals.specs.scenes.Definitions.{later, newest_of, lead_of, bond_there, bond_by, works_of, work_at, left_after, scene_at}
-use Rattle.sc_live_journals.proofs.ScenesProofs.Lemmas.{none_left}
-use Rattle.sc_live_answers.specs.Definitions.{IsQuietPrefix, PrefixesAreFound, RestsAt, QuietPrefixesRest, RestsBesides, QuietJournalsRest}
+use Rattle.sc_node_table.specs.NodeDefinitions.{ReplicaState, next}
+use Rattle.sc_meaning.specs.sound.SoundDefinitions.{Player, births, as_nodes}
+use Rattle.sc_live_steps.specs.calm.CalmDefinitions.{players, IsAtRest, Rows}
+use Rattle.sc_live_steps.specs.orders.OrderDefinitions.{bond_in, errands_for, Bond, Unbound, Work, Errand, Here, free, Still, IsAt}
+use Rattle.sc_live_journals.specs.rows.RowDefinitions.{view_at}
+use Rattle.sc_live_journals.specs.scenes.SceneDefinitions.{later, newest_of, lead_of, bond_there, bond_by, works_of, work_at, left_after, scene_at}
+use Rattle.sc_live_journals.proofs.ScenesProofs.SceneLemmas.{none_left}
+use Rattle.sc_live_answers.specs.AnswerDefinitions.{IsQuietPrefix, PrefixesAreFound, RestsAt, QuietPrefixesRest, RestsBesides, QuietJournalsRest}
 use Rattle.sc_live_answers.proofs.RequestsProofs.RequestInvariant.{prefix_timely}
-use Rattle.sc_live_plain.specs.Definitions.{IsQuietJournal}
+use Rattle.sc_live_plain.specs.PlainDefinitions.{IsQuietJournal}
 use Rattle.sc_live_answers.proofs.OrdersProofs.OrderPremises.{no_works}
 
 -- ---- replicas that rest

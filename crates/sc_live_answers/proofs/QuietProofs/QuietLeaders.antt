@@ -2,15 +2,15 @@
 use Rattle.std.proofs.Common.{◌≡◌, ℕ, true, true≢false, Option, Some, None, inl, inr, sym, ◌∙◌, ap, subst}
 use Rattle.sc_node_table.specs.Values.{Draw, Route}
 use Rattle.sc_base.specs.Definitions.{least_of}
-use Rattle.sc_group_table.specs.machine.Definitions.{Group}
-use Rattle.sc_node_table.specs.Definitions.{ReplicaState}
+use Rattle.sc_group_table.specs.machine.MachineDefinitions.{Group}
+use Rattle.sc_node_table.specs.NodeDefinitions.{ReplicaState}
 use Rattle.sc_scenario.specs.declared.scenario.scenarios.Scenario.{Scenario}
-use Rattle.sc_meaning.specs.sound.Definitions.{as_nodes, births}
-use Rattle.sc_live_steps.specs.calm.Definitions.{HasReplica, IsNewest, IsQuiet, StandsQuiet, View, Rows}
-use Rattle.sc_live_answers.specs.Definitions.{AreKnown, AreReachable, AreSeen}
-use Rattle.sc_live_journals.specs.scenes.Definitions.{IsThere}
-use Rattle.sc_live_plain.specs.Definitions.{replicas_after}
-use Rattle.sc_live_steps.proofs.FollowingProofs.Lemmas.{least_in}
+use Rattle.sc_meaning.specs.sound.SoundDefinitions.{as_nodes, births}
+use Rattle.sc_live_steps.specs.calm.CalmDefinitions.{HasReplica, IsNewest, IsQuiet, StandsQuiet, View, Rows}
+use Rattle.sc_live_answers.specs.AnswerDefinitions.{AreKnown, AreReachable, AreSeen}
+use Rattle.sc_live_journals.specs.scenes.SceneDefinitions.{IsThere}
+use Rattle.sc_live_plain.specs.PlainDefinitions.{replicas_after}
+use Rattle.sc_live_steps.proofs.FollowingProofs.FollowingLemmas.{least_in}
 
 no_route : (into : Route) → ◌≡◌ {A = Option Route} None (Some into) → ⊥
 no_route into e = cc

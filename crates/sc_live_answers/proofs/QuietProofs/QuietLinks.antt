@@ -5,18 +5,18 @@ use Rattle.std.proofs.lemmas.Option.{none-some, same_Some}
 use Rattle.sc_base.specs.Definitions.{Among, Arc, IsArc, holds, end_of, is_member}
 use Rattle.sc_base.proofs.Lemmas.{draw_is}
 use Rattle.sc_node_table.specs.Values.{Base}
-use Rattle.sc_words.specs.ideal.Definitions.{holds_key}
-use Rattle.sc_meaning.specs.entries.Definitions.{effective, effective_by, IsPlaced, StoreWorld, named_group, is_named}
+use Rattle.sc_words.specs.ideal.IdealDefinitions.{holds_key}
+use Rattle.sc_meaning.specs.entries.EntryDefinitions.{effective, effective_by, IsPlaced, StoreWorld, named_group, is_named}
 use Rattle.sc_meaning.specs.declared.entries.Cut.{Cut}
-use Rattle.sc_law_entries.specs.logs.Definitions.{Rows, AreItsLogs}
-use Rattle.sc_law_entries.proofs.LogsProofs.Lemmas.{find_base}
-use Rattle.sc_group_table.specs.machine.Definitions.{Group}
-use Rattle.sc_words.proofs.PaxosProofs.Lemmas.{find_found}
+use Rattle.sc_law_entries.specs.logs.LogDefinitions.{Rows, AreItsLogs}
+use Rattle.sc_law_entries.proofs.LogsProofs.LogLemmas.{find_base}
+use Rattle.sc_group_table.specs.machine.MachineDefinitions.{Group}
+use Rattle.sc_words.proofs.PaxosProofs.PaxosLemmas.{find_found}
 use Rattle.sc_scenario.specs.declared.scenario.scenarios.Scenario.{Scenario}
-use Rattle.sc_meaning.specs.sound.Definitions.{groups_at, birth_at, is_birth_of, world_at, decided_state, as_nodes, IsOneMap}
-use Rattle.sc_law_groups.specs.whole.Definitions.{ValidJournalsAreSound, ValidEntriesAreLogs}
-use Rattle.sc_live_steps.specs.calm.Definitions.{HasReplica, IsNewest}
-use Rattle.sc_live_answers.specs.Definitions.{over_at, replicas_at, FreeGroupsHaveArcs, PrefixesAreFound, QuietLogsAreExecuted, PrefixesAreLinked, AreAllFree, LinksWereMembers, PrefixGroupsHaveReplicas}
+use Rattle.sc_meaning.specs.sound.SoundDefinitions.{groups_at, birth_at, is_birth_of, world_at, decided_state, as_nodes, IsOneMap}
+use Rattle.sc_law_groups.specs.whole.WholeDefinitions.{ValidJournalsAreSound, ValidEntriesAreLogs}
+use Rattle.sc_live_steps.specs.calm.CalmDefinitions.{HasReplica, IsNewest}
+use Rattle.sc_live_answers.specs.AnswerDefinitions.{over_at, replicas_at, FreeGroupsHaveArcs, PrefixesAreFound, QuietLogsAreExecuted, PrefixesAreLinked, AreAllFree, LinksWereMembers, PrefixGroupsHaveReplicas}
 use Rattle.sc_live_answers.proofs.QuietProofs.QuietGroupReplicas.{even, kept, place, states}
 use Rattle.sc_live_answers.proofs.QuietProofs.QuietPrefixGroups.{found, most, ends, last_state}
 use Rattle.sc_live_answers.proofs.RestProofs.ReachableGroups.{last, has_replica, link_of}

@@ -4,19 +4,19 @@ use Rattle.std.specs.Prelude.{is_some}
 use Rattle.std.proofs.lemmas.Bool.{cases_Bool, cases_lt}
 use Rattle.sc_base.specs.Definitions.{Among, is_member, least_of}
 use Rattle.sc_node_table.specs.Values.{Base}
-use Rattle.sc_live_orderly.specs.Definitions.{AreInTime}
+use Rattle.sc_live_orderly.specs.OrderlyDefinitions.{AreInTime}
 use Rattle.sc_scenario.specs.declared.scenario.scenarios.Scenario.{Scenario}
-use Rattle.sc_node_table.specs.Definitions.{ReplicaState, next}
-use Rattle.sc_meaning.specs.sound.Definitions.{groups_at, decided_log, births, as_nodes, HasRun}
-use Rattle.sc_live_steps.specs.calm.Definitions.{players, HasReplica}
-use Rattle.sc_law_entries.specs.logs.Definitions.{Rows}
-use Rattle.sc_live_steps.specs.following.Definitions.{Course, members_at, SlotLeaders}
-use Rattle.sc_live_steps.proofs.FollowingProofs.Lemmas.{least_in}
-use Rattle.sc_live_journals.specs.logs.Definitions.{logged_sets, IsGroupOf}
-use Rattle.sc_live_journals.specs.rows.Definitions.{view_at}
-use Rattle.sc_live_journals.specs.groups.Definitions.{ScenariosAreWellBorn}
-use Rattle.sc_live_journals.proofs.GroupsProofs.Lemmas.{kept_leaders_rest, scenarios_kept_born, quiet_groups_led}
-use Rattle.sc_live_answers.specs.Definitions.{over_at, GroupsBeginTaught, slot_leaders_at, IsQuietGroup, IsQuietPrefix, IsKnownGroup, IsFoundPrefix, PrefixesAreFound, QuietPrefixesHaveGroups, QuietLogsAreExecuted, GroupsAreAskedThrough, NoMailForStrangers, PrefixMembersHaveReplicas}
+use Rattle.sc_node_table.specs.NodeDefinitions.{ReplicaState, next}
+use Rattle.sc_meaning.specs.sound.SoundDefinitions.{groups_at, decided_log, births, as_nodes, HasRun}
+use Rattle.sc_live_steps.specs.calm.CalmDefinitions.{players, HasReplica}
+use Rattle.sc_law_entries.specs.logs.LogDefinitions.{Rows}
+use Rattle.sc_live_steps.specs.following.FollowingDefinitions.{Course, members_at, SlotLeaders}
+use Rattle.sc_live_steps.proofs.FollowingProofs.FollowingLemmas.{least_in}
+use Rattle.sc_live_journals.specs.logs.LogDefinitions.{logged_sets, IsGroupOf}
+use Rattle.sc_live_journals.specs.rows.RowDefinitions.{view_at}
+use Rattle.sc_live_journals.specs.groups.GroupDefinitions.{ScenariosAreWellBorn}
+use Rattle.sc_live_journals.proofs.GroupsProofs.GroupLemmas.{kept_leaders_rest, scenarios_kept_born, quiet_groups_led}
+use Rattle.sc_live_answers.specs.AnswerDefinitions.{over_at, GroupsBeginTaught, slot_leaders_at, IsQuietGroup, IsQuietPrefix, IsKnownGroup, IsFoundPrefix, PrefixesAreFound, QuietPrefixesHaveGroups, QuietLogsAreExecuted, GroupsAreAskedThrough, NoMailForStrangers, PrefixMembersHaveReplicas}
 use Rattle.sc_live_answers.proofs.QuietProofs.QuietGroupReplicas.{at, over, all, view, members_have, newest_next, place, room}
 use Rattle.sc_live_answers.proofs.LedGroupsProofs.LogLengths.{log_short}
 pub use Rattle.sc_live_steps.proofs.PumpProofs.Pumping.{none_at as none_taken}

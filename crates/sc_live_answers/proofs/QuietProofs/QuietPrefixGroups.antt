@@ -5,17 +5,17 @@ use Rattle.std.proofs.lemmas.List.{take_all, take-append-le}
 use Rattle.std.proofs.lemmas.Option.{same_Some}
 use Rattle.sc_base.specs.Definitions.{Among, is_member}
 use Rattle.sc_node_table.specs.Values.{Draw, Base, Route}
-use Rattle.sc_group_table.specs.machine.Definitions.{Group, group_of, state_after}
+use Rattle.sc_group_table.specs.machine.MachineDefinitions.{Group, group_of, state_after}
 use Rattle.sc_scenario.specs.declared.scenario.scenarios.Scenario.{Scenario}
-use Rattle.sc_node_table.specs.Definitions.{ReplicaState, next}
-use Rattle.sc_meaning.specs.sound.Definitions.{groups_at, decided_log, decided_state, as_nodes, HasRun}
-use Rattle.sc_live_steps.specs.calm.Definitions.{HasReplica}
-use Rattle.sc_law_entries.specs.logs.Definitions.{Rows}
-use Rattle.sc_live_steps.specs.following.Definitions.{Course, members_at, SlotLeaders}
-use Rattle.sc_live_journals.specs.logs.Definitions.{logged_sets}
-use Rattle.sc_live_answers.specs.Definitions.{state_at, replicas_at, IsQuietGroup, GoneAgree, IsQuietPrefix, IsFoundPrefix, PrefixesAreFound, QuietLogsAreExecuted, RoutesInPrefixesAgree}
+use Rattle.sc_node_table.specs.NodeDefinitions.{ReplicaState, next}
+use Rattle.sc_meaning.specs.sound.SoundDefinitions.{groups_at, decided_log, decided_state, as_nodes, HasRun}
+use Rattle.sc_live_steps.specs.calm.CalmDefinitions.{HasReplica}
+use Rattle.sc_law_entries.specs.logs.LogDefinitions.{Rows}
+use Rattle.sc_live_steps.specs.following.FollowingDefinitions.{Course, members_at, SlotLeaders}
+use Rattle.sc_live_journals.specs.logs.LogDefinitions.{logged_sets}
+use Rattle.sc_live_answers.specs.AnswerDefinitions.{state_at, replicas_at, IsQuietGroup, GoneAgree, IsQuietPrefix, IsFoundPrefix, PrefixesAreFound, QuietLogsAreExecuted, RoutesInPrefixesAgree}
 use Rattle.sc_live_answers.proofs.QuietProofs.QuietGroupReplicas.{even, members_have, place, states}
-use Rattle.sc_live_plain.specs.Definitions.{replicas_after}
+use Rattle.sc_live_plain.specs.PlainDefinitions.{replicas_after}
 use Rattle.sc_live_answers.proofs.QuietProofs.QuietPrefixGroupLogs.{newest_there}
 
 module _ (executed : QuietLogsAreExecuted) (finds : PrefixesAreFound) (words : ℕ → ℕ → ℕ × ℕ) (scenario : Scenario) (journal prefix : Rows) (q : IsQuietPrefix words scenario journal prefix) where

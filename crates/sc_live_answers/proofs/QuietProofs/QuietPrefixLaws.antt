@@ -1,11 +1,11 @@
 -- What a quiet prefix of a calm journal says of its groups, links, routes and notes.
 use Rattle.sc_live_answers.proofs.LinksProofs.LinkLogs.{links_were_members as links_were_members_by}
 use Rattle.sc_scenario.proofs.ScenarioProofs.Lemmas.{valid_scenarios_are_bounded}
-use Rattle.sc_law_groups.proofs.WholeProofs.Lemmas.{valid_scenarios_begin_well, valid_journals_are_sound, valid_entries_are_logs}
-use Rattle.sc_law_entries.proofs.NamesProofs.Lemmas.{orders_are_allowed_allowed, orders_are_allowed_wishes, orders_are_allowed_positions, names_have_one_owner_others}
-use Rattle.sc_live_answers.specs.Definitions.{LinksWereMembers, GroupsAreAskedThrough, FreeGroupsHaveArcs, PrefixesAreFound, QuietPrefixesHaveGroups, QuietLogsAreExecuted, MembersAreHome, NoMailForStrangers, EntriesCreateChildren, ChildrenAreMade, PrefixMembersHaveReplicas, PrefixGroupsHaveReplicas, RoutesInPrefixesAgree, PrefixesAreKnown, PrefixesAreReachable, PrefixesAreTakenIn, PrefixesAreLinked, StillPrefixesAreFree, IssuedAreBegun, PrefixNotesAreBegun, PrefixesGoInTurn, PrefixesStayInTurn, FirstGroupsAreReached}
+use Rattle.sc_law_groups.proofs.WholeProofs.WholeLemmas.{valid_scenarios_begin_well, valid_journals_are_sound, valid_entries_are_logs}
+use Rattle.sc_law_entries.proofs.NamesProofs.NameLemmas.{orders_are_allowed_allowed, orders_are_allowed_wishes, orders_are_allowed_positions, names_have_one_owner_others}
+use Rattle.sc_live_answers.specs.AnswerDefinitions.{LinksWereMembers, GroupsAreAskedThrough, FreeGroupsHaveArcs, PrefixesAreFound, QuietPrefixesHaveGroups, QuietLogsAreExecuted, MembersAreHome, NoMailForStrangers, EntriesCreateChildren, ChildrenAreMade, PrefixMembersHaveReplicas, PrefixGroupsHaveReplicas, RoutesInPrefixesAgree, PrefixesAreKnown, PrefixesAreReachable, PrefixesAreTakenIn, PrefixesAreLinked, StillPrefixesAreFree, IssuedAreBegun, PrefixNotesAreBegun, PrefixesGoInTurn, PrefixesStayInTurn, FirstGroupsAreReached}
 use Rattle.sc_live_answers.proofs.RestProofs.OfferedSlots.{asked_through}
-use Rattle.sc_live_journals.proofs.GroupsProofs.Lemmas.{events_go_on, rows_keep_taught, scenarios_are_well_born}
+use Rattle.sc_live_journals.proofs.GroupsProofs.GroupLemmas.{events_go_on, rows_keep_taught, scenarios_are_well_born}
 use Rattle.sc_live_answers.proofs.LinksProofs.Arcs.{free_groups_have_arcs as free_groups_have_arcs_by}
 use Rattle.sc_live_answers.proofs.QuietProofs.QuietPrefixes.{prefixes_are_found as prefixes_are_found_by}
 use Rattle.sc_live_answers.proofs.ReplicasProofs.MemberNodes.{members_are_home as members_are_home_by}
@@ -23,9 +23,9 @@ use Rattle.sc_live_answers.proofs.RequestsProofs.BegunRequests.{issued_are_begun
 use Rattle.sc_live_answers.proofs.RestProofs.NotedRequests.{prefix_notes_are_begun as prefix_notes_are_begun_by}
 use Rattle.sc_live_answers.proofs.RestProofs.GroupEndsInPrefixes.{prefixes_go_in_turn as prefixes_go_in_turn_by, prefixes_stay_in_turn as prefixes_stay_in_turn_by}
 use Rattle.sc_live_answers.proofs.RequestsProofs.RequestLaws.{lawful_replicas_are_named_once}
-use Rattle.sc_live_journals.proofs.ChartsProofs.Lemmas.{led_stand_once}
-use Rattle.sc_live_journals.proofs.MailProofs.Lemmas.{replicas_last, entries_leave_over}
-use Rattle.sc_live_journals.proofs.LogsProofs.Lemmas.{views_are_replicas}
+use Rattle.sc_live_journals.proofs.ChartsProofs.ChartLemmas.{led_stand_once}
+use Rattle.sc_live_journals.proofs.MailProofs.MailLemmas.{replicas_last, entries_leave_over}
+use Rattle.sc_live_journals.proofs.LogsProofs.GroupLogLemmas.{views_are_replicas}
 use Rattle.sc_live_answers.proofs.LedGroupsProofs.GroupEndOrder.{turns_go_on}
 use Rattle.sc_live_answers.proofs.ReplicasProofs.FirstReplicas.{first_groups_are_reached as first_groups_are_reached_by}
 

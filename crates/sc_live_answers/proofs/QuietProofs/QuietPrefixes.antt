@@ -8,21 +8,21 @@ use Rattle.sc_node_table.specs.Values.{Draw, Base, Node, Client, Seat, OrderLine
 use Rattle.sc_base.proofs.Lemmas.{draw_is}
 use Rattle.sc_actor.specs.Definitions.{value}
 use Rattle.sc_actor.proofs.Lemmas.{lawful-prefix}
-use Rattle.sc_words.proofs.PaxosProofs.Lemmas.{find_found}
+use Rattle.sc_words.proofs.PaxosProofs.PaxosLemmas.{find_found}
 use Rattle.sc_paxos_law.proofs.Lemmas.{Among-either, from_map}
 use Rattle.sc_scenario.specs.scenario.Definitions.{IsValid, ValidScenariosAreBounded}
 use Rattle.sc_scenario.specs.declared.scenario.scenarios.Asks.{Asks}
 use Rattle.sc_scenario.specs.declared.scenario.scenarios.Scenario.{Scenario}
-use Rattle.sc_node_table.specs.Definitions.{is_node, replica_of, ReplicaState, name_of, numbers_from}
-use Rattle.sc_meaning.specs.sound.Definitions.{groups_at, log_at, decided_log, Player, player_table, node_seat, client_seat, client_seats, route_of, births, as_nodes, Lawful, system_of, schedule, Continues, IsSound}
-use Rattle.sc_law_entries.specs.logs.Definitions.{Rows, DecideInTurn}
-use Rattle.sc_law_entries.proofs.LogsProofs.Lemmas.{deciding_rows_stay}
-use Rattle.sc_law_entries.specs.names.Definitions.{OtherNamesAreFree, TakenOrdersAreAllowed, TakenWishesAreAllowed, WishesAreAtPositions}
-use Rattle.sc_law_groups.specs.whole.Definitions.{ValidScenariosBeginWell, ValidJournalsAreSound}
+use Rattle.sc_node_table.specs.NodeDefinitions.{is_node, replica_of, ReplicaState, name_of, numbers_from}
+use Rattle.sc_meaning.specs.sound.SoundDefinitions.{groups_at, log_at, decided_log, Player, player_table, node_seat, client_seat, client_seats, route_of, births, as_nodes, Lawful, system_of, schedule, Continues, IsSound}
+use Rattle.sc_law_entries.specs.logs.LogDefinitions.{Rows, DecideInTurn}
+use Rattle.sc_law_entries.proofs.LogsProofs.LogLemmas.{deciding_rows_stay}
+use Rattle.sc_law_entries.specs.names.NameDefinitions.{OtherNamesAreFree, TakenOrdersAreAllowed, TakenWishesAreAllowed, WishesAreAtPositions}
+use Rattle.sc_law_groups.specs.whole.WholeDefinitions.{ValidScenariosBeginWell, ValidJournalsAreSound}
 use Rattle.sc_live_plain.proofs.PlainProofs.PlainSteps.{node_in}
-use Rattle.sc_live_plain.specs.Definitions.{replicas_after, replicas_of}
-use Rattle.sc_live_journals.specs.rows.Definitions.{replicas_of as view_replicas, replica_in, view_at}
-use Rattle.sc_live_answers.specs.Definitions.{AreAtNodes, IsPrefixOf, IsOfGroup, IsFoundPrefix, PrefixesAreFound}
+use Rattle.sc_live_plain.specs.PlainDefinitions.{replicas_after, replicas_of}
+use Rattle.sc_live_journals.specs.rows.RowDefinitions.{replicas_of as view_replicas, replica_in, view_at}
+use Rattle.sc_live_answers.specs.AnswerDefinitions.{AreAtNodes, IsPrefixOf, IsOfGroup, IsFoundPrefix, PrefixesAreFound}
 use Rattle.sc_live_answers.proofs.ReplicasProofs.ReplicaNodes.{at_nodes}
 use Rattle.sc_live_answers.proofs.LinksProofs.LinkLogs.{sources, well, turn, found}
 pub use Rattle.sc_law_entries.proofs.NamesProofs.Fresh.{IsClient, replay_client}

@@ -5,17 +5,17 @@ use Rattle.std.proofs.lemmas.Option.{none-some, same_Some}
 use Rattle.sc_base.proofs.Lemmas.{draw_is}
 use Rattle.sc_base.specs.Definitions.{Among}
 use Rattle.sc_node_table.specs.Values.{Draw, Base, OrderLine, Mail, Row}
-use Rattle.sc_meaning.specs.entries.Definitions.{effective_by, IsPlaced, StoreWorld, named_group}
+use Rattle.sc_meaning.specs.entries.EntryDefinitions.{effective_by, IsPlaced, StoreWorld, named_group}
 use Rattle.sc_meaning.specs.declared.entries.Cut.{Cut}
-use Rattle.sc_law_entries.specs.logs.Definitions.{AreItsLogs}
-use Rattle.sc_group_table.specs.machine.Definitions.{Group}
-use Rattle.sc_node_table.specs.Definitions.{ReplicaState}
-use Rattle.sc_words.proofs.PaxosProofs.Lemmas.{find_found}
+use Rattle.sc_law_entries.specs.logs.LogDefinitions.{AreItsLogs}
+use Rattle.sc_group_table.specs.machine.MachineDefinitions.{Group}
+use Rattle.sc_node_table.specs.NodeDefinitions.{ReplicaState}
+use Rattle.sc_words.proofs.PaxosProofs.PaxosLemmas.{find_found}
 use Rattle.sc_scenario.specs.declared.scenario.scenarios.Scenario.{Scenario}
-use Rattle.sc_meaning.specs.sound.Definitions.{groups_at, birth_at, is_birth_of, world_at, as_nodes, IsOneMap}
-use Rattle.sc_live_steps.specs.calm.Definitions.{HasReplica, StandsQuiet}
-use Rattle.sc_live_plain.specs.Definitions.{replicas_after, AreFramesOf, IsQuietJournal, frame_at_rest, Frame, AreNamedApart}
-use Rattle.sc_live_answers.specs.Definitions.{state_of, AreKnown, QuietGroupsHaveCuts, IsOfCut}
+use Rattle.sc_meaning.specs.sound.SoundDefinitions.{groups_at, birth_at, is_birth_of, world_at, as_nodes, IsOneMap}
+use Rattle.sc_live_steps.specs.calm.CalmDefinitions.{HasReplica, StandsQuiet}
+use Rattle.sc_live_plain.specs.PlainDefinitions.{replicas_after, AreFramesOf, IsQuietJournal, frame_at_rest, Frame, AreNamedApart}
+use Rattle.sc_live_answers.specs.AnswerDefinitions.{state_of, AreKnown, QuietGroupsHaveCuts, IsOfCut}
 use Rattle.sc_live_answers.proofs.QuietProofs.QuietGroupCuts.{free_is, had, placed_group, cut_there}
 
 module _ (words : ℕ → ℕ → ℕ × ℕ) (scenario : Scenario) (first : Base) (rows : List (Row Mail OrderLine)) (frames : List Frame) (map : IsOneMap (world_at as_nodes scenario.groups rows)) (logs : AreItsLogs as_nodes scenario.groups rows) (known : AreKnown scenario rows)

@@ -5,18 +5,18 @@ use Rattle.std.proofs.lemmas.Bool.{cases_Bool}
 use Rattle.sc_base.specs.Definitions.{Each, IsRoster, is_member}
 use Rattle.sc_node_table.specs.Values.{Ballot, Base}
 use Rattle.sc_scenario.specs.declared.scenario.scenarios.Scenario.{Scenario}
-use Rattle.sc_node_table.specs.Definitions.{is_node, ReplicaState, next}
-use Rattle.sc_meaning.specs.sound.Definitions.{as_nodes}
-use Rattle.sc_live_steps.specs.calm.Definitions.{IsUnbound}
-use Rattle.sc_live_steps.proofs.CalmStepsProofs.Lemmas.{unbound_new}
-use Rattle.sc_live_plain.specs.Definitions.{IsOfNodes, IsKept}
-use Rattle.sc_law_entries.specs.logs.Definitions.{Rows}
-use Rattle.sc_live_steps.specs.following.Definitions.{Sets, Course, SlotLeaders, AreAt}
-use Rattle.sc_live_journals.specs.rows.Definitions.{IsWellKept}
-use Rattle.sc_live_journals.proofs.RowsProofs.Lemmas.{Plays, Found, found_well, replay_well}
-use Rattle.sc_live_journals.specs.logs.Definitions.{ReplicasAreLogged}
-use Rattle.sc_live_journals.proofs.GroupsProofs.Lemmas.{scenarios_well_born}
-use Rattle.sc_live_answers.specs.Definitions.{IsQuietGroup, QuietReplicasAreKept}
+use Rattle.sc_node_table.specs.NodeDefinitions.{is_node, ReplicaState, next}
+use Rattle.sc_meaning.specs.sound.SoundDefinitions.{as_nodes}
+use Rattle.sc_live_steps.specs.calm.CalmDefinitions.{IsUnbound}
+use Rattle.sc_live_steps.proofs.CalmStepsProofs.CalmStepLemmas.{unbound_new}
+use Rattle.sc_live_plain.specs.PlainDefinitions.{IsOfNodes, IsKept}
+use Rattle.sc_law_entries.specs.logs.LogDefinitions.{Rows}
+use Rattle.sc_live_steps.specs.following.FollowingDefinitions.{Sets, Course, SlotLeaders, AreAt}
+use Rattle.sc_live_journals.specs.rows.RowDefinitions.{IsWellKept}
+use Rattle.sc_live_journals.proofs.RowsProofs.RowLemmas.{Plays, Found, found_well, replay_well}
+use Rattle.sc_live_journals.specs.logs.LogDefinitions.{ReplicasAreLogged}
+use Rattle.sc_live_journals.proofs.GroupsProofs.GroupLemmas.{scenarios_well_born}
+use Rattle.sc_live_answers.specs.AnswerDefinitions.{IsQuietGroup, QuietReplicasAreKept}
 use Rattle.sc_live_answers.proofs.QuietProofs.QuietGroupReplicas.{at, view, states, kept, found}
 use Rattle.sc_live_answers.proofs.BallotsProofs.WellPlayers.{plays_of}
 use Rattle.sc_live_answers.proofs.LinesProofs.LineEndReplicas.{few_of}

@@ -5,19 +5,19 @@ use Rattle.std.proofs.lemmas.Option.{same_Some}
 use Rattle.std.proofs.lemmas.Bool.{lt-ltb}
 use Rattle.sc_base.specs.Definitions.{Among, Arc, IsArc, end_of, holds, offset}
 use Rattle.sc_node_table.specs.Values.{Draw, Base}
-use Rattle.sc_words.specs.ideal.Definitions.{contents_after}
-use Rattle.sc_meaning.specs.entries.Definitions.{effective, IsPlaced, StoreWorld}
+use Rattle.sc_words.specs.ideal.IdealDefinitions.{contents_after}
+use Rattle.sc_meaning.specs.entries.EntryDefinitions.{effective, IsPlaced, StoreWorld}
 use Rattle.sc_meaning.specs.declared.entries.Cut.{Cut}
-use Rattle.sc_law_entries.specs.logs.Definitions.{AreItsLogs}
-use Rattle.sc_group_table.specs.machine.Definitions.{Group}
-use Rattle.sc_node_table.specs.Definitions.{ReplicaState}
+use Rattle.sc_law_entries.specs.logs.LogDefinitions.{AreItsLogs}
+use Rattle.sc_group_table.specs.machine.MachineDefinitions.{Group}
+use Rattle.sc_node_table.specs.NodeDefinitions.{ReplicaState}
 use Rattle.sc_scenario.specs.declared.scenario.scenarios.Scenario.{Scenario}
-use Rattle.sc_meaning.specs.sound.Definitions.{world_at, as_nodes, IsOneMap}
-use Rattle.sc_live_steps.specs.calm.Definitions.{StandsQuiet, Rows}
-use Rattle.sc_live_plain.specs.Definitions.{IsQuietJournal, replicas_after}
-use Rattle.sc_live_answers.specs.Definitions.{AreKnown}
+use Rattle.sc_meaning.specs.sound.SoundDefinitions.{world_at, as_nodes, IsOneMap}
+use Rattle.sc_live_steps.specs.calm.CalmDefinitions.{StandsQuiet, Rows}
+use Rattle.sc_live_plain.specs.PlainDefinitions.{IsQuietJournal, replicas_after}
+use Rattle.sc_live_answers.specs.AnswerDefinitions.{AreKnown}
 use Rattle.std.specs.FinMap.{empty}
-use Rattle.sc_law_entries.proofs.RingProofs.Lemmas.{InsideOf, inside_part, room_of, Holds, IsOnRing}
+use Rattle.sc_law_entries.proofs.RingProofs.RingLemmas.{InsideOf, inside_part, room_of, Holds, IsOnRing}
 use Rattle.sc_live_answers.proofs.LinksProofs.FittingGroups.{Meets}
 use Rattle.sc_live_answers.proofs.QuietProofs.QuietGroupCuts.{effective_is, placed_group, cut_there}
 

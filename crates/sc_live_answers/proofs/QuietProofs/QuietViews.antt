@@ -3,15 +3,15 @@ use Rattle.std.proofs.Common.{◌≡◌, ℕ, ◌≤◌, List, [], ◌∷◌, ma
 use Rattle.sc_base.specs.Definitions.{Among}
 use Rattle.sc_node_table.specs.Values.{Draw, Base, OrderLine, Mail, Client, Seat, Row}
 use Rattle.sc_actor.specs.Definitions.{value}
-use Rattle.sc_node_table.specs.Definitions.{ReplicaState, name_of, numbers_from}
+use Rattle.sc_node_table.specs.NodeDefinitions.{ReplicaState, name_of, numbers_from}
 use Rattle.sc_paxos_law.proofs.Lemmas.{Among-left, from_map}
 use Rattle.sc_scenario.specs.declared.scenario.scenarios.Scenario.{Scenario}
 use Rattle.sc_scenario.specs.scenario.Definitions.{IsValid, ValidScenariosAreBounded}
-use Rattle.sc_meaning.specs.sound.Definitions.{Player, player_table, node_seat, client_seat, client_seats, route_of, as_nodes, births, Lawful}
-use Rattle.sc_live_journals.specs.charts.Definitions.{replicas_of as chart_replicas, all_replicas}
-use Rattle.sc_live_plain.specs.Definitions.{replicas_after, IsQuietJournal, replicas_of}
-use Rattle.sc_live_plain.proofs.Lemmas.{in_numbers, to_numbers, map_among}
-use Rattle.sc_live_answers.specs.Definitions.{LawfulReplicasAreNamedOnce, AreAtNodes}
+use Rattle.sc_meaning.specs.sound.SoundDefinitions.{Player, player_table, node_seat, client_seat, client_seats, route_of, as_nodes, births, Lawful}
+use Rattle.sc_live_journals.specs.charts.ChartDefinitions.{replicas_of as chart_replicas, all_replicas}
+use Rattle.sc_live_plain.specs.PlainDefinitions.{replicas_after, IsQuietJournal, replicas_of}
+use Rattle.sc_live_plain.proofs.PlainLemmas.{in_numbers, to_numbers, map_among}
+use Rattle.sc_live_answers.specs.AnswerDefinitions.{LawfulReplicasAreNamedOnce, AreAtNodes}
 use Rattle.sc_live_answers.proofs.AnswersProofs.ChartSequence.{split_among}
 use Rattle.sc_live_answers.proofs.LinesProofs.Frames.{nodes_numbered, seen, view}
 use Rattle.sc_live_answers.proofs.ReplicasProofs.AllReplicas.{from_seats, into_seats}

@@ -2,19 +2,19 @@
 use Rattle.std.proofs.Common.{◌≡◌, ℕ, suc, ◌-◌, ◌<◌, ◌≤◌, true, false, true≢false, Some, inl, inr, sym, ◌∙◌, ap, subst, arith}
 use Rattle.std.proofs.lemmas.Bool.{cases_Bool, cases_lt}
 use Rattle.sc_node_table.specs.Values.{Base, Free}
-use Rattle.sc_group_table.specs.machine.Definitions.{Group}
+use Rattle.sc_group_table.specs.machine.MachineDefinitions.{Group}
 use Rattle.sc_base.specs.Definitions.{is_member}
 use Rattle.sc_scenario.specs.declared.scenario.scenarios.Scenario.{Scenario}
-use Rattle.sc_node_table.specs.Definitions.{ReplicaState, next}
-use Rattle.sc_meaning.specs.sound.Definitions.{as_nodes}
-use Rattle.sc_live_steps.specs.calm.Definitions.{IsAtRest}
-use Rattle.sc_law_entries.specs.logs.Definitions.{Rows}
-use Rattle.sc_live_steps.specs.following.Definitions.{Sets, Course, members_at, SlotLeaders, IsMemberBy}
-use Rattle.sc_live_journals.specs.groups.Definitions.{RestsCleared, IsSlotKept}
-use Rattle.sc_live_journals.proofs.GroupsProofs.Lemmas.{kept_leaders_rest, scenarios_kept_born}
-use Rattle.sc_live_answers.specs.Definitions.{state_at, ReplicasRunLogs, replicas_at, IsQuietGroup, IsDone, QuietReplicasRest}
+use Rattle.sc_node_table.specs.NodeDefinitions.{ReplicaState, next}
+use Rattle.sc_meaning.specs.sound.SoundDefinitions.{as_nodes}
+use Rattle.sc_live_steps.specs.calm.CalmDefinitions.{IsAtRest}
+use Rattle.sc_law_entries.specs.logs.LogDefinitions.{Rows}
+use Rattle.sc_live_steps.specs.following.FollowingDefinitions.{Sets, Course, members_at, SlotLeaders, IsMemberBy}
+use Rattle.sc_live_journals.specs.groups.GroupDefinitions.{RestsCleared, IsSlotKept}
+use Rattle.sc_live_journals.proofs.GroupsProofs.GroupLemmas.{kept_leaders_rest, scenarios_kept_born}
+use Rattle.sc_live_answers.specs.AnswerDefinitions.{state_at, ReplicasRunLogs, replicas_at, IsQuietGroup, IsDone, QuietReplicasRest}
 use Rattle.sc_live_answers.proofs.RestProofs.FreeLeavers.{leavers_free}
-use Rattle.sc_live_journals.specs.mail.Definitions.{IsPlainlyKept}
+use Rattle.sc_live_journals.specs.mail.MailDefinitions.{IsPlainlyKept}
 use Rattle.sc_live_answers.proofs.QuietProofs.QuietGroupReplicas.{at, over, all, view, even, knows, place, kept, plain, room, ran}
 
 module _ (run : ReplicasRunLogs) (by : SlotLeaders) (words : ℕ → ℕ → ℕ × ℕ) (scenario : Scenario) (journal prefix : Rows) (base : Base) (course : Course) (q : IsQuietGroup by words scenario journal prefix base course)

@@ -4,24 +4,24 @@ use Rattle.std.specs.Prelude.{is_some}
 use Rattle.std.proofs.lemmas.Bool.{cases_eq, cases_lt}
 use Rattle.sc_base.specs.Definitions.{Among, is_member, least_of}
 use Rattle.sc_node_table.specs.Values.{Ballot, Command, Base, Route, Report}
-use Rattle.sc_group_table.specs.machine.Definitions.{Group}
-use Rattle.sc_words.specs.paxos.Definitions.{below}
-use Rattle.sc_words.proofs.PaxosProofs.Lemmas.{Each-weaker}
+use Rattle.sc_group_table.specs.machine.MachineDefinitions.{Group}
+use Rattle.sc_words.specs.paxos.PaxosDefinitions.{below}
+use Rattle.sc_words.proofs.PaxosProofs.PaxosLemmas.{Each-weaker}
 use Rattle.sc_scenario.specs.declared.scenario.scenarios.Scenario.{Scenario}
-use Rattle.sc_node_table.specs.Definitions.{ReplicaState, next, members}
-use Rattle.sc_meaning.specs.sound.Definitions.{as_nodes}
-use Rattle.sc_live_steps.specs.calm.Definitions.{IsLinked, IsBelow, MayVote, IsUpToDate, StandsQuiet, IsGoneQuiet}
-use Rattle.sc_law_entries.specs.logs.Definitions.{Rows}
-use Rattle.sc_live_steps.specs.following.Definitions.{Sets, Course, Progress, members_at, IsOpen, IsEvenLed, SlotLeaders, IsLeadOf, AreAt}
-use Rattle.sc_live_steps.proofs.FollowingProofs.Lemmas.{least_in}
-use Rattle.sc_live_journals.specs.rows.Definitions.{promise_in}
-use Rattle.sc_live_journals.proofs.RowsProofs.Lemmas.{same_some}
-use Rattle.sc_live_journals.specs.groups.Definitions.{RestsCleared, IsLedQuietly}
-use Rattle.sc_live_journals.proofs.GroupsProofs.Lemmas.{kept_leaders_rest, scenarios_kept_born, quiet_groups_led}
-use Rattle.sc_live_answers.specs.Definitions.{state_at, ReplicasRunLogs, replicas_at, IsQuietGroup, SawNoMore, QuietGroupsStand, IsTakenIn, QuietGroupsAreGone}
+use Rattle.sc_node_table.specs.NodeDefinitions.{ReplicaState, next, members}
+use Rattle.sc_meaning.specs.sound.SoundDefinitions.{as_nodes}
+use Rattle.sc_live_steps.specs.calm.CalmDefinitions.{IsLinked, IsBelow, MayVote, IsUpToDate, StandsQuiet, IsGoneQuiet}
+use Rattle.sc_law_entries.specs.logs.LogDefinitions.{Rows}
+use Rattle.sc_live_steps.specs.following.FollowingDefinitions.{Sets, Course, Progress, members_at, IsOpen, IsEvenLed, SlotLeaders, IsLeadOf, AreAt}
+use Rattle.sc_live_steps.proofs.FollowingProofs.FollowingLemmas.{least_in}
+use Rattle.sc_live_journals.specs.rows.RowDefinitions.{promise_in}
+use Rattle.sc_live_journals.proofs.RowsProofs.RowLemmas.{same_some}
+use Rattle.sc_live_journals.specs.groups.GroupDefinitions.{RestsCleared, IsLedQuietly}
+use Rattle.sc_live_journals.proofs.GroupsProofs.GroupLemmas.{kept_leaders_rest, scenarios_kept_born, quiet_groups_led}
+use Rattle.sc_live_answers.specs.AnswerDefinitions.{state_at, ReplicasRunLogs, replicas_at, IsQuietGroup, SawNoMore, QuietGroupsStand, IsTakenIn, QuietGroupsAreGone}
 use Rattle.sc_live_answers.proofs.QuietProofs.QuietGroupReplicas.{opens_same, set_slot, at, over, all, now, view, even, place, has_one, newest_next, members_have, states, kept, room, same_state, ran}
 use Rattle.sc_live_answers.proofs.QuietProofs.QuietPrefixGroupLogs.{none_taken}
-use Rattle.sc_law_walks.proofs.Lemmas.{some_there}
+use Rattle.sc_law_walks.proofs.WalkLemmas.{some_there}
 
 module _ (run : ReplicasRunLogs) (by : SlotLeaders) (words : ℕ → ℕ → ℕ × ℕ) (scenario : Scenario) (journal prefix : Rows) (base : Base) (course : Course) (q : IsQuietGroup by words scenario journal prefix base course) where
   abbrev sets : Sets

@@ -3,11 +3,11 @@ use Rattle.std.proofs.Common.{List, [], ◌∷◌, inl, inr, refl, sym, subst}
 use Rattle.sc_base.specs.Definitions.{Among}
 use Rattle.sc_node_table.specs.Values.{Seat}
 use Rattle.sc_actor.specs.Definitions.{value}
-use Rattle.sc_node_table.specs.Definitions.{ReplicaState}
+use Rattle.sc_node_table.specs.NodeDefinitions.{ReplicaState}
 use Rattle.sc_paxos_law.proofs.Lemmas.{Among-left, Among-right, Among-either}
-use Rattle.sc_meaning.specs.sound.Definitions.{Player, player_table}
-use Rattle.sc_live_steps.specs.calm.Definitions.{Rows}
-use Rattle.sc_live_journals.specs.charts.Definitions.{replicas_of, all_replicas}
+use Rattle.sc_meaning.specs.sound.SoundDefinitions.{Player, player_table}
+use Rattle.sc_live_steps.specs.calm.CalmDefinitions.{Rows}
+use Rattle.sc_live_journals.specs.charts.ChartDefinitions.{replicas_of, all_replicas}
 
 module _ (rows : Rows) where
   pub from_seats : (seats : List (Seat Player)) (r : ReplicaState) → Among r (all_replicas seats rows) → (seat : Seat Player) × Among seat seats × Among r (replicas_of (value player_table seat rows))

@@ -3,24 +3,24 @@ use Rattle.std.proofs.Common.{◌≡◌, ℕ, zero, suc, ◌≤◌, true, List, 
 use Rattle.std.proofs.lemmas.Bool.{cond-true}
 use Rattle.sc_base.specs.Definitions.{Among, is_member}
 use Rattle.sc_node_table.specs.Values.{Base}
-use Rattle.sc_live_orderly.specs.Definitions.{AreInTime}
+use Rattle.sc_live_orderly.specs.OrderlyDefinitions.{AreInTime}
 use Rattle.sc_scenario.specs.scenario.Definitions.{IsBounded, ValidScenariosAreBounded}
 use Rattle.sc_scenario.specs.declared.scenario.scenarios.Scenario.{Scenario}
-use Rattle.sc_node_table.specs.Definitions.{born_replica, slots_ahead}
-use Rattle.sc_meaning.specs.sound.Definitions.{groups_at, decided_log, births, as_nodes}
-use Rattle.sc_live_steps.specs.calm.Definitions.{players, HasReplica}
-use Rattle.sc_law_entries.specs.logs.Definitions.{Rows, Descends, AreFound}
-use Rattle.sc_law_entries.specs.names.Definitions.{OtherNamesAreFree, TakenOrdersAreAllowed, TakenWishesAreAllowed, WishesAreAtPositions}
-use Rattle.sc_law_groups.specs.whole.Definitions.{ValidScenariosBeginWell}
-use Rattle.sc_live_steps.specs.following.Definitions.{Teaches, Mark, reached}
-use Rattle.sc_live_journals.specs.rows.Definitions.{view_at, marks_at, next_in}
-use Rattle.sc_live_journals.proofs.RowsProofs.Lemmas.{view_born}
-use Rattle.sc_live_journals.proofs.MailProofs.Lemmas.{replicas_last}
-use Rattle.sc_live_journals.specs.groups.Definitions.{ScenariosAreWellBorn}
-use Rattle.sc_live_answers.specs.Definitions.{GroupsBeginTaught, slot_leaders_at, IsBirth, IsQuietPrefix, IsFoundPrefix, PrefixesAreFound, GroupsAreAskedThrough, NoMailForStrangers, ChildrenAreMade, PrefixGroupsHaveReplicas, PrefixMembersHaveReplicas}
+use Rattle.sc_node_table.specs.NodeDefinitions.{born_replica, slots_ahead}
+use Rattle.sc_meaning.specs.sound.SoundDefinitions.{groups_at, decided_log, births, as_nodes}
+use Rattle.sc_live_steps.specs.calm.CalmDefinitions.{players, HasReplica}
+use Rattle.sc_law_entries.specs.logs.LogDefinitions.{Rows, Descends, AreFound}
+use Rattle.sc_law_entries.specs.names.NameDefinitions.{OtherNamesAreFree, TakenOrdersAreAllowed, TakenWishesAreAllowed, WishesAreAtPositions}
+use Rattle.sc_law_groups.specs.whole.WholeDefinitions.{ValidScenariosBeginWell}
+use Rattle.sc_live_steps.specs.following.FollowingDefinitions.{Teaches, Mark, reached}
+use Rattle.sc_live_journals.specs.rows.RowDefinitions.{view_at, marks_at, next_in}
+use Rattle.sc_live_journals.proofs.RowsProofs.RowLemmas.{view_born}
+use Rattle.sc_live_journals.proofs.MailProofs.MailLemmas.{replicas_last}
+use Rattle.sc_live_journals.specs.groups.GroupDefinitions.{ScenariosAreWellBorn}
+use Rattle.sc_live_answers.specs.AnswerDefinitions.{GroupsBeginTaught, slot_leaders_at, IsBirth, IsQuietPrefix, IsFoundPrefix, PrefixesAreFound, GroupsAreAskedThrough, NoMailForStrangers, ChildrenAreMade, PrefixGroupsHaveReplicas, PrefixMembersHaveReplicas}
 use Rattle.sc_live_answers.proofs.LedGroupsProofs.GroupBeginnings.{begun_first}
 use Rattle.sc_live_answers.proofs.QuietProofs.QuietGroupReplicas.{none}
-use Rattle.sc_live_journals.specs.scenes.Definitions.{IsThere}
+use Rattle.sc_live_journals.specs.scenes.SceneDefinitions.{IsThere}
 use Rattle.sc_live_answers.proofs.ChildrenProofs.NamedChildren.{birth_slot}
 use Rattle.sc_live_answers.proofs.QuietProofs.QuietPrefixGroupLogs.{prefix_timely, newest_there, executed}
 use Rattle.sc_live_answers.proofs.LinksProofs.LinkLogs.{found}

@@ -2,21 +2,21 @@
 use Rattle.std.proofs.Common.{◌≡◌, ℕ, ◌≤◌, true}
 use Rattle.sc_base.specs.Definitions.{Each, is_member}
 use Rattle.sc_node_table.specs.Values.{Base, Route}
-use Rattle.sc_words.proofs.PaxosProofs.Lemmas.{Each-among}
+use Rattle.sc_words.proofs.PaxosProofs.PaxosLemmas.{Each-among}
 use Rattle.sc_paxos_law.proofs.Lemmas.{member-among}
 use Rattle.sc_scenario.specs.scenario.Definitions.{IsUpTo, ValidScenariosAreBounded}
 use Rattle.sc_scenario.specs.declared.scenario.scenarios.Scenario.{Scenario}
-use Rattle.sc_meaning.specs.sound.Definitions.{decided_log, Ahead, route_of}
-use Rattle.sc_law_entries.specs.logs.Definitions.{Rows}
-use Rattle.sc_law_entries.specs.ring.Definitions.{Sources}
-use Rattle.sc_law_entries.specs.names.Definitions.{OtherNamesAreFree, TakenOrdersAreAllowed, TakenWishesAreAllowed, WishesAreAtPositions, owner_in}
-use Rattle.sc_law_groups.specs.whole.Definitions.{BeginsWell, section_op, OrdersAreAllowed, ValidScenariosBeginWell}
-use Rattle.sc_law_groups.proofs.WholeProofs.Lemmas.{orders_allowed}
-use Rattle.sc_live_journals.specs.logs.Definitions.{logged_sets, IsGroupOf}
-use Rattle.sc_live_answers.specs.Definitions.{MembersAreHome}
+use Rattle.sc_meaning.specs.sound.SoundDefinitions.{decided_log, Ahead, route_of}
+use Rattle.sc_law_entries.specs.logs.LogDefinitions.{Rows}
+use Rattle.sc_law_entries.specs.ring.RingDefinitions.{Sources}
+use Rattle.sc_law_entries.specs.names.NameDefinitions.{OtherNamesAreFree, TakenOrdersAreAllowed, TakenWishesAreAllowed, WishesAreAtPositions, owner_in}
+use Rattle.sc_law_groups.specs.whole.WholeDefinitions.{BeginsWell, section_op, OrdersAreAllowed, ValidScenariosBeginWell}
+use Rattle.sc_law_groups.proofs.WholeProofs.WholeLemmas.{orders_allowed}
+use Rattle.sc_live_journals.specs.logs.LogDefinitions.{logged_sets, IsGroupOf}
+use Rattle.sc_live_answers.specs.AnswerDefinitions.{MembersAreHome}
 use Rattle.sc_live_journals.proofs.LogsProofs.NodesInGroups.{BringsNodes, HasNodes}
 use Rattle.sc_live_journals.proofs.LogsProofs.EntryNodes.{begins_nodes, brings_nodes}
-use Rattle.sc_live_journals.proofs.LogsProofs.Lemmas.{slots_have_nodes}
+use Rattle.sc_live_journals.proofs.LogsProofs.GroupLogLemmas.{slots_have_nodes}
 
 module _ (bounded : ValidScenariosAreBounded) (begin : ValidScenariosBeginWell) (allowed : TakenOrdersAreAllowed) (wishes : TakenWishesAreAllowed) (positions : WishesAreAtPositions) (free : OtherNamesAreFree) where
   module _ (ahead : Ahead) (words : ℕ → ℕ → ℕ × ℕ) (scenario : Scenario) (journal : Rows) (base : Base) (group : IsGroupOf ahead words scenario journal base) where

@@ -5,20 +5,20 @@ use Rattle.std.proofs.lemmas.List.{length-map, take_all}
 use Rattle.sc_base.specs.Definitions.{Among, Each, same_draw}
 use Rattle.sc_node_table.specs.Values.{Draw, Base, OrderLine, Mail, Seat, Row}
 use Rattle.sc_actor.specs.Definitions.{row_of}
-use Rattle.sc_live_orderly.specs.Definitions.{orders}
+use Rattle.sc_live_orderly.specs.OrderlyDefinitions.{orders}
 use Rattle.sc_scenario.specs.scenario.Definitions.{ValidScenariosAreBounded}
 use Rattle.sc_scenario.specs.declared.scenario.scenarios.Scenario.{Scenario}
-use Rattle.sc_node_table.specs.Definitions.{name_of}
+use Rattle.sc_node_table.specs.NodeDefinitions.{name_of}
 use Rattle.sc_paxos_law.proofs.Lemmas.{Among-left, Among-right}
-use Rattle.sc_words.proofs.PaxosProofs.Lemmas.{Each-among, Each-append, Each-passes}
-use Rattle.sc_meaning.specs.sound.Definitions.{Player, player_table, births, as_nodes}
-use Rattle.sc_law_groups.proofs.WholeProofs.Lemmas.{all_apart}
-use Rattle.sc_live_steps.specs.calm.Definitions.{StandsOnce, Rows, is_led}
-use Rattle.sc_live_journals.specs.charts.Definitions.{all_replicas, led_names, names_at, with_names, LedStandOnce}
-use Rattle.sc_live_journals.proofs.ChartsProofs.Lemmas.{names_grow}
-use Rattle.sc_live_plain.proofs.Lemmas.{map_among}
-use Rattle.sc_live_journals.specs.scenes.Definitions.{IsNowhere, IsThere}
-use Rattle.sc_live_answers.specs.Definitions.{AreCreatedByOrder, IsCalmJournal, IsPrefixOf, IsNamedGroup, PrefixesAreFound, HasFewNames, HasNamesSince, NamesStayFew, RestsAt, Task}
+use Rattle.sc_words.proofs.PaxosProofs.PaxosLemmas.{Each-among, Each-append, Each-passes}
+use Rattle.sc_meaning.specs.sound.SoundDefinitions.{Player, player_table, births, as_nodes}
+use Rattle.sc_law_groups.proofs.WholeProofs.WholeLemmas.{all_apart}
+use Rattle.sc_live_steps.specs.calm.CalmDefinitions.{StandsOnce, Rows, is_led}
+use Rattle.sc_live_journals.specs.charts.ChartDefinitions.{all_replicas, led_names, names_at, with_names, LedStandOnce}
+use Rattle.sc_live_journals.proofs.ChartsProofs.ChartLemmas.{names_grow}
+use Rattle.sc_live_plain.proofs.PlainLemmas.{map_among}
+use Rattle.sc_live_journals.specs.scenes.SceneDefinitions.{IsNowhere, IsThere}
+use Rattle.sc_live_answers.specs.AnswerDefinitions.{AreCreatedByOrder, IsCalmJournal, IsPrefixOf, IsNamedGroup, PrefixesAreFound, HasFewNames, HasNamesSince, NamesStayFew, RestsAt, Task}
 use Rattle.sc_live_answers.proofs.OrdersProofs.OrderDeliveries.{there_or}
 use Rattle.sc_live_answers.proofs.AnswersProofs.RestingCharts.{led_is_there, there_is_led}
 use Rattle.sc_live_answers.proofs.RestProofs.GoneGroupsInPrefixes.{once_among}

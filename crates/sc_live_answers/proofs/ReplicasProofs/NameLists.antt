@@ -6,14 +6,14 @@ use Rattle.std.proofs.lemmas.List.Filters.{length-filter_both}
 use Rattle.std.proofs.lemmas.List.Sums.{sum_by-cons}
 use Rattle.sc_base.specs.Definitions.{Among, Each}
 use Rattle.sc_node_table.specs.Values.{Draw, Route}
-use Rattle.sc_client_table.specs.lookup.Definitions.{KnownGroups, way_to}
+use Rattle.sc_client_table.specs.lookup.LookupDefinitions.{KnownGroups, way_to}
 use Rattle.sc_client_table.specs.declared.lookup.ways.Way.{Way}
-use Rattle.sc_node_table.specs.Definitions.{ReplicaState}
+use Rattle.sc_node_table.specs.NodeDefinitions.{ReplicaState}
 use Rattle.sc_paxos_law.proofs.Lemmas.{Among-either, Among-left, Among-right}
-use Rattle.sc_words.proofs.PaxosProofs.Lemmas.{Each-among}
-use Rattle.sc_live_steps.specs.calm.Definitions.{unknown, unknown_one, StandsOnce, sent_on}
-use Rattle.sc_live_journals.specs.charts.Definitions.{ends_by, reach_in, went_in, GoInTurn}
-use Rattle.sc_live_plain.proofs.Lemmas.{parts_of}
+use Rattle.sc_words.proofs.PaxosProofs.PaxosLemmas.{Each-among}
+use Rattle.sc_live_steps.specs.calm.CalmDefinitions.{unknown, unknown_one, StandsOnce, sent_on}
+use Rattle.sc_live_journals.specs.charts.ChartDefinitions.{ends_by, reach_in, went_in, GoInTurn}
+use Rattle.sc_live_plain.proofs.PlainLemmas.{parts_of}
 
 -- ---- how many pass
 

@@ -2,19 +2,19 @@
 use Rattle.std.proofs.Common.{◌≡◌, ℕ, eqb, false, List, [], ◌∷◌, Option, Some, None, find, option_map, inl, inr, refl, ap, subst}
 use Rattle.std.proofs.lemmas.Bool.{cases_Bool, or_from}
 use Rattle.std.specs.List.{list_any}
-use Rattle.sc_group_table.specs.machine.Definitions.{has_voted}
+use Rattle.sc_group_table.specs.machine.MachineDefinitions.{has_voted}
 use Rattle.sc_base.specs.Definitions.{Among, Each, same_draw}
 use Rattle.sc_node_table.specs.Values.{Draw, Seat, Core, Outcome, Past, Node, Client}
 use Rattle.sc_base.proofs.Lemmas.{draw_is}
 use Rattle.sc_actor.specs.Definitions.{value}
-use Rattle.sc_node_table.specs.Definitions.{replica_of, ReplicaState, name_of, noted_outcome, noted_vote}
-use Rattle.sc_words.proofs.PaxosProofs.Lemmas.{Each-among, Each-weaker, find_found, find_nothing}
+use Rattle.sc_node_table.specs.NodeDefinitions.{replica_of, ReplicaState, name_of, noted_outcome, noted_vote}
+use Rattle.sc_words.proofs.PaxosProofs.PaxosLemmas.{Each-among, Each-weaker, find_found, find_nothing}
 use Rattle.sc_scenario.specs.scenario.Definitions.{IsBounded}
 use Rattle.sc_scenario.specs.declared.scenario.scenarios.Scenario.{Scenario}
-use Rattle.sc_meaning.specs.sound.Definitions.{Lawful, Player, as_nodes, births, player_table}
-use Rattle.sc_law_entries.specs.names.Definitions.{IsUsed, NamesAreDrawn, CoreNames, OutcomeNames, PastNames, PlayerNames, ReplicaNames}
-use Rattle.sc_live_steps.specs.calm.Definitions.{Rows}
-use Rattle.sc_live_journals.specs.rows.Definitions.{replica_in, view_at}
+use Rattle.sc_meaning.specs.sound.SoundDefinitions.{Lawful, Player, as_nodes, births, player_table}
+use Rattle.sc_law_entries.specs.names.NameDefinitions.{IsUsed, NamesAreDrawn, CoreNames, OutcomeNames, PastNames, PlayerNames, ReplicaNames}
+use Rattle.sc_live_steps.specs.calm.CalmDefinitions.{Rows}
+use Rattle.sc_live_journals.specs.rows.RowDefinitions.{replica_in, view_at}
 use Rattle.sc_live_answers.proofs.ChildrenProofs.DrawnNames.{begin_undrawn as undrawn}
 
 -- ---- the groups of a scenario

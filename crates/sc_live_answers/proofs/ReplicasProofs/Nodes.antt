@@ -2,11 +2,11 @@
 use Rattle.std.proofs.Common.{◌≡◌, ℕ, eqb, cond, true, false, Bool, List, [], ◌∷◌, ◌++◌, Option, Some, None, refl, ◌∙◌, ap}
 use Rattle.sc_node_table.specs.Values.{OrderLine, Mail, Node, Input}
 use Rattle.sc_actor.specs.Definitions.{value, acted, replay, input_of}
-use Rattle.sc_node_table.specs.Definitions.{NodeState, node_table, born_node, slots_ahead}
+use Rattle.sc_node_table.specs.NodeDefinitions.{NodeState, node_table, born_node, slots_ahead}
 use Rattle.sc_scenario.specs.declared.scenario.scenarios.Scenario.{Scenario}
-use Rattle.sc_meaning.specs.sound.Definitions.{player_table, node_seat, as_nodes}
-use Rattle.sc_live_steps.specs.calm.Definitions.{Rows}
-use Rattle.sc_live_journals.specs.groups.Definitions.{NodesKeepTops, NodesAreBornTopped}
+use Rattle.sc_meaning.specs.sound.SoundDefinitions.{player_table, node_seat, as_nodes}
+use Rattle.sc_live_steps.specs.calm.CalmDefinitions.{Rows}
+use Rattle.sc_live_journals.specs.groups.GroupDefinitions.{NodesKeepTops, NodesAreBornTopped}
 
 node_step : (node : NodeState) (o : Option (Input Mail OrderLine)) → (later : NodeState) × ((acted player_table (Node node) o).0 ≡ Node later)
 node_step node None = (node, refl)

@@ -7,11 +7,11 @@ use Rattle.sc_mail.specs.declared.bodies.AnswerBody.TheVariants as Answers
 use Rattle.sc_base.specs.Definitions.{is_member, least_of}
 use Rattle.sc_words.specs.declared.paxos.answers.PrepareAnswer.TheVariants as Prepared
 use Rattle.sc_words.specs.declared.paxos.answers.AcceptAnswer.TheVariants as Asked
-use Rattle.sc_words.specs.paxos.Definitions.{AcceptorState, accepted as accepted_by, below, LeaderState, promise_counted, prepared, must}
-use Rattle.sc_node_table.specs.Definitions.{elected, ended, stopped, saw, answer_of, answered_or_put_back, order_result, effect_reported, announced, learnt_to, welcomed, slot_lost, left_gone, left, is_among, looked_for, looked, install_to, asked_to_promise, welcomed_all, offered, pumped, put_back, ReplicaState, Place, members, ask_row, spoken, hinted, promise_to, promised, prepare_row, accepted_to, took, accept_row, leads, promise_row, nack_row, name_of, sent, Found, is_act, from_backlog, from_acts, from_queues, found_by, found_for, pumped_from, next, settled, may_offer, taken_at, under_way, is_idle, last_slot}
+use Rattle.sc_words.specs.paxos.PaxosDefinitions.{AcceptorState, accepted as accepted_by, below, LeaderState, promise_counted, prepared, must}
+use Rattle.sc_node_table.specs.NodeDefinitions.{elected, ended, stopped, saw, answer_of, answered_or_put_back, order_result, effect_reported, announced, learnt_to, welcomed, slot_lost, left_gone, left, is_among, looked_for, looked, install_to, asked_to_promise, welcomed_all, offered, pumped, put_back, ReplicaState, Place, members, ask_row, spoken, hinted, promise_to, promised, prepare_row, accepted_to, took, accept_row, leads, promise_row, nack_row, name_of, sent, Found, is_act, from_backlog, from_acts, from_queues, found_by, found_for, pumped_from, next, settled, may_offer, taken_at, under_way, is_idle, last_slot}
 use Rattle.sc_words.specs.declared.paxos.answers.Must.TheVariants.{Value, Free as Open}
 use Rattle.sc_node_table.specs.declared.Before.{Before}
-use Rattle.sc_law_walks.proofs.Lemmas.{asked_place, pumped_freely, either_way}
+use Rattle.sc_law_walks.proofs.WalkLemmas.{asked_place, pumped_freely, either_way}
 
 -- the answers of an acceptor: to a Prepare a promise or a refusal, to an Accept a vote or a refusal
 module _ (F : Place → Type 0) (from : ℕ) (ballot : Ballot) (r : ReplicaState) (mails : List Mail) where

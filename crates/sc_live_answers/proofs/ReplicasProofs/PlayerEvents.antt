@@ -6,16 +6,16 @@ use Rattle.sc_node_table.specs.Values.{Draw, Base, OrderLine, Mail, Node, Client
 use Rattle.sc_base.proofs.Lemmas.{draw_is, same_name}
 use Rattle.sc_actor.specs.declared.rows.Event.TheVariants.{Told}
 use Rattle.sc_actor.specs.Definitions.{mails, value, row_of}
-use Rattle.sc_live_orderly.specs.Definitions.{IsTidy, IsCalmEvent, AreInTime}
-use Rattle.sc_live_orderly.proofs.Lemmas.{in_time_before, in_time_tidy, takes_first, is_born-from}
-use Rattle.sc_node_table.specs.Definitions.{NodeState, replica_of, group_of_mail, may_come, group_of_order, ordered_row, ReplicaState, born_replica, mailed, made_by, slots_ahead}
-use Rattle.sc_meaning.specs.sound.Definitions.{Player, player_table}
-use Rattle.sc_live_steps.specs.calm.Definitions.{players, Rows}
-use Rattle.sc_live_steps.specs.following.Definitions.{mark_of, Sets, SlotLeaders}
-use Rattle.sc_live_journals.specs.rows.Definitions.{view_at, mark_in, taken_mark, begun_course, TakesMail, HoldsReplica, IsSeat, with_event, IsReplicasRow, LeavesAlone, LeavesOrCreates}
+use Rattle.sc_live_orderly.specs.OrderlyDefinitions.{IsTidy, IsCalmEvent, AreInTime}
+use Rattle.sc_live_orderly.proofs.OrderlyLemmas.{in_time_before, in_time_tidy, takes_first, is_born-from}
+use Rattle.sc_node_table.specs.NodeDefinitions.{NodeState, replica_of, group_of_mail, may_come, group_of_order, ordered_row, ReplicaState, born_replica, mailed, made_by, slots_ahead}
+use Rattle.sc_meaning.specs.sound.SoundDefinitions.{Player, player_table}
+use Rattle.sc_live_steps.specs.calm.CalmDefinitions.{players, Rows}
+use Rattle.sc_live_steps.specs.following.FollowingDefinitions.{mark_of, Sets, SlotLeaders}
+use Rattle.sc_live_journals.specs.rows.RowDefinitions.{view_at, mark_in, taken_mark, begun_course, TakesMail, HoldsReplica, IsSeat, with_event, IsReplicasRow, LeavesAlone, LeavesOrCreates}
 use Rattle.sc_live_journals.proofs.GroupsProofs.JournalEvents.{holds_of}
-use Rattle.sc_live_journals.proofs.RowsProofs.Lemmas.{others_idle, rows_replicas, view_was, Plays, replay_well}
-use Rattle.sc_live_journals.specs.groups.Definitions.{Ends, IsLogsState, AreWellBorn, Delivers, HasOneLog, IsSentSo}
+use Rattle.sc_live_journals.proofs.RowsProofs.RowLemmas.{others_idle, rows_replicas, view_was, Plays, replay_well}
+use Rattle.sc_live_journals.specs.groups.GroupDefinitions.{Ends, IsLogsState, AreWellBorn, Delivers, HasOneLog, IsSentSo}
 use Rattle.sc_live_answers.proofs.BallotsProofs.WellPlayers.{plays_of}
 
 -- a node of a seat takes this mail of the group, for its replica

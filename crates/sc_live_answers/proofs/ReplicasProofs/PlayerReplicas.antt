@@ -3,18 +3,18 @@ use Rattle.std.proofs.Common.{◌≡◌, ℕ, ◌≤◌, eqb, cond, true, false,
 use Rattle.sc_base.specs.Definitions.{Among, client_actor}
 use Rattle.sc_node_table.specs.Values.{Base, OrderLine, Mail, Client, Seat, Input, Route}
 use Rattle.sc_actor.specs.Definitions.{value, acted, replay, input_of}
-use Rattle.sc_client_table.specs.table.Definitions.{Client as ClientState, born_client, table}
+use Rattle.sc_client_table.specs.table.TableDefinitions.{Client as ClientState, born_client, table}
 use Rattle.sc_scenario.specs.scenario.Definitions.{IsValid, ValidScenariosAreBounded}
 use Rattle.sc_scenario.specs.declared.scenario.scenarios.Asks.{Asks}
 use Rattle.sc_scenario.specs.declared.scenario.scenarios.Scenario.{Scenario}
-use Rattle.sc_node_table.specs.Definitions.{replica_of, born_node, ReplicaState, name_of, numbers_from, slots_ahead}
-use Rattle.sc_meaning.specs.sound.Definitions.{Player, player_table, births, as_nodes, node_seat, client_seat, client_seats, route_of, Lawful}
-use Rattle.sc_live_steps.specs.calm.Definitions.{Rows}
-use Rattle.sc_live_journals.specs.rows.Definitions.{view_at}
-use Rattle.sc_live_answers.specs.Definitions.{LawfulReplicasAreNamedOnce, AreAtNodes, ViewsAgree}
-use Rattle.sc_live_journals.specs.charts.Definitions.{replicas_of as chart_replicas, all_replicas}
-use Rattle.sc_live_plain.specs.Definitions.{replicas_after}
-use Rattle.sc_live_plain.proofs.Lemmas.{in_numbers}
+use Rattle.sc_node_table.specs.NodeDefinitions.{replica_of, born_node, ReplicaState, name_of, numbers_from, slots_ahead}
+use Rattle.sc_meaning.specs.sound.SoundDefinitions.{Player, player_table, births, as_nodes, node_seat, client_seat, client_seats, route_of, Lawful}
+use Rattle.sc_live_steps.specs.calm.CalmDefinitions.{Rows}
+use Rattle.sc_live_journals.specs.rows.RowDefinitions.{view_at}
+use Rattle.sc_live_answers.specs.AnswerDefinitions.{LawfulReplicasAreNamedOnce, AreAtNodes, ViewsAgree}
+use Rattle.sc_live_journals.specs.charts.ChartDefinitions.{replicas_of as chart_replicas, all_replicas}
+use Rattle.sc_live_plain.specs.PlainDefinitions.{replicas_after}
+use Rattle.sc_live_plain.proofs.PlainLemmas.{in_numbers}
 use Rattle.sc_live_answers.proofs.ReplicasProofs.Nodes.{node_replays}
 use Rattle.sc_live_answers.proofs.AnswersProofs.ChartSequence.{split_among}
 use Rattle.sc_paxos_law.proofs.Lemmas.{from_map}

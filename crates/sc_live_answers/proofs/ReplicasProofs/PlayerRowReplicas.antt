@@ -6,16 +6,16 @@ use Rattle.std.proofs.lemmas.Bool.{cond-false}
 use Rattle.sc_base.specs.Definitions.{Among}
 use Rattle.sc_node_table.specs.Values.{Draw, Base, AnswerBody, Mail, MailBody, Request, Answer, Install, Node, Client, Seat, Deliver, Go, Got}
 use Rattle.sc_actor.specs.Definitions.{mails, numbered, value}
-use Rattle.sc_live_orderly.specs.Definitions.{AreInTime}
-use Rattle.sc_node_table.specs.Definitions.{NodeState, replica_of, with_replica, with_new, with_born, with_children, group_of_mail, may_come, unknown, routed, on_mail, ReplicaState, Executed, born_replica, mailed, slots_ahead}
-use Rattle.sc_law_walks.proofs.Lemmas.{either_way}
-use Rattle.sc_meaning.specs.sound.Definitions.{Player, player_table}
-use Rattle.sc_live_steps.specs.calm.Definitions.{players, Rows}
-use Rattle.sc_live_steps.proofs.CalmStepsProofs.Lemmas.{put_others}
-use Rattle.sc_live_journals.specs.rows.Definitions.{view_at, IsSeat, with_event}
-use Rattle.sc_live_journals.proofs.RowsProofs.Lemmas.{names_stay, found_name, rows_replicas, view_was, new_is, child_me as born_me}
-use Rattle.sc_live_journals.specs.scenes.Definitions.{IsTaking}
-use Rattle.sc_live_journals.proofs.ScenesProofs.Lemmas.{client_leaves, got_nothing, unknown_apart, OneOf, all_children, now_is}
+use Rattle.sc_live_orderly.specs.OrderlyDefinitions.{AreInTime}
+use Rattle.sc_node_table.specs.NodeDefinitions.{NodeState, replica_of, with_replica, with_new, with_born, with_children, group_of_mail, may_come, unknown, routed, on_mail, ReplicaState, Executed, born_replica, mailed, slots_ahead}
+use Rattle.sc_law_walks.proofs.WalkLemmas.{either_way}
+use Rattle.sc_meaning.specs.sound.SoundDefinitions.{Player, player_table}
+use Rattle.sc_live_steps.specs.calm.CalmDefinitions.{players, Rows}
+use Rattle.sc_live_steps.proofs.CalmStepsProofs.CalmStepLemmas.{put_others}
+use Rattle.sc_live_journals.specs.rows.RowDefinitions.{view_at, IsSeat, with_event}
+use Rattle.sc_live_journals.proofs.RowsProofs.RowLemmas.{names_stay, found_name, rows_replicas, view_was, new_is, child_me as born_me}
+use Rattle.sc_live_journals.specs.scenes.SceneDefinitions.{IsTaking}
+use Rattle.sc_live_journals.proofs.ScenesProofs.SceneLemmas.{client_leaves, got_nothing, unknown_apart, OneOf, all_children, now_is}
 use Rattle.sc_live_answers.proofs.ReplicasProofs.TakenMail.{mail_taken}
 
 -- a child that is made has a replica then

@@ -1,27 +1,27 @@
 -- The replicas of players are those of the nodes.
-use Rattle.sc_live_journals.proofs.LogsProofs.Lemmas.{no_client}
+use Rattle.sc_live_journals.proofs.LogsProofs.GroupLogLemmas.{no_client}
 use Rattle.std.proofs.Common.{◌≡◌, ℕ, ◌≤◌, eqb, cond, true, false, Bool, List, [], ◌∷◌, ◌++◌, find, map, Option, Some, None, inl, inr, refl, sym, ◌∙◌, ap, subst, arith}
 use Rattle.std.proofs.lemmas.Bool.{eqb-true}
 use Rattle.std.proofs.lemmas.Option.{none-some}
 use Rattle.sc_base.specs.Definitions.{Among, client_actor}
 use Rattle.sc_node_table.specs.Values.{Draw, Node, Client, OrderLine, Mail, Seat, Input}
 use Rattle.sc_actor.specs.Definitions.{value, acted, replay, input_of}
-use Rattle.sc_client_table.specs.table.Definitions.{Client as ClientState, born_client, table}
-use Rattle.sc_live_orderly.proofs.Lemmas.{seat_found}
+use Rattle.sc_client_table.specs.table.TableDefinitions.{Client as ClientState, born_client, table}
+use Rattle.sc_live_orderly.proofs.OrderlyLemmas.{seat_found}
 use Rattle.sc_paxos_law.proofs.Lemmas.{Among-either, from_map}
-use Rattle.sc_words.proofs.PaxosProofs.Lemmas.{find_found}
-use Rattle.sc_node_table.specs.Definitions.{replica_of, born_node, ReplicaState, numbers_from}
+use Rattle.sc_words.proofs.PaxosProofs.PaxosLemmas.{find_found}
+use Rattle.sc_node_table.specs.NodeDefinitions.{replica_of, born_node, ReplicaState, numbers_from}
 use Rattle.sc_scenario.specs.declared.scenario.scenarios.Asks.{Asks}
 use Rattle.sc_scenario.specs.declared.scenario.scenarios.Scenario.{Scenario}
 use Rattle.sc_scenario.specs.scenario.Definitions.{IsBounded}
-use Rattle.sc_meaning.specs.sound.Definitions.{Player, player_table, node_seat, client_seat, route_of, births, as_nodes}
-use Rattle.sc_law_groups.proofs.WholeProofs.Lemmas.{all_apart}
-use Rattle.sc_live_steps.specs.calm.Definitions.{Rows}
-use Rattle.sc_live_journals.specs.rows.Definitions.{replicas_of, replica_in, view_at}
-use Rattle.sc_live_journals.specs.charts.Definitions.{replicas_of as chart_replicas, replica_at as chart_replica}
-use Rattle.sc_live_plain.specs.Definitions.{replicas_after, replicas_of as node_replicas}
-use Rattle.sc_live_plain.proofs.Lemmas.{IsStage, stage, in_numbers, node_born, node_number}
-use Rattle.sc_live_answers.specs.Definitions.{AreAtNodes, ViewsAgree}
+use Rattle.sc_meaning.specs.sound.SoundDefinitions.{Player, player_table, node_seat, client_seat, route_of, births, as_nodes}
+use Rattle.sc_law_groups.proofs.WholeProofs.WholeLemmas.{all_apart}
+use Rattle.sc_live_steps.specs.calm.CalmDefinitions.{Rows}
+use Rattle.sc_live_journals.specs.rows.RowDefinitions.{replicas_of, replica_in, view_at}
+use Rattle.sc_live_journals.specs.charts.ChartDefinitions.{replicas_of as chart_replicas, replica_at as chart_replica}
+use Rattle.sc_live_plain.specs.PlainDefinitions.{replicas_after, replicas_of as node_replicas}
+use Rattle.sc_live_plain.proofs.PlainLemmas.{IsStage, stage, in_numbers, node_born, node_number}
+use Rattle.sc_live_answers.specs.AnswerDefinitions.{AreAtNodes, ViewsAgree}
 
 -- ---- what a player has
 

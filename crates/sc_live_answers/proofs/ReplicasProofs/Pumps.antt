@@ -1,9 +1,9 @@
 -- A pump leaves the log of its replica.
 use Rattle.std.proofs.Common.{◌≡◌, ℕ, List, refl, ap}
 use Rattle.sc_node_table.specs.Values.{Command}
-use Rattle.sc_words.specs.paxos.Definitions.{LogState, next_of}
-use Rattle.sc_node_table.specs.Definitions.{offered, pumped, Place, next}
-use Rattle.sc_law_walks.proofs.Lemmas.{pumped_freely}
+use Rattle.sc_words.specs.paxos.PaxosDefinitions.{LogState, next_of}
+use Rattle.sc_node_table.specs.NodeDefinitions.{offered, pumped, Place, next}
+use Rattle.sc_law_walks.proofs.WalkLemmas.{pumped_freely}
 
 -- the log of a place
 abbrev log_of : Place → LogState Command

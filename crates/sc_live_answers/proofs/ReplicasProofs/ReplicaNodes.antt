@@ -7,19 +7,19 @@ use Rattle.sc_base.specs.Definitions.{Among, most_nodes, same_draw, is_member}
 use Rattle.sc_node_table.specs.Values.{Draw, Base, OrderLine, Mail, Seat, Row}
 use Rattle.sc_actor.specs.Definitions.{value}
 use Rattle.sc_actor.proofs.Lemmas.{value-snoc}
-use Rattle.sc_live_orderly.specs.Definitions.{AreInTime}
-use Rattle.sc_live_orderly.proofs.Lemmas.{by_time, last_in_time}
-use Rattle.sc_words.proofs.PaxosProofs.Lemmas.{Each-among, Each-from_All, find_found, from_filter}
+use Rattle.sc_live_orderly.specs.OrderlyDefinitions.{AreInTime}
+use Rattle.sc_live_orderly.proofs.OrderlyLemmas.{by_time, last_in_time}
+use Rattle.sc_words.proofs.PaxosProofs.PaxosLemmas.{Each-among, Each-from_All, find_found, from_filter}
 use Rattle.sc_paxos_law.proofs.Lemmas.{Among-either, from_map, member-among}
 use Rattle.sc_scenario.specs.scenario.Definitions.{group_at, IsBounded, IsBoundedClient, IsUpTo, ValidScenariosAreBounded}
 use Rattle.sc_scenario.specs.declared.scenario.scenarios.Asks.{Asks}
 use Rattle.sc_scenario.specs.declared.scenario.scenarios.Scenario.{Scenario}
-use Rattle.sc_node_table.specs.Definitions.{is_node, replica_of, born_replicas, ReplicaState, name_of, born_replica, slots_ahead, numbers_from}
-use Rattle.sc_meaning.specs.sound.Definitions.{Player, player_table, node_seat, client_seat, client_seats, route_of, births, as_nodes}
-use Rattle.sc_live_steps.specs.calm.Definitions.{players}
-use Rattle.sc_law_entries.specs.logs.Definitions.{Rows}
-use Rattle.sc_live_plain.specs.Definitions.{replicas_of}
-use Rattle.sc_live_answers.specs.Definitions.{AreAtNodes, IsCalmJournal, IsPrefixOf}
+use Rattle.sc_node_table.specs.NodeDefinitions.{is_node, replica_of, born_replicas, ReplicaState, name_of, born_replica, slots_ahead, numbers_from}
+use Rattle.sc_meaning.specs.sound.SoundDefinitions.{Player, player_table, node_seat, client_seat, client_seats, route_of, births, as_nodes}
+use Rattle.sc_live_steps.specs.calm.CalmDefinitions.{players}
+use Rattle.sc_law_entries.specs.logs.LogDefinitions.{Rows}
+use Rattle.sc_live_plain.specs.PlainDefinitions.{replicas_of}
+use Rattle.sc_live_answers.specs.AnswerDefinitions.{AreAtNodes, IsCalmJournal, IsPrefixOf}
 use Rattle.sc_live_answers.proofs.LinksProofs.LinkLogs.{of_up_to}
 
 -- a client's seat is behind the nodes

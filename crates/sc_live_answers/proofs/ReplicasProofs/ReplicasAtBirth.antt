@@ -2,12 +2,12 @@
 use Rattle.std.proofs.Common.{◌≡◌, Bool, true, false, cond, Option, Some, None, ◌⊎◌, inl, inr, refl}
 use Rattle.sc_base.specs.Definitions.{Among, is_member}
 use Rattle.sc_node_table.specs.Values.{Base}
-use Rattle.sc_node_table.specs.Definitions.{born_replica, slots_ahead}
+use Rattle.sc_node_table.specs.NodeDefinitions.{born_replica, slots_ahead}
 use Rattle.sc_scenario.specs.scenario.Definitions.{IsBounded, ValidScenariosAreBounded}
 use Rattle.sc_scenario.specs.declared.scenario.scenarios.Scenario.{Scenario}
-use Rattle.sc_meaning.specs.sound.Definitions.{births, as_nodes}
-use Rattle.sc_live_journals.proofs.RowsProofs.Lemmas.{view_born}
-use Rattle.sc_live_answers.specs.Definitions.{GroupsAreBornOrNot, AreBornAsBegun, GroupsAreBornAsBegun}
+use Rattle.sc_meaning.specs.sound.SoundDefinitions.{births, as_nodes}
+use Rattle.sc_live_journals.proofs.RowsProofs.RowLemmas.{view_born}
+use Rattle.sc_live_answers.specs.AnswerDefinitions.{GroupsAreBornOrNot, AreBornAsBegun, GroupsAreBornAsBegun}
 
 one_or_none : {X : Type 0} (b : Bool) (x : X) (o : Option X) → o ≡ cond b (Some x) None → (o ≡ None) ⊎ ((o ≡ Some x) × (b ≡ true))
 one_or_none true x o e = inr (e, refl)

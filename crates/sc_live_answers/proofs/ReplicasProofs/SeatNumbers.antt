@@ -3,20 +3,20 @@ use Rattle.std.proofs.Common.{◌≡◌, ℕ, ◌≤◌, eqb, map, Option, Some,
 use Rattle.sc_base.specs.Definitions.{next_name, Among}
 use Rattle.sc_node_table.specs.Values.{Draw, Seat, Node, Client}
 use Rattle.sc_actor.specs.Definitions.{value}
-use Rattle.sc_node_table.specs.Definitions.{NodeState, numbers_from}
-use Rattle.sc_words.proofs.PaxosProofs.Lemmas.{find_found}
+use Rattle.sc_node_table.specs.NodeDefinitions.{NodeState, numbers_from}
+use Rattle.sc_words.proofs.PaxosProofs.PaxosLemmas.{find_found}
 use Rattle.sc_paxos_law.proofs.Lemmas.{Among-either, from_map}
 use Rattle.sc_scenario.specs.scenario.Definitions.{IsValid, ValidScenariosAreBounded}
 use Rattle.sc_scenario.specs.declared.scenario.scenarios.Scenario.{Scenario}
-use Rattle.sc_meaning.specs.sound.Definitions.{Lawful, Player, as_nodes, births, client_seat, node_seat, player_table, route_of}
-use Rattle.sc_law_entries.specs.names.Definitions.{NodesHaveNames, OtherNamesAreFree, TakenOrdersAreAllowed, TakenWishesAreAllowed, WishesAreAtPositions, owner_in}
-use Rattle.sc_law_groups.proofs.GroupProofs.Lemmas.{among_numbers}
-use Rattle.sc_law_groups.specs.whole.Definitions.{ValidScenariosBeginWell}
-use Rattle.sc_law_groups.proofs.WholeProofs.Lemmas.{orders_allowed}
-use Rattle.sc_live_steps.specs.calm.Definitions.{Rows}
-use Rattle.sc_live_journals.proofs.LogsProofs.Lemmas.{whole}
-use Rattle.sc_live_journals.specs.rows.Definitions.{IsSeat}
-use Rattle.sc_live_answers.specs.Definitions.{IsUnused, sources_of}
+use Rattle.sc_meaning.specs.sound.SoundDefinitions.{Lawful, Player, as_nodes, births, client_seat, node_seat, player_table, route_of}
+use Rattle.sc_law_entries.specs.names.NameDefinitions.{NodesHaveNames, OtherNamesAreFree, TakenOrdersAreAllowed, TakenWishesAreAllowed, WishesAreAtPositions, owner_in}
+use Rattle.sc_law_groups.proofs.GroupProofs.GroupLemmas.{among_numbers}
+use Rattle.sc_law_groups.specs.whole.WholeDefinitions.{ValidScenariosBeginWell}
+use Rattle.sc_law_groups.proofs.WholeProofs.WholeLemmas.{orders_allowed}
+use Rattle.sc_live_steps.specs.calm.CalmDefinitions.{Rows}
+use Rattle.sc_live_journals.proofs.LogsProofs.GroupLogLemmas.{whole}
+use Rattle.sc_live_journals.specs.rows.RowDefinitions.{IsSeat}
+use Rattle.sc_live_answers.specs.AnswerDefinitions.{IsUnused, sources_of}
 
 no_client : (client : _) (node : NodeState) → ◌≡◌ {A = Player} (Client client) (Node node) → ⊥
 no_client client node e = cc

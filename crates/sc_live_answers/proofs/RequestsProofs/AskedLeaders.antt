@@ -8,15 +8,15 @@ use Rattle.std.proofs.lemmas.List.{length-map, length-take-le}
 use Rattle.sc_base.specs.Definitions.{Among, Arc, end_of, holds, client_actor, key_of, same_draw, pos_of}
 use Rattle.sc_node_table.specs.Values.{Draw, Op, Reply, Link, Route, AnswerBody, Value, NotLeader, NotMine, Gone, Stale, Mail, MailBody, Answer}
 use Rattle.sc_base.proofs.Lemmas.{draw_is, same_name}
-use Rattle.sc_client_table.specs.lookup.Definitions.{KnownGroups, way_to, chosen, target_in, changed, preferring, starting, group_learnt, learnt_from_not_mine, learnt_from_gone, far, new_way, target_of}
+use Rattle.sc_client_table.specs.lookup.LookupDefinitions.{KnownGroups, way_to, chosen, target_in, changed, preferring, starting, group_learnt, learnt_from_not_mine, learnt_from_gone, far, new_way, target_of}
 use Rattle.sc_client_table.specs.declared.lookup.ways.Way.{Way}
 use Rattle.sc_paxos_law.proofs.Lemmas.{from_map, Among-left, Among-right, Among-either}
-use Rattle.sc_words.proofs.PaxosProofs.Lemmas.{Each-among}
-use Rattle.sc_client_table.specs.table.Definitions.{Client as ClientState, waiting_request, ClientStep, asked_of, sent_to, sent_where, chosen_for, request_sent, started, waits_for, was_asked, redirected, answer_taken, got}
+use Rattle.sc_words.proofs.PaxosProofs.PaxosLemmas.{Each-among}
+use Rattle.sc_client_table.specs.table.TableDefinitions.{Client as ClientState, waiting_request, ClientStep, asked_of, sent_to, sent_where, chosen_for, request_sent, started, waits_for, was_asked, redirected, answer_taken, got}
 use Rattle.sc_scenario.specs.declared.scenario.scenarios.Asks.{Asks}
-use Rattle.sc_live_plain.specs.Definitions.{IsLinkedSetting, IsCalmClient, start_of, start_known, Setting, IsSetting, IsCalmMail, Frame, IsWaiting, IsBegun, Requests}
-use Rattle.sc_live_plain.proofs.Lemmas.{calm_says, CalmSays, name_in, id_of, gap, learn_in_turn, chosen_is, some_is, map_among, near_behind, started_names as starting_names}
-use Rattle.sc_live_answers.specs.Definitions.{IsLedAt, AsksLeaders, ClientsAskLeaders}
+use Rattle.sc_live_plain.specs.PlainDefinitions.{IsLinkedSetting, IsCalmClient, start_of, start_known, Setting, IsSetting, IsCalmMail, Frame, IsWaiting, IsBegun, Requests}
+use Rattle.sc_live_plain.proofs.PlainLemmas.{calm_says, CalmSays, name_in, id_of, gap, learn_in_turn, chosen_is, some_is, map_among, near_behind, started_names as starting_names}
+use Rattle.sc_live_answers.specs.AnswerDefinitions.{IsLedAt, AsksLeaders, ClientsAskLeaders}
 use Rattle.sc_live_answers.proofs.RequestsProofs.ClientAnswers.{chosen_known, RingKnown, ring_known, alone, all_led, lacks}
 
 -- ---- what is asked of groups, after changes

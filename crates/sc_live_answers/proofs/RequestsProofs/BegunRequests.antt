@@ -13,24 +13,24 @@ use Rattle.sc_actor.specs.declared.rows.Input.TheVariants.{Go}
 use Rattle.sc_actor.specs.declared.rows.Input.TheVariants.{Told as ToldInput}
 use Rattle.sc_actor.specs.Definitions.{mails, input_of, acted, value, row_of, has_started, is_go, are_apart}
 use Rattle.sc_actor.proofs.Lemmas.{value-snoc}
-use Rattle.sc_client_table.specs.table.Definitions.{Client as ClientState, born_client, request_at, table, InTurn}
+use Rattle.sc_client_table.specs.table.TableDefinitions.{Client as ClientState, born_client, request_at, table, InTurn}
 use Rattle.sc_client_table.proofs.TableProofs.TurnLemmas.{sends_in_turn}
-use Rattle.sc_live_orderly.specs.Definitions.{IsCalmEvent, AreInTime}
-use Rattle.sc_live_orderly.proofs.Lemmas.{by_time, last_in_time, seat_found}
+use Rattle.sc_live_orderly.specs.OrderlyDefinitions.{IsCalmEvent, AreInTime}
+use Rattle.sc_live_orderly.proofs.OrderlyLemmas.{by_time, last_in_time, seat_found}
 use Rattle.sc_paxos_law.proofs.Lemmas.{Among-right}
 use Rattle.sc_scenario.specs.scenario.Definitions.{ValidScenariosAreBounded}
 use Rattle.sc_scenario.specs.declared.scenario.scenarios.Asks.{Asks}
 use Rattle.sc_scenario.specs.declared.scenario.scenarios.Scenario.{Scenario}
-use Rattle.sc_node_table.specs.Definitions.{numbers_from}
-use Rattle.sc_meaning.specs.sound.Definitions.{Player, player_table, node_seat, client_seat, client_seats, route_of, births, as_nodes, asks_for, issues, issue_row}
-use Rattle.sc_law_groups.proofs.GroupProofs.Lemmas.{or_now, issue-push}
-use Rattle.sc_law_groups.proofs.WholeProofs.Lemmas.{all_apart}
-use Rattle.sc_live_steps.specs.calm.Definitions.{players, Rows}
-use Rattle.sc_live_plain.specs.Definitions.{begun_ones, waiting_ones, begun_of}
-use Rattle.sc_live_plain.proofs.Lemmas.{map_among}
-use Rattle.sc_live_answers.specs.Definitions.{IssuedAreBegun}
+use Rattle.sc_node_table.specs.NodeDefinitions.{numbers_from}
+use Rattle.sc_meaning.specs.sound.SoundDefinitions.{Player, player_table, node_seat, client_seat, client_seats, route_of, births, as_nodes, asks_for, issues, issue_row}
+use Rattle.sc_law_groups.proofs.GroupProofs.GroupLemmas.{or_now, issue-push}
+use Rattle.sc_law_groups.proofs.WholeProofs.WholeLemmas.{all_apart}
+use Rattle.sc_live_steps.specs.calm.CalmDefinitions.{players, Rows}
+use Rattle.sc_live_plain.specs.PlainDefinitions.{begun_ones, waiting_ones, begun_of}
+use Rattle.sc_live_plain.proofs.PlainLemmas.{map_among}
+use Rattle.sc_live_answers.specs.AnswerDefinitions.{IssuedAreBegun}
 use Rattle.sc_live_steps.proofs.CalmStepsProofs.Totals.{or_assoc}
-use Rattle.sc_law_walks.proofs.Lemmas.{got_no_go}
+use Rattle.sc_law_walks.proofs.WalkLemmas.{got_no_go}
 
 -- ---- a client's own row
 

@@ -4,17 +4,17 @@ use Rattle.std.specs.Prelude.{slice_get}
 use Rattle.std.proofs.lemmas.Option.{slice_get_within}
 use Rattle.sc_base.specs.Definitions.{Among, Arc, client_actor, key_of, pos_of}
 use Rattle.sc_node_table.specs.Values.{Draw, Op, Reply, Link, Route, AnswerBody, Value, NotLeader, NotMine, Gone, Stale, Mail, Answer}
-use Rattle.sc_words.specs.ideal.Definitions.{holds_key}
-use Rattle.sc_client_table.specs.lookup.Definitions.{KnownGroups, way_to, chosen, target_in}
+use Rattle.sc_words.specs.ideal.IdealDefinitions.{holds_key}
+use Rattle.sc_client_table.specs.lookup.LookupDefinitions.{KnownGroups, way_to, chosen, target_in}
 use Rattle.sc_client_table.specs.declared.lookup.ways.Way.{Way}
 use Rattle.sc_paxos_law.proofs.Lemmas.{from_map, Among-left}
-use Rattle.sc_client_table.specs.table.Definitions.{Client as ClientState}
+use Rattle.sc_client_table.specs.table.TableDefinitions.{Client as ClientState}
 use Rattle.sc_scenario.specs.declared.scenario.scenarios.Asks.{Asks}
-use Rattle.sc_live_steps.specs.calm.Definitions.{Chart, AsksWithin, IsInTurn, LearnsOf, LeavesFor, MayHear, HearsCalmly}
-use Rattle.sc_live_plain.specs.Definitions.{IsLinkedSetting, Knows, IsCalmClient, FollowedBy, AreRoundRing, KnowsFirst, Setting, HasGoneTo, IsSetting, IsCalmMail, Frame, IsWaiting, IsBegun, Requests}
+use Rattle.sc_live_steps.specs.calm.CalmDefinitions.{Chart, AsksWithin, IsInTurn, LearnsOf, LeavesFor, MayHear, HearsCalmly}
+use Rattle.sc_live_plain.specs.PlainDefinitions.{IsLinkedSetting, Knows, IsCalmClient, FollowedBy, AreRoundRing, KnowsFirst, Setting, HasGoneTo, IsSetting, IsCalmMail, Frame, IsWaiting, IsBegun, Requests}
 use Rattle.sc_live_plain.proofs.CalmProofs.CalmClients.{SaysPlain}
-use Rattle.sc_live_plain.proofs.Lemmas.{calm_says, CalmSays, unasked, name_in, id_of, learn_in_turn, some_is}
-use Rattle.sc_live_answers.specs.Definitions.{CountsAs, IsLedAt, AreReached, AsksLeaders, AnswersAreHeardCalmly, ClientsGoCalmly}
+use Rattle.sc_live_plain.proofs.PlainLemmas.{calm_says, CalmSays, unasked, name_in, id_of, learn_in_turn, some_is}
+use Rattle.sc_live_answers.specs.AnswerDefinitions.{CountsAs, IsLedAt, AreReached, AsksLeaders, AnswersAreHeardCalmly, ClientsGoCalmly}
 pub use Rattle.sc_live_plain.proofs.CalmProofs.ChosenGroups.{chosen_among as chosen_known}
 
 -- the group behind one that stands, round the ring

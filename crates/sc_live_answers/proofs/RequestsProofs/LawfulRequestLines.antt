@@ -2,11 +2,11 @@
 use Rattle.std.proofs.Common.{◌≡◌, ◌∷◌, ◌++◌, sym, ◌∙◌, subst}
 use Rattle.sc_node_table.specs.Values.{Base}
 use Rattle.sc_actor.proofs.Lemmas.{lawful-prefix}
-use Rattle.sc_meaning.specs.sound.Definitions.{schedule, system_of, as_nodes}
+use Rattle.sc_meaning.specs.sound.SoundDefinitions.{schedule, system_of, as_nodes}
 use Rattle.sc_scenario.specs.scenario.Definitions.{ValidScenariosAreBounded}
-use Rattle.sc_live_plain.specs.Definitions.{IsAsking, replicas_after, setting_at, IsQuietJournal, Setting}
-use Rattle.sc_live_plain.proofs.Lemmas.{quiet_ask, stage}
-use Rattle.sc_live_answers.specs.Definitions.{LawfulJournalsHaveOneLog, LawfulLinesLeaveQuiet, HaveOneLog, LinesLeaveReplicasQuiet, LinesLeaveQuiet}
+use Rattle.sc_live_plain.specs.PlainDefinitions.{IsAsking, replicas_after, setting_at, IsQuietJournal, Setting}
+use Rattle.sc_live_plain.proofs.PlainLemmas.{quiet_ask, stage}
+use Rattle.sc_live_answers.specs.AnswerDefinitions.{LawfulJournalsHaveOneLog, LawfulLinesLeaveQuiet, HaveOneLog, LinesLeaveReplicasQuiet, LinesLeaveQuiet}
 use Rattle.sc_live_answers.proofs.RequestsProofs.RequestLineEnds.{line_ends}
 
 pub lawful_leave : ValidScenariosAreBounded → LawfulJournalsHaveOneLog → LinesLeaveReplicasQuiet → LinesLeaveQuiet → LawfulLinesLeaveQuiet

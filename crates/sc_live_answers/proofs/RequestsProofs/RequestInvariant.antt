@@ -5,21 +5,21 @@ use Rattle.sc_base.proofs.Lemmas.{draw_is}
 use Rattle.sc_base.specs.Definitions.{Among, Each, same_draw}
 use Rattle.sc_node_table.specs.Values.{Draw, Op, Base, OrderLine, Mail, MailBody, Request, Answer, Accept, Accepted, Learn, Seat, Event, Row}
 use Rattle.sc_actor.specs.Definitions.{System, row_of}
-use Rattle.sc_live_orderly.specs.Definitions.{IsInOrder, IsOrderly, IsTidy, rest, AreInTime}
-use Rattle.sc_live_orderly.proofs.Lemmas.{in_time_tidy}
+use Rattle.sc_live_orderly.specs.OrderlyDefinitions.{IsInOrder, IsOrderly, IsTidy, rest, AreInTime}
+use Rattle.sc_live_orderly.proofs.OrderlyLemmas.{in_time_tidy}
 use Rattle.sc_live_orderly.proofs.RowsInTime.{snoc_parts}
-use Rattle.sc_node_table.specs.Definitions.{ReplicaState, last_slot, listed, slots_ahead}
+use Rattle.sc_node_table.specs.NodeDefinitions.{ReplicaState, last_slot, listed, slots_ahead}
 use Rattle.sc_scenario.specs.declared.scenario.scenarios.Scenario.{Scenario}
 use Rattle.sc_scenario.specs.scenario.Definitions.{ValidScenariosAreBounded}
-use Rattle.sc_meaning.specs.sound.Definitions.{groups_at, Player, player_table, births, as_nodes}
-use Rattle.sc_live_steps.specs.calm.Definitions.{Chart, players, FindsCalm, Rows}
-use Rattle.sc_live_steps.specs.following.Definitions.{Mark, Asks, Votes, Teaches, mark_of, marks_of, named_mark}
-use Rattle.sc_live_journals.specs.rows.Definitions.{IsSeat}
-use Rattle.sc_live_journals.specs.mail.Definitions.{SlotsAreLeft, ReplicasLast}
-use Rattle.sc_live_answers.specs.Definitions.{IsQuietWhileYoung, CountsAs, NodesMayPump, AreNear, MayBegin, RequestRowsFindCalm, QuietJournalsKnowOne, LawfulQuietJournalsCountOnce, QuietGroupsHaveCuts, StandingGroupsAreRound, QuietChartsCount, frames_after, QuietJournalsHaveFrames, QuietSettingsAreLinked, IsCalmJournal, IsPrefixOf, RestsAt, ChartHintsRise, ViewsAgree, setting_of, IsKnownPrefix, IsRequested, RequestsBegin, RequestsStay, RequestsFindCalm, RequestsLeaveYoung}
-use Rattle.sc_live_journals.specs.charts.Definitions.{far_at, chart_at, quiet_prefix}
-use Rattle.sc_live_journals.specs.scenes.Definitions.{IsNowhere}
-use Rattle.sc_live_plain.specs.Definitions.{IsAsking, AreFarFromLast, RequestsGoOn, AreRequests, NobodyWaits, replicas_after, setting_at, QuietJournalsAsk, replica_at, next_in, IsLinkedSetting, Setting, IsSetting, IsAsideBody, IsCalmMail, Frame, IsBegun, IsPlainBody}
+use Rattle.sc_meaning.specs.sound.SoundDefinitions.{groups_at, Player, player_table, births, as_nodes}
+use Rattle.sc_live_steps.specs.calm.CalmDefinitions.{Chart, players, FindsCalm, Rows}
+use Rattle.sc_live_steps.specs.following.FollowingDefinitions.{Mark, Asks, Votes, Teaches, mark_of, marks_of, named_mark}
+use Rattle.sc_live_journals.specs.rows.RowDefinitions.{IsSeat}
+use Rattle.sc_live_journals.specs.mail.MailDefinitions.{SlotsAreLeft, ReplicasLast}
+use Rattle.sc_live_answers.specs.AnswerDefinitions.{IsQuietWhileYoung, CountsAs, NodesMayPump, AreNear, MayBegin, RequestRowsFindCalm, QuietJournalsKnowOne, LawfulQuietJournalsCountOnce, QuietGroupsHaveCuts, StandingGroupsAreRound, QuietChartsCount, frames_after, QuietJournalsHaveFrames, QuietSettingsAreLinked, IsCalmJournal, IsPrefixOf, RestsAt, ChartHintsRise, ViewsAgree, setting_of, IsKnownPrefix, IsRequested, RequestsBegin, RequestsStay, RequestsFindCalm, RequestsLeaveYoung}
+use Rattle.sc_live_journals.specs.charts.ChartDefinitions.{far_at, chart_at, quiet_prefix}
+use Rattle.sc_live_journals.specs.scenes.SceneDefinitions.{IsNowhere}
+use Rattle.sc_live_plain.specs.PlainDefinitions.{IsAsking, AreFarFromLast, RequestsGoOn, AreRequests, NobodyWaits, replicas_after, setting_at, QuietJournalsAsk, replica_at, next_in, IsLinkedSetting, Setting, IsSetting, IsAsideBody, IsCalmMail, Frame, IsBegun, IsPlainBody}
 use Rattle.sc_live_answers.proofs.OrdersProofs.OrderDeliveries.{there_or}
 use Rattle.sc_live_answers.proofs.LinesProofs.Setting as quiet_of
 

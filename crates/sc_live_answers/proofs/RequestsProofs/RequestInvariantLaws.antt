@@ -3,15 +3,15 @@ use Rattle.sc_live_answers.proofs.RequestsProofs.RequestInvariant.{requests_begi
 use Rattle.sc_scenario.proofs.ScenarioProofs.Lemmas.{valid_scenarios_are_bounded}
 use Rattle.sc_live_answers.proofs.LinesProofs.SettingLaws.{quiet_journals_have_frames, quiet_charts_count}
 use Rattle.sc_live_answers.proofs.AnswersProofs.CalmRowLaws.{chart_hints_rise}
-use Rattle.sc_live_plain.proofs.Lemmas.{quiet_journals_ask, requests_go_on}
+use Rattle.sc_live_plain.proofs.PlainLemmas.{quiet_journals_ask, requests_go_on}
 use Rattle.sc_live_answers.proofs.QuietProofs.QuietRanges.{quiet_cuts as quiet_groups_have_cuts}
 use Rattle.sc_live_answers.proofs.QuietProofs.GroupRing.{standing_round as standing_groups_are_round}
 use Rattle.sc_live_answers.proofs.LinesProofs.SettingLinks.{settings_linked as quiet_settings_are_linked}
 use Rattle.sc_live_answers.proofs.ReplicasProofs.PlayerViews.{views_agree}
 use Rattle.sc_live_answers.proofs.RequestsProofs.RequestLineStarts.{know_one as quiet_journals_know_one}
 use Rattle.sc_live_answers.proofs.RequestsProofs.RequestLaws.{lawful_quiet_journals_count_once, request_rows_find_calm}
-use Rattle.sc_live_journals.proofs.MailProofs.Lemmas.{slots_are_left, replicas_last}
-use Rattle.sc_live_answers.specs.Definitions.{RequestsBegin, RequestsStay, RequestsFindCalm, RequestsLeaveYoung}
+use Rattle.sc_live_journals.proofs.MailProofs.MailLemmas.{slots_are_left, replicas_last}
+use Rattle.sc_live_answers.specs.AnswerDefinitions.{RequestsBegin, RequestsStay, RequestsFindCalm, RequestsLeaveYoung}
 
 -- Since a quiet prefix that rests clients may ask.
 pub requests_begin : RequestsBegin

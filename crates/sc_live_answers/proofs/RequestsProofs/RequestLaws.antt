@@ -1,12 +1,12 @@
 -- A line of requests in a calm journal, between two orders: each row finds what it needs, and the line leaves a quiet journal.
 use Rattle.sc_live_answers.proofs.RequestsProofs.RequestLineEnds.{replicas_quiet}
 use Rattle.sc_scenario.proofs.ScenarioProofs.Lemmas.{valid_scenarios_are_bounded}
-use Rattle.sc_live_answers.specs.Definitions.{LinesLeaveReplicasQuiet, LinesLeaveQuiet, LawfulJournalsHaveOneLog, LawfulLinesLeaveQuiet, AnswersAreExpected, LinesAskLeaders, RequestRowsFindCalm, QuietJournalsCountOnce, LawfulReplicasAreNamedOnce, LawfulQuietJournalsCountOnce}
+use Rattle.sc_live_answers.specs.AnswerDefinitions.{LinesLeaveReplicasQuiet, LinesLeaveQuiet, LawfulJournalsHaveOneLog, LawfulLinesLeaveQuiet, AnswersAreExpected, LinesAskLeaders, RequestRowsFindCalm, QuietJournalsCountOnce, LawfulReplicasAreNamedOnce, LawfulQuietJournalsCountOnce}
 use Rattle.sc_live_answers.proofs.LinesProofs.QuietLines.{leave_quiet}
 use Rattle.sc_live_answers.proofs.LinesProofs.EqualReplicas.{lawful_one_log}
-use Rattle.sc_law_groups.proofs.WholeProofs.Lemmas.{valid_scenarios_begin_well, lawful_journals_decide_in_turn, valid_journals_are_sound}
-use Rattle.sc_law_entries.proofs.NamesProofs.Lemmas.{orders_are_allowed_allowed, orders_are_allowed_wishes, orders_are_allowed_positions, names_have_one_owner_others}
-use Rattle.sc_law_entries.proofs.LogsProofs.Lemmas.{groups_are_born_under_new_names_found}
+use Rattle.sc_law_groups.proofs.WholeProofs.WholeLemmas.{valid_scenarios_begin_well, lawful_journals_decide_in_turn, valid_journals_are_sound}
+use Rattle.sc_law_entries.proofs.NamesProofs.NameLemmas.{orders_are_allowed_allowed, orders_are_allowed_wishes, orders_are_allowed_positions, names_have_one_owner_others}
+use Rattle.sc_law_entries.proofs.LogsProofs.LogLemmas.{groups_are_born_under_new_names_found}
 use Rattle.sc_live_answers.proofs.RequestsProofs.LawfulRequestLines.{lawful_leave}
 use Rattle.sc_live_answers.proofs.LinesProofs.SingleTokens.{expected}
 use Rattle.sc_live_answers.proofs.RequestsProofs.RequestLineLeaders.{lines_lead}

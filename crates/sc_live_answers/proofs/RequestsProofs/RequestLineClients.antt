@@ -6,19 +6,19 @@ use Rattle.sc_base.specs.Definitions.{Among, Each, client_actor, is_member}
 use Rattle.sc_node_table.specs.Values.{Draw, Op, Base, OrderLine, Mail, MailBody, Request, Answer, Accept, Accepted, Learn, Node, Client, Seat, Event, Deliver, Tick, Go, Got, Row}
 use Rattle.sc_actor.specs.declared.rows.Input.TheVariants.{Go as GoInput}
 use Rattle.sc_actor.specs.Definitions.{mails, value, acted, input_of, System, row_of, has_started, is_go}
-use Rattle.sc_client_table.specs.table.Definitions.{Client as ClientState, table}
-use Rattle.sc_words.proofs.PaxosProofs.Lemmas.{Each-append, Each-filter}
-use Rattle.sc_node_table.specs.Definitions.{is_node, node_table, slots_ahead}
+use Rattle.sc_client_table.specs.table.TableDefinitions.{Client as ClientState, table}
+use Rattle.sc_words.proofs.PaxosProofs.PaxosLemmas.{Each-append, Each-filter}
+use Rattle.sc_node_table.specs.NodeDefinitions.{is_node, node_table, slots_ahead}
 use Rattle.sc_scenario.specs.declared.scenario.scenarios.Asks.{Asks}
 use Rattle.sc_scenario.specs.declared.scenario.scenarios.Scenario.{Scenario}
-use Rattle.sc_meaning.specs.sound.Definitions.{Player, player_table, node_seat, client_seat, route_of, births, system_of, as_nodes}
-use Rattle.sc_live_orderly.specs.Definitions.{IsTidy, IsOrderly, IsInOrder, rest, is_born, mail_for, taken}
-use Rattle.sc_live_orderly.proofs.Lemmas.{rest-row}
-use Rattle.sc_live_plain.specs.Definitions.{IsAsking, AreFarFromLast, AreRequests, AreSeated, Other, mark, mark_of, IsLinkedSetting, IsCalmClient, Setting, IsSetting, IsAsideBody, IsCalmMail, Frame, IsFrame, waiting_ones, IsBegun, begun_of, Requests, IsPlainBody}
+use Rattle.sc_meaning.specs.sound.SoundDefinitions.{Player, player_table, node_seat, client_seat, route_of, births, system_of, as_nodes}
+use Rattle.sc_live_orderly.specs.OrderlyDefinitions.{IsTidy, IsOrderly, IsInOrder, rest, is_born, mail_for, taken}
+use Rattle.sc_live_orderly.proofs.OrderlyLemmas.{rest-row}
+use Rattle.sc_live_plain.specs.PlainDefinitions.{IsAsking, AreFarFromLast, AreRequests, AreSeated, Other, mark, mark_of, IsLinkedSetting, IsCalmClient, Setting, IsSetting, IsAsideBody, IsCalmMail, Frame, IsFrame, waiting_ones, IsBegun, begun_of, Requests, IsPlainBody}
 use Rattle.sc_live_plain.proofs.CalmProofs.RequestPhaseClients as clients_of
-use Rattle.sc_live_plain.proofs.Lemmas.{aside_mark, takes_only, go_only, IsStage, node_number, client_number, value_others, gone_others, started_still, Journal, of_player, unasked, stays_by, IsFor, for_node, is_node_born as node_is_born}
+use Rattle.sc_live_plain.proofs.PlainLemmas.{aside_mark, takes_only, go_only, IsStage, node_number, client_number, value_others, gone_others, started_still, Journal, of_player, unasked, stays_by, IsFor, for_node, is_node_born as node_is_born}
 use Rattle.sc_live_plain.proofs.CalmProofs.RequestPhaseNodes as turns_of
-use Rattle.sc_law_entries.proofs.NamesProofs.Lemmas.{Each-drop}
+use Rattle.sc_law_entries.proofs.NamesProofs.NameLemmas.{Each-drop}
 
 -- ---- what a line keeps
 

@@ -2,14 +2,14 @@
 use Rattle.std.proofs.Common.{◌≡◌, ℕ, ◌+◌, ◌<◌, List, [], ◌∷◌, ◌++◌, Some, inl, refl, sym, ◌∙◌, ap, subst, arith, append-nil}
 use Rattle.sc_base.specs.Definitions.{Among}
 use Rattle.sc_node_table.specs.Values.{Command, Base, Report}
-use Rattle.sc_words.proofs.PaxosProofs.Lemmas.{Each-among}
-use Rattle.sc_node_table.specs.Definitions.{ReplicaState, next}
+use Rattle.sc_words.proofs.PaxosProofs.PaxosLemmas.{Each-among}
+use Rattle.sc_node_table.specs.NodeDefinitions.{ReplicaState, next}
 use Rattle.sc_scenario.specs.declared.scenario.scenarios.Scenario.{Scenario}
 use Rattle.sc_scenario.specs.scenario.Definitions.{ValidScenariosAreBounded}
-use Rattle.sc_live_steps.specs.calm.Definitions.{Ways}
-use Rattle.sc_live_plain.specs.Definitions.{IsAsking, AreRequests, replicas_after, setting_at, AreFramesOf, IsQuietJournal, replica_at, IsLinkedSetting, IsSetting, Frame, AreTaken}
-use Rattle.sc_live_plain.proofs.Lemmas.{quiet_ask, IsStage, stage, Journal, some_is}
-use Rattle.sc_live_answers.specs.Definitions.{LinesLeaveReplicasQuiet}
+use Rattle.sc_live_steps.specs.calm.CalmDefinitions.{Ways}
+use Rattle.sc_live_plain.specs.PlainDefinitions.{IsAsking, AreRequests, replicas_after, setting_at, AreFramesOf, IsQuietJournal, replica_at, IsLinkedSetting, IsSetting, Frame, AreTaken}
+use Rattle.sc_live_plain.proofs.PlainLemmas.{quiet_ask, IsStage, stage, Journal, some_is}
+use Rattle.sc_live_answers.specs.AnswerDefinitions.{LinesLeaveReplicasQuiet}
 use Rattle.sc_live_answers.proofs.LinesProofs.LineEndReplicas.{all_quiet}
 use Rattle.sc_live_answers.proofs.RequestsProofs.RequestLineReplicas.{HaveServed, line_serves}
 use Rattle.sc_live_answers.proofs.RequestsProofs.RequestRowEffects.{rests_itself}

@@ -6,18 +6,18 @@ use Rattle.sc_node_table.specs.Values.{Draw, Base, OrderLine, Mail, Client, Seat
 use Rattle.sc_client_table.specs.declared.lookup.ways.Way.{Way}
 use Rattle.sc_actor.specs.declared.rows.Input.TheVariants.{Go as GoInput}
 use Rattle.sc_actor.specs.Definitions.{value, System, row_of, has_started}
-use Rattle.sc_client_table.specs.table.Definitions.{Client as ClientState, table}
-use Rattle.sc_node_table.specs.Definitions.{is_node}
+use Rattle.sc_client_table.specs.table.TableDefinitions.{Client as ClientState, table}
+use Rattle.sc_node_table.specs.NodeDefinitions.{is_node}
 use Rattle.sc_scenario.specs.declared.scenario.scenarios.Asks.{Asks}
 use Rattle.sc_scenario.specs.declared.scenario.scenarios.Scenario.{Scenario}
 use Rattle.sc_scenario.specs.scenario.Definitions.{ValidScenariosAreBounded}
-use Rattle.sc_meaning.specs.sound.Definitions.{Player, player_table, node_seat, client_seat, route_of, births, system_of, as_nodes}
-use Rattle.sc_live_orderly.specs.Definitions.{IsTidy, IsOrderly, IsInOrder, owed}
+use Rattle.sc_meaning.specs.sound.SoundDefinitions.{Player, player_table, node_seat, client_seat, route_of, births, system_of, as_nodes}
+use Rattle.sc_live_orderly.specs.OrderlyDefinitions.{IsTidy, IsOrderly, IsInOrder, owed}
 use Rattle.sc_live_plain.proofs.PlainProofs.BegunRequestCounts.{begun_right}
-use Rattle.sc_live_plain.specs.Definitions.{IsAsking, AreFarFromLast, AreRequests, AreSeated, NobodyWaits, IsLinkedSetting, Setting, IsSetting}
+use Rattle.sc_live_plain.specs.PlainDefinitions.{IsAsking, AreFarFromLast, AreRequests, AreSeated, NobodyWaits, IsLinkedSetting, Setting, IsSetting}
 use Rattle.sc_live_plain.proofs.CalmProofs.RequestPhaseClients as clients_of
-use Rattle.sc_live_plain.proofs.Lemmas.{AreSought, IsStage, stage, node_number, client_number, value_others, Journal, of_player, client_is}
-use Rattle.sc_live_answers.specs.Definitions.{AsksLeaders, AllAskLeaders, KnowOne, LinesAskLeaders, token_owing}
+use Rattle.sc_live_plain.proofs.PlainLemmas.{AreSought, IsStage, stage, node_number, client_number, value_others, Journal, of_player, client_is}
+use Rattle.sc_live_answers.specs.AnswerDefinitions.{AsksLeaders, AllAskLeaders, KnowOne, LinesAskLeaders, token_owing}
 use Rattle.sc_live_answers.proofs.RequestsProofs.AskedLeaders.{ask_leaders}
 use Rattle.sc_live_answers.proofs.RequestsProofs.RequestLineClients.{line_keeps, fresh_row}
 use Rattle.sc_live_answers.proofs.LinesProofs.JournalTokens.{falls}

@@ -4,10 +4,10 @@ use Rattle.std.proofs.lemmas.Bool.{cases_eq, cases_Bool, both_ways}
 use Rattle.sc_base.specs.Definitions.{Among, same_draw, is_member}
 use Rattle.sc_node_table.specs.Values.{Draw, Command, Report}
 use Rattle.sc_base.proofs.Lemmas.{draw_is, same_name}
-use Rattle.sc_node_table.specs.Definitions.{ReplicaState, next}
+use Rattle.sc_node_table.specs.NodeDefinitions.{ReplicaState, next}
 use Rattle.sc_scenario.specs.declared.scenario.scenarios.Scenario.{Scenario}
-use Rattle.sc_live_plain.specs.Definitions.{IsAsking, AreRequests, replica_at, IsGroupAt, IsLinkedSetting, Setting, IsHome, IsSetting, Frame, AreNamedApart, AreTaken}
-use Rattle.sc_live_plain.proofs.Lemmas.{asking_row, IsStage, Journal, some_is, taken_once}
+use Rattle.sc_live_plain.specs.PlainDefinitions.{IsAsking, AreRequests, replica_at, IsGroupAt, IsLinkedSetting, Setting, IsHome, IsSetting, Frame, AreNamedApart, AreTaken}
+use Rattle.sc_live_plain.proofs.PlainLemmas.{asking_row, IsStage, Journal, some_is, taken_once}
 use Rattle.sc_live_answers.proofs.LinesProofs.CallEffects.{knows}
 use Rattle.sc_live_answers.proofs.RequestsProofs.RequestRowReplicas.{AllStay, OneChanges, RowLeaves, row_leaves}
 use Rattle.sc_live_answers.proofs.RequestsProofs.RequestRowEffects.{Rests}

@@ -6,15 +6,15 @@ use Rattle.sc_base.specs.Definitions.{Among, same_draw, client_actor}
 use Rattle.sc_base.proofs.Lemmas.{same_name, draw_is}
 use Rattle.sc_node_table.specs.Values.{Mail, Node}
 use Rattle.sc_actor.specs.Definitions.{mails, copies, has_started}
-use Rattle.sc_client_table.specs.table.Definitions.{Client as ClientState, born_client}
-use Rattle.sc_node_table.specs.Definitions.{replica_of, ReplicaState, name_of}
-use Rattle.sc_words.proofs.PaxosProofs.Lemmas.{Each-among}
+use Rattle.sc_client_table.specs.table.TableDefinitions.{Client as ClientState, born_client}
+use Rattle.sc_node_table.specs.NodeDefinitions.{replica_of, ReplicaState, name_of}
+use Rattle.sc_words.proofs.PaxosProofs.PaxosLemmas.{Each-among}
 use Rattle.sc_scenario.specs.scenario.Definitions.{ValidScenariosAreBounded}
-use Rattle.sc_meaning.specs.sound.Definitions.{route_of, system_of, as_nodes}
-use Rattle.sc_live_orderly.specs.Definitions.{mail_with, is_born}
-use Rattle.sc_live_steps.specs.calm.Definitions.{IsAtRest, IsAnswered}
-use Rattle.sc_live_plain.proofs.Lemmas.{stage, node_number, replica_is, client_is}
-use Rattle.sc_live_answers.specs.Definitions.{QuietJournalsKnowOne, QuietJournalsHaveNoMail, QuietJournalsCountOnce, AreNamedOnce, command_token, flight_tokens, ready_tokens, replica_tokens}
+use Rattle.sc_meaning.specs.sound.SoundDefinitions.{route_of, system_of, as_nodes}
+use Rattle.sc_live_orderly.specs.OrderlyDefinitions.{mail_with, is_born}
+use Rattle.sc_live_steps.specs.calm.CalmDefinitions.{IsAtRest, IsAnswered}
+use Rattle.sc_live_plain.proofs.PlainLemmas.{stage, node_number, replica_is, client_is}
+use Rattle.sc_live_answers.specs.AnswerDefinitions.{QuietJournalsKnowOne, QuietJournalsHaveNoMail, QuietJournalsCountOnce, AreNamedOnce, command_token, flight_tokens, ready_tokens, replica_tokens}
 use Rattle.sc_live_answers.proofs.LinesProofs.IdleTokens.{idle_once}
 use Rattle.sc_live_answers.proofs.ErrandsProofs.QuestionTargets.{no_append}
 

@@ -1,19 +1,19 @@
 -- All that holds while clients ask alone since a quiet prefix of a calm journal.
 use Rattle.sc_live_answers.proofs.RestProofs.KnownRestingPrefixes.{resting_known, sent_nodes_pump}
 use Rattle.sc_live_answers.proofs.QuietProofs.QuietPrefixLaws.{prefixes_are_found, routes_in_prefixes_agree, no_mail_for_strangers, still_prefixes_are_free, prefixes_stay_in_turn}
-use Rattle.sc_law_groups.proofs.WholeProofs.Lemmas.{valid_journals_are_sound, valid_entries_are_logs}
-use Rattle.sc_live_answers.specs.Definitions.{RestingPrefixesAreKnown, SentNodesMayPump, RequestsBeginAsked, RequestsStayAsked, AskedRowsGoOn, AskedRowsFindCalm, RequestsKeepGroups, RequestsRestAgain}
+use Rattle.sc_law_groups.proofs.WholeProofs.WholeLemmas.{valid_journals_are_sound, valid_entries_are_logs}
+use Rattle.sc_live_answers.specs.AnswerDefinitions.{RestingPrefixesAreKnown, SentNodesMayPump, RequestsBeginAsked, RequestsStayAsked, AskedRowsGoOn, AskedRowsFindCalm, RequestsKeepGroups, RequestsRestAgain}
 use Rattle.sc_scenario.proofs.ScenarioProofs.Lemmas.{valid_scenarios_are_bounded}
 use Rattle.sc_live_answers.proofs.RequestsProofs.RequestLaws.{lawful_replicas_are_named_once}
 use Rattle.sc_live_answers.proofs.LedMailProofs.GroupMail.{sent_replicas}
 use Rattle.sc_live_answers.proofs.RequestsProofs.RequestPhases.{begin_asked, stay_asked, rows_asked, asked_find, keep_groups, rest_again}
 use Rattle.sc_live_answers.proofs.RequestsProofs.RequestInvariantLaws.{requests_begin, requests_stay, requests_leave_young, requests_find_calm}
 use Rattle.sc_live_answers.proofs.BallotsProofs.HintLaws.{requests_keep_ballots, next_rows_rise}
-use Rattle.sc_live_journals.proofs.MailProofs.Lemmas.{slots_are_left, replicas_last}
+use Rattle.sc_live_journals.proofs.MailProofs.MailLemmas.{slots_are_left, replicas_last}
 use Rattle.sc_live_answers.proofs.LedMailProofs.GroupMailLaws.{next_rows_are_sent}
 use Rattle.sc_live_answers.proofs.LinesProofs.SettingLaws.{quiet_journals_have_frames}
 use Rattle.sc_live_answers.proofs.AnswersProofs.CalmRowLaws.{chart_hints_rise}
-use Rattle.sc_live_plain.proofs.Lemmas.{quiet_journals_ask}
+use Rattle.sc_live_plain.proofs.PlainLemmas.{quiet_journals_ask}
 use Rattle.sc_live_answers.proofs.QuietProofs.QuietRanges.{quiet_cuts as quiet_groups_have_cuts}
 use Rattle.sc_live_answers.proofs.QuietProofs.GroupRing.{standing_round as standing_groups_are_round}
 use Rattle.sc_live_answers.proofs.LinesProofs.SettingLinks.{settings_linked as quiet_settings_are_linked}

@@ -6,21 +6,21 @@ use Rattle.std.proofs.lemmas.Option.{none-some}
 use Rattle.sc_base.specs.Definitions.{Among, Each}
 use Rattle.sc_node_table.specs.Values.{Ballot, Draw, Command, Noop, Call, Base, Core, Route, OrderLine, Mail, Seat, Event, Row, Flight}
 use Rattle.sc_actor.specs.Definitions.{mails, value, System, row_of, is_quiet}
-use Rattle.sc_live_orderly.specs.Definitions.{IsInOrder, is_told, orders, AreInTime}
-use Rattle.sc_live_orderly.proofs.Lemmas.{last_in_time}
-use Rattle.sc_node_table.specs.Definitions.{replica_of, ReplicaState, listed}
+use Rattle.sc_live_orderly.specs.OrderlyDefinitions.{IsInOrder, is_told, orders, AreInTime}
+use Rattle.sc_live_orderly.proofs.OrderlyLemmas.{last_in_time}
+use Rattle.sc_node_table.specs.NodeDefinitions.{replica_of, ReplicaState, listed}
 use Rattle.sc_scenario.specs.declared.scenario.scenarios.Scenario.{Scenario}
 use Rattle.sc_scenario.specs.scenario.Definitions.{ValidScenariosAreBounded}
-use Rattle.sc_meaning.specs.sound.Definitions.{groups_at, Player, player_table, births, node_seat, as_nodes}
-use Rattle.sc_live_steps.specs.calm.Definitions.{players, Rows}
-use Rattle.sc_live_steps.specs.orders.Definitions.{work_by, works_in, works_flying, works_ready, works}
-use Rattle.sc_live_journals.specs.rows.Definitions.{view_at, IsSeat, with_event}
-use Rattle.sc_live_journals.specs.mail.Definitions.{SlotsAreLeft, ReplicasLast}
-use Rattle.sc_live_journals.specs.logs.Definitions.{logged_sets}
-use Rattle.sc_live_journals.specs.scenes.Definitions.{IsThere, GoesToActor}
-use Rattle.sc_live_journals.specs.charts.Definitions.{names_at, all_replicas, GoInTurn}
-use Rattle.sc_live_plain.specs.Definitions.{IsAskingNode, replicas_after, QuietJournalsAsk, replicas_of, Setting, IsSetting, KnowsBetter, Frame, IsBegun, Requests, IsPlainCommand, IsPlainFlight, IsSettled, IsPlainAt}
-use Rattle.sc_live_answers.specs.Definitions.{over_at, slot_leaders_at, IsSentStep, NextRowsAreSent, QuietGroupsHaveCuts, StandingGroupsAreRound, QuietJournalsHaveFrames, QuietSettingsAreLinked, ChartHintsRise, NextRowsRise, IsRisingOn, IsBallotSince, RequestsKeepBallots, RoundsAreSeen, StillPrefixesAreFree, IsQuietPrefix, IsFoundPrefix, PrefixesAreFound, NoGroupEnds, PrefixesStayInTurn, NoMailForStrangers, IsCalmJournal, IsPrefixOf, AreSent, RestsAt, RequestsLeaveResting, setting_of, RequestsBegin, RequestsStay, RequestsFindCalm, RequestsLeaveYoung, RestingPrefixesAreKnown, SentNodesMayPump, IsAskedSince, RequestsBeginAsked, RequestsStayAsked, AskedRowsGoOn, AskedRowsFindCalm, RequestsKeepGroups, RequestsRestAgain}
+use Rattle.sc_meaning.specs.sound.SoundDefinitions.{groups_at, Player, player_table, births, node_seat, as_nodes}
+use Rattle.sc_live_steps.specs.calm.CalmDefinitions.{players, Rows}
+use Rattle.sc_live_steps.specs.orders.OrderDefinitions.{work_by, works_in, works_flying, works_ready, works}
+use Rattle.sc_live_journals.specs.rows.RowDefinitions.{view_at, IsSeat, with_event}
+use Rattle.sc_live_journals.specs.mail.MailDefinitions.{SlotsAreLeft, ReplicasLast}
+use Rattle.sc_live_journals.specs.logs.LogDefinitions.{logged_sets}
+use Rattle.sc_live_journals.specs.scenes.SceneDefinitions.{IsThere, GoesToActor}
+use Rattle.sc_live_journals.specs.charts.ChartDefinitions.{names_at, all_replicas, GoInTurn}
+use Rattle.sc_live_plain.specs.PlainDefinitions.{IsAskingNode, replicas_after, QuietJournalsAsk, replicas_of, Setting, IsSetting, KnowsBetter, Frame, IsBegun, Requests, IsPlainCommand, IsPlainFlight, IsSettled, IsPlainAt}
+use Rattle.sc_live_answers.specs.AnswerDefinitions.{over_at, slot_leaders_at, IsSentStep, NextRowsAreSent, QuietGroupsHaveCuts, StandingGroupsAreRound, QuietJournalsHaveFrames, QuietSettingsAreLinked, ChartHintsRise, NextRowsRise, IsRisingOn, IsBallotSince, RequestsKeepBallots, RoundsAreSeen, StillPrefixesAreFree, IsQuietPrefix, IsFoundPrefix, PrefixesAreFound, NoGroupEnds, PrefixesStayInTurn, NoMailForStrangers, IsCalmJournal, IsPrefixOf, AreSent, RestsAt, RequestsLeaveResting, setting_of, RequestsBegin, RequestsStay, RequestsFindCalm, RequestsLeaveYoung, RestingPrefixesAreKnown, SentNodesMayPump, IsAskedSince, RequestsBeginAsked, RequestsStayAsked, AskedRowsGoOn, AskedRowsFindCalm, RequestsKeepGroups, RequestsRestAgain}
 use Rattle.sc_live_answers.proofs.RestProofs.Prefixes.{journal_group, journal_few, quiet_marks, untold_in_order}
 use Rattle.sc_live_answers.proofs.RequestsProofs.RequestInvariant.{prefix_timely}
 use Rattle.sc_live_answers.proofs.LedGroupsProofs.GuidedGroups.{named_there}

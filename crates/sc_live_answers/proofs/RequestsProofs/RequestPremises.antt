@@ -4,14 +4,14 @@ use Rattle.std.proofs.lemmas.Bool.{both_ways}
 use Rattle.sc_base.specs.Definitions.{Each, client_actor, same_draw, is_member}
 use Rattle.sc_node_table.specs.Values.{Ballot, Draw, Op, Command, Core, Route, Mail, MailBody, Request, Answer, Accept, Accepted, Learn}
 use Rattle.sc_base.proofs.Lemmas.{draw_is}
-use Rattle.sc_words.specs.paxos.Definitions.{below}
-use Rattle.sc_words.proofs.PaxosProofs.Lemmas.{Each-among, find_found}
-use Rattle.sc_group_table.specs.machine.Definitions.{Group}
-use Rattle.sc_node_table.specs.Definitions.{NodeState, ReplicaState, Place, Executed, name_of, next}
-use Rattle.sc_live_steps.specs.calm.Definitions.{Chart, AreBounded, MayTake, IsCalmMailAt, Takes, MayPump, Follows, Points, group_owes, after_mail, Ways, idle_owes, Elsewhere}
-use Rattle.sc_live_plain.specs.Definitions.{Setting, KnowsBetter, IsSetting, IsCalmNode, IsCalmMail, ComesInTime, Frame, IsFrame, IsBegun, Requests, IsPlainCall, IsPlainCommand, IsPlainBody, IsPlainMail, IsPlainAt, IsDue}
-use Rattle.sc_live_plain.proofs.Lemmas.{StepsAside, aside_step, turns, may_pump, serves_all, runs, follows, IsFor, for_node, call_is, leading_at, following_at, none_stops, Does, replica_row}
-use Rattle.sc_live_answers.specs.Definitions.{CountsAs, RequestsAreTakenCalmly}
+use Rattle.sc_words.specs.paxos.PaxosDefinitions.{below}
+use Rattle.sc_words.proofs.PaxosProofs.PaxosLemmas.{Each-among, find_found}
+use Rattle.sc_group_table.specs.machine.MachineDefinitions.{Group}
+use Rattle.sc_node_table.specs.NodeDefinitions.{NodeState, ReplicaState, Place, Executed, name_of, next}
+use Rattle.sc_live_steps.specs.calm.CalmDefinitions.{Chart, AreBounded, MayTake, IsCalmMailAt, Takes, MayPump, Follows, Points, group_owes, after_mail, Ways, idle_owes, Elsewhere}
+use Rattle.sc_live_plain.specs.PlainDefinitions.{Setting, KnowsBetter, IsSetting, IsCalmNode, IsCalmMail, ComesInTime, Frame, IsFrame, IsBegun, Requests, IsPlainCall, IsPlainCommand, IsPlainBody, IsPlainMail, IsPlainAt, IsDue}
+use Rattle.sc_live_plain.proofs.PlainLemmas.{StepsAside, aside_step, turns, may_pump, serves_all, runs, follows, IsFor, for_node, call_is, leading_at, following_at, none_stops, Does, replica_row}
+use Rattle.sc_live_answers.specs.AnswerDefinitions.{CountsAs, RequestsAreTakenCalmly}
 
 -- ---- what a group owes by its replica
 

@@ -4,14 +4,14 @@ use Rattle.std.proofs.lemmas.Bool.{cond_both, both_ways}
 use Rattle.sc_base.specs.Definitions.{Among, client_actor, is_member}
 use Rattle.sc_node_table.specs.Values.{Ballot, Draw, Op, Command, Call, MailBody, Request, Answer, Accept, Accepted, Learn, Report}
 use Rattle.std.specs.Prelude.{nat_lt}
-use Rattle.sc_words.specs.paxos.Definitions.{with_report, below}
-use Rattle.sc_words.proofs.PaxosProofs.Lemmas.{from_filter}
-use Rattle.sc_node_table.specs.Definitions.{ReplicaState, Place, next, last_slot, mailed, slots_ahead}
-use Rattle.sc_live_plain.specs.Definitions.{Frame, IsFrame, Requests, IsPlainCall, IsPlainCommand, IsPlainBody, AreTaken, IsPlainLeader, IsPlainFollower, IsPlainVoter, IsPlainReplica, IsPlainAt, IsDue}
-use Rattle.sc_live_plain.proofs.Lemmas.{as_voter, learn_is, learnt_plain, learnt_follower, learnt_next, IsRun, call_is, DidRefuse, DidQueue, DidCount, following_at, none_stops, replica_row, taken_once}
+use Rattle.sc_words.specs.paxos.PaxosDefinitions.{with_report, below}
+use Rattle.sc_words.proofs.PaxosProofs.PaxosLemmas.{from_filter}
+use Rattle.sc_node_table.specs.NodeDefinitions.{ReplicaState, Place, next, last_slot, mailed, slots_ahead}
+use Rattle.sc_live_plain.specs.PlainDefinitions.{Frame, IsFrame, Requests, IsPlainCall, IsPlainCommand, IsPlainBody, AreTaken, IsPlainLeader, IsPlainFollower, IsPlainVoter, IsPlainReplica, IsPlainAt, IsDue}
+use Rattle.sc_live_plain.proofs.PlainLemmas.{as_voter, learn_is, learnt_plain, learnt_follower, learnt_next, IsRun, call_is, DidRefuse, DidQueue, DidCount, following_at, none_stops, replica_row, taken_once}
 use Rattle.sc_live_answers.proofs.LinesProofs.CallEffects.{knows, Leaves, leaves_itself, leaves_bare, request_kept, vote_goes}
 use Rattle.sc_live_plain.proofs.PlainRowsProofs.PlainAcceptAndLearnRows.{accepted_state}
-use Rattle.sc_live_plain.proofs.Lemmas.{accept_is}
+use Rattle.sc_live_plain.proofs.PlainLemmas.{accept_is}
 use Rattle.sc_live_answers.proofs.LinesProofs.AcceptAndLearnRows.{learn_leaves}
 use Rattle.sc_live_answers.proofs.AnswersProofs.ChartSequence.{split_among}
 

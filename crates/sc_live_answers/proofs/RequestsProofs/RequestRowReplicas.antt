@@ -7,15 +7,15 @@ use Rattle.sc_node_table.specs.Values.{Draw, Op, Core, OrderLine, Mail, MailBody
 use Rattle.sc_base.proofs.Lemmas.{draw_is, same_name}
 use Rattle.sc_actor.specs.declared.rows.Input.TheVariants.{Go as GoInput}
 use Rattle.sc_actor.specs.Definitions.{mails, value, acted, input_of, System, row_of, waiting, kth}
-use Rattle.sc_words.proofs.PaxosProofs.Lemmas.{find_found}
-use Rattle.sc_node_table.specs.Definitions.{NodeState, is_node, replica_of, node_table, ReplicaState, name_of, next, last_slot, mailed, slots_ahead}
+use Rattle.sc_words.proofs.PaxosProofs.PaxosLemmas.{find_found}
+use Rattle.sc_node_table.specs.NodeDefinitions.{NodeState, is_node, replica_of, node_table, ReplicaState, name_of, next, last_slot, mailed, slots_ahead}
 use Rattle.sc_scenario.specs.declared.scenario.scenarios.Asks.{Asks}
 use Rattle.sc_scenario.specs.declared.scenario.scenarios.Scenario.{Scenario}
-use Rattle.sc_meaning.specs.sound.Definitions.{Player, player_table, node_seat, client_seat, route_of, births, system_of, as_nodes}
-use Rattle.sc_live_orderly.specs.Definitions.{IsTidy, IsOrderly, IsInOrder}
-use Rattle.sc_live_plain.specs.Definitions.{IsAskingNode, IsAsking, AreFarFromLast, Asks as AsksFor, mark, IsBelow, replica_at, next_in, view_at, IsGroupAt, Setting, IsSetting, IsCalmNode, ComesInTime, Frame, IsFrame, IsBegun, Requests, IsPlainBody, IsDue}
+use Rattle.sc_meaning.specs.sound.SoundDefinitions.{Player, player_table, node_seat, client_seat, route_of, births, system_of, as_nodes}
+use Rattle.sc_live_orderly.specs.OrderlyDefinitions.{IsTidy, IsOrderly, IsInOrder}
+use Rattle.sc_live_plain.specs.PlainDefinitions.{IsAskingNode, IsAsking, AreFarFromLast, Asks as AsksFor, mark, IsBelow, replica_at, next_in, view_at, IsGroupAt, Setting, IsSetting, IsCalmNode, ComesInTime, Frame, IsFrame, IsBegun, Requests, IsPlainBody, IsDue}
 use Rattle.sc_live_plain.proofs.CalmProofs.RequestPhaseNodes as turns_of
-use Rattle.sc_live_plain.proofs.Lemmas.{IsStage, client_number, Journal, replica_is, replica_none, replica_others, of_player, Turns, step_is, NodeRow, IsFor, for_node, mail_is, others_after, put_found, replica_row}
+use Rattle.sc_live_plain.proofs.PlainLemmas.{IsStage, client_number, Journal, replica_is, replica_none, replica_others, of_player, Turns, step_is, NodeRow, IsFor, for_node, mail_is, others_after, put_found, replica_row}
 use Rattle.sc_live_answers.proofs.RequestsProofs.RequestRowEffects.{AsksAt, Serves, serves_row}
 
 -- ---- a node

@@ -3,19 +3,19 @@ use Rattle.std.proofs.Common.{◌≡◌, ℕ, ◌≤◌, eqb, ◌∷◌, ◌++�
 use Rattle.sc_base.specs.Definitions.{Among, Each, client_actor}
 use Rattle.sc_node_table.specs.Values.{Base, OrderLine, Mail, Node, Client, Seat, Event, Deliver, Go}
 use Rattle.sc_actor.specs.Definitions.{mails, numbered, value, row_of, has_started, waiting, kth}
-use Rattle.sc_client_table.specs.table.Definitions.{Client as ClientState}
+use Rattle.sc_client_table.specs.table.TableDefinitions.{Client as ClientState}
 use Rattle.sc_scenario.specs.declared.scenario.scenarios.Asks.{Asks}
 use Rattle.sc_scenario.specs.declared.scenario.scenarios.Scenario.{Scenario}
 use Rattle.sc_scenario.specs.scenario.Definitions.{ValidScenariosAreBounded}
-use Rattle.sc_meaning.specs.sound.Definitions.{Player, player_table, births, node_seat, client_seat, route_of, system_of, as_nodes}
-use Rattle.sc_live_orderly.specs.Definitions.{IsTidy, IsOrderly, IsInOrder}
-use Rattle.sc_live_orderly.proofs.Lemmas.{TakesFirst, takes_first, is_born-from}
-use Rattle.sc_live_steps.specs.calm.Definitions.{Chart, IsCalmFor, MayGoNow, FindsCalm, led_elsewhere}
+use Rattle.sc_meaning.specs.sound.SoundDefinitions.{Player, player_table, births, node_seat, client_seat, route_of, system_of, as_nodes}
+use Rattle.sc_live_orderly.specs.OrderlyDefinitions.{IsTidy, IsOrderly, IsInOrder}
+use Rattle.sc_live_orderly.proofs.OrderlyLemmas.{TakesFirst, takes_first, is_born-from}
+use Rattle.sc_live_steps.specs.calm.CalmDefinitions.{Chart, IsCalmFor, MayGoNow, FindsCalm, led_elsewhere}
 use Rattle.sc_live_plain.proofs.PlainProofs.BegunRequestCounts.{begun_right}
-use Rattle.sc_live_plain.specs.Definitions.{IsAskingNode, IsAskingClient, IsAsking, AreFarFromLast, IsLinkedSetting, IsCalmClient, Setting, IsSetting, IsCalmMail, IsBegun}
+use Rattle.sc_live_plain.specs.PlainDefinitions.{IsAskingNode, IsAskingClient, IsAsking, AreFarFromLast, IsLinkedSetting, IsCalmClient, Setting, IsSetting, IsCalmMail, IsBegun}
 use Rattle.sc_live_plain.proofs.CalmProofs.RequestPhaseNodes as turns_of
-use Rattle.sc_live_plain.proofs.Lemmas.{IsStage, stage, Journal, of_player}
-use Rattle.sc_live_answers.specs.Definitions.{CountsAs, AreReached, AllAskLeaders, IsAnswerTo, AnswersAreHeardCalmly, ClientsGoCalmly, AnswersAreExpected, LinesAskLeaders, NodesMayPump, AreNear, RequestRowsFindCalm}
+use Rattle.sc_live_plain.proofs.PlainLemmas.{IsStage, stage, Journal, of_player}
+use Rattle.sc_live_answers.specs.AnswerDefinitions.{CountsAs, AreReached, AllAskLeaders, IsAnswerTo, AnswersAreHeardCalmly, ClientsGoCalmly, AnswersAreExpected, LinesAskLeaders, NodesMayPump, AreNear, RequestRowsFindCalm}
 use Rattle.sc_live_answers.proofs.RequestsProofs.RequestPremises.{requests_taken}
 
 some_mail : {one other : Mail} → Some one ≡ Some other → one ≡ other

@@ -1,12 +1,12 @@
 -- A quiet prefix of a calm journal rests, since whose last quiet prefix clients asked alone.
 use Rattle.std.proofs.Common.{◌++◌}
-use Rattle.sc_live_orderly.proofs.Lemmas.{in_time_tidy, quiet-empty}
+use Rattle.sc_live_orderly.proofs.OrderlyLemmas.{in_time_tidy, quiet-empty}
 use Rattle.sc_scenario.specs.scenario.Definitions.{ValidScenariosAreBounded}
-use Rattle.sc_meaning.specs.sound.Definitions.{births, as_nodes}
-use Rattle.sc_live_steps.specs.calm.Definitions.{players}
-use Rattle.sc_live_journals.specs.charts.Definitions.{chart_at}
-use Rattle.sc_live_plain.specs.Definitions.{QuietJournalsAsk}
-use Rattle.sc_live_answers.specs.Definitions.{LawfulLinesLeaveQuiet, QuietGroupsHaveCuts, StandingGroupsAreRound, frames_after, QuietJournalsHaveFrames, QuietSettingsAreLinked, PrefixesAreFound, ChartHintsRise, QuietJournalsRest, RequestsLeaveResting}
+use Rattle.sc_meaning.specs.sound.SoundDefinitions.{births, as_nodes}
+use Rattle.sc_live_steps.specs.calm.CalmDefinitions.{players}
+use Rattle.sc_live_journals.specs.charts.ChartDefinitions.{chart_at}
+use Rattle.sc_live_plain.specs.PlainDefinitions.{QuietJournalsAsk}
+use Rattle.sc_live_answers.specs.AnswerDefinitions.{LawfulLinesLeaveQuiet, QuietGroupsHaveCuts, StandingGroupsAreRound, frames_after, QuietJournalsHaveFrames, QuietSettingsAreLinked, PrefixesAreFound, ChartHintsRise, QuietJournalsRest, RequestsLeaveResting}
 use Rattle.sc_live_answers.proofs.RequestsProofs.RequestInvariant.{prefix_timely}
 use Rattle.sc_live_answers.proofs.LinesProofs.Setting as quiet_of
 

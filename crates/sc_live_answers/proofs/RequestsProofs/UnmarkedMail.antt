@@ -2,9 +2,9 @@
 use Rattle.std.proofs.Common.{◌≡◌, ℕ, cond, true, false, Bool, List, [], ◌∷◌, ◌++◌, Option, Some, None, refl, sym, ◌∙◌, ap}
 use Rattle.sc_base.specs.Definitions.{Each, same_draw}
 use Rattle.sc_node_table.specs.Values.{Draw, Mail, MailBody, Accept, Accepted, Learn}
-use Rattle.sc_node_table.specs.Definitions.{listed}
-use Rattle.sc_live_steps.specs.following.Definitions.{Mark, marks_of, mark_of}
-use Rattle.sc_live_plain.specs.Definitions.{Mark as AskMark, Other, mark, mark_of as ask_mark}
+use Rattle.sc_node_table.specs.NodeDefinitions.{listed}
+use Rattle.sc_live_steps.specs.following.FollowingDefinitions.{Mark, marks_of, mark_of}
+use Rattle.sc_live_plain.specs.PlainDefinitions.{Mark as AskMark, Other, mark, mark_of as ask_mark}
 
 no_some : {X : Type 0} (x : X) (b : Bool) → b ≡ true → cond b (Some x) None ≡ None → ⊥
 no_some x b t e = (let bad : Some x ≡ None = sym (ap (λ y. cond y (Some x) None) t) ∙ e in cc)

@@ -6,8 +6,8 @@ use Rattle.sc_base.specs.Definitions.{same_draw, is_member, united}
 use Rattle.sc_node_table.specs.Values.{Draw, Offer, Command, Noop, Call, Join, Leave, Split, Begin, Prepared, RecordVote, GiveUp, Finish, Watched, RecordWatch, Core, Lock, Promised, Watching, Effect, Route, OrderRefusal, No, Outcome, Migrated}
 use Rattle.sc_base.proofs.Lemmas.{draw_is}
 use Rattle.sc_words.specs.declared.commands.effects.Effect.TheVariants as Was
-use Rattle.sc_group_table.specs.machine.Definitions.{Group, applied, ordered_by, split_group, locked_in, refused_in, refusal_of, ordered, with_node, without_node, has_named, begun_group, vote_recorded, is_coordinating, aborted, watch_recorded, has_voted, no_of, offer_no, watch_no, vote_of, watch_vote_of, voted_on, welcomed_group, participant_after, party_freed, settled_in, finished}
-use Rattle.sc_law_entries.proofs.RingProofs.Lemmas.{some_none}
+use Rattle.sc_group_table.specs.machine.MachineDefinitions.{Group, applied, ordered_by, split_group, locked_in, refused_in, refusal_of, ordered, with_node, without_node, has_named, begun_group, vote_recorded, is_coordinating, aborted, watch_recorded, has_voted, no_of, offer_no, watch_no, vote_of, watch_vote_of, voted_on, welcomed_group, participant_after, party_freed, settled_in, finished}
+use Rattle.sc_law_entries.proofs.RingProofs.RingLemmas.{some_none}
 use Rattle.sc_live_answers.proofs.LinksProofs.LinkOutcomes.{united_has}
 use Rattle.sc_live_answers.proofs.ReplicasProofs.Cores.{called_core}
 

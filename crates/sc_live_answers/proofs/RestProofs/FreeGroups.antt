@@ -3,16 +3,16 @@ use Rattle.std.proofs.Common.{◌≡◌, ℕ, true, List, Option, Some, None, re
 use Rattle.sc_base.specs.Definitions.{Among}
 use Rattle.sc_node_table.specs.Values.{Base, Free}
 use Rattle.sc_actor.specs.Definitions.{numbers_of}
-use Rattle.sc_group_table.specs.machine.Definitions.{Group}
+use Rattle.sc_group_table.specs.machine.MachineDefinitions.{Group}
 use Rattle.sc_scenario.specs.declared.scenario.scenarios.Scenario.{Scenario}
-use Rattle.sc_node_table.specs.Definitions.{ReplicaState}
-use Rattle.sc_meaning.specs.sound.Definitions.{groups_at, decided_state, births, as_nodes}
-use Rattle.sc_law_entries.specs.logs.Definitions.{Rows}
-use Rattle.sc_live_steps.specs.orders.Definitions.{bond_of, Bond, Here, Still, IsAt}
-use Rattle.sc_live_journals.specs.rows.Definitions.{view_at}
-use Rattle.sc_live_journals.specs.scenes.Definitions.{is_running, lead_of, newest_of, bond_there, bond_by, scene_at}
-use Rattle.sc_live_journals.proofs.ScenesProofs.Lemmas.{IsNewest, newest_is, lead_runs, view_among, free_by as unbound_free}
-use Rattle.sc_live_answers.specs.Definitions.{IsQuietPrefix, PrefixesAreFound, QuietLogsAreExecuted, AreAllThere, StillPrefixesAreFree, PrefixGroupsHaveReplicas}
+use Rattle.sc_node_table.specs.NodeDefinitions.{ReplicaState}
+use Rattle.sc_meaning.specs.sound.SoundDefinitions.{groups_at, decided_state, births, as_nodes}
+use Rattle.sc_law_entries.specs.logs.LogDefinitions.{Rows}
+use Rattle.sc_live_steps.specs.orders.OrderDefinitions.{bond_of, Bond, Here, Still, IsAt}
+use Rattle.sc_live_journals.specs.rows.RowDefinitions.{view_at}
+use Rattle.sc_live_journals.specs.scenes.SceneDefinitions.{is_running, lead_of, newest_of, bond_there, bond_by, scene_at}
+use Rattle.sc_live_journals.proofs.ScenesProofs.SceneLemmas.{IsNewest, newest_is, lead_runs, view_among, free_by as unbound_free}
+use Rattle.sc_live_answers.specs.AnswerDefinitions.{IsQuietPrefix, PrefixesAreFound, QuietLogsAreExecuted, AreAllThere, StillPrefixesAreFree, PrefixGroupsHaveReplicas}
 use Rattle.sc_live_answers.proofs.QuietProofs.QuietPrefixGroups.{most, last_state}
 use Rattle.sc_live_answers.proofs.RestProofs.ReachableGroups.{last}
 

@@ -2,15 +2,15 @@
 use Rattle.std.proofs.Common.{◌≡◌, ℕ, ◌-◌, Bool, true, false, zero, suc, take, List, ◌⊎◌, inl, inr, refl, sym, ◌∙◌, ap, subst, arith}
 use Rattle.sc_node_table.specs.Values.{Free, Command, Leave, Split, Core}
 use Rattle.sc_base.specs.Definitions.{is_member}
-use Rattle.sc_live_steps.proofs.FollowingProofs.Lemmas.{with_kept}
-use Rattle.sc_group_table.specs.machine.Definitions.{Group, applied, state_after, group_of}
-use Rattle.sc_meaning.specs.sound.Definitions.{decided_log}
-use Rattle.sc_live_steps.specs.following.Definitions.{members_at}
-use Rattle.sc_live_journals.specs.logs.Definitions.{logged_sets}
-use Rattle.sc_live_answers.specs.Definitions.{state_at, LeaversFree}
+use Rattle.sc_live_steps.proofs.FollowingProofs.FollowingLemmas.{with_kept}
+use Rattle.sc_group_table.specs.machine.MachineDefinitions.{Group, applied, state_after, group_of}
+use Rattle.sc_meaning.specs.sound.SoundDefinitions.{decided_log}
+use Rattle.sc_live_steps.specs.following.FollowingDefinitions.{members_at}
+use Rattle.sc_live_journals.specs.logs.LogDefinitions.{logged_sets}
+use Rattle.sc_live_answers.specs.AnswerDefinitions.{state_at, LeaversFree}
 use Rattle.sc_live_answers.proofs.LedGroupsProofs.MemberWalks.{next_states}
 use Rattle.sc_live_answers.proofs.LedGroupsProofs.GroupEnds.{sets_are}
-use Rattle.sc_law_walks.proofs.Lemmas.{MachineWalk, machine_step, unrefused_free}
+use Rattle.sc_law_walks.proofs.WalkLemmas.{MachineWalk, machine_step, unrefused_free}
 
 -- no member is lost, or the group is free
 abbrev IsFreed : Core → Core → Type 0

@@ -9,19 +9,19 @@ use Rattle.sc_node_table.specs.Values.{Draw, Route, Node, Client, Seat}
 use Rattle.sc_base.proofs.Lemmas.{draw_is, same_name}
 use Rattle.sc_actor.specs.Definitions.{value}
 use Rattle.sc_paxos_law.proofs.Lemmas.{Among-left, Among-either, from_map}
-use Rattle.sc_words.proofs.PaxosProofs.Lemmas.{find_found}
+use Rattle.sc_words.proofs.PaxosProofs.PaxosLemmas.{find_found}
 use Rattle.sc_scenario.specs.scenario.Definitions.{ValidScenariosAreBounded}
 use Rattle.sc_scenario.specs.declared.scenario.scenarios.Scenario.{Scenario}
-use Rattle.sc_node_table.specs.Definitions.{NodeState, replica_of, ReplicaState, name_of, numbers_from}
-use Rattle.sc_meaning.specs.sound.Definitions.{Player, player_table, node_seat, client_seats, births, as_nodes}
-use Rattle.sc_live_steps.specs.calm.Definitions.{StandsOnce, is_leading, leads, is_led}
-use Rattle.sc_law_entries.specs.logs.Definitions.{Rows}
-use Rattle.sc_live_plain.specs.Definitions.{replicas_after}
-use Rattle.sc_live_plain.proofs.Lemmas.{to_numbers, map_among}
-use Rattle.sc_live_journals.specs.rows.Definitions.{replicas_of as view_replicas, replica_in, view_at}
-use Rattle.sc_live_journals.specs.charts.Definitions.{replicas_of, all_replicas, names_at, went_in, LedStandOnce}
-use Rattle.sc_live_journals.proofs.ChartsProofs.Lemmas.{led_by}
-use Rattle.sc_live_answers.specs.Definitions.{LawfulReplicasAreNamedOnce, GoneAgree, IsQuietPrefix, IsFoundPrefix, PrefixesAreFound}
+use Rattle.sc_node_table.specs.NodeDefinitions.{NodeState, replica_of, ReplicaState, name_of, numbers_from}
+use Rattle.sc_meaning.specs.sound.SoundDefinitions.{Player, player_table, node_seat, client_seats, births, as_nodes}
+use Rattle.sc_live_steps.specs.calm.CalmDefinitions.{StandsOnce, is_leading, leads, is_led}
+use Rattle.sc_law_entries.specs.logs.LogDefinitions.{Rows}
+use Rattle.sc_live_plain.specs.PlainDefinitions.{replicas_after}
+use Rattle.sc_live_plain.proofs.PlainLemmas.{to_numbers, map_among}
+use Rattle.sc_live_journals.specs.rows.RowDefinitions.{replicas_of as view_replicas, replica_in, view_at}
+use Rattle.sc_live_journals.specs.charts.ChartDefinitions.{replicas_of, all_replicas, names_at, went_in, LedStandOnce}
+use Rattle.sc_live_journals.proofs.ChartsProofs.ChartLemmas.{led_by}
+use Rattle.sc_live_answers.specs.AnswerDefinitions.{LawfulReplicasAreNamedOnce, GoneAgree, IsQuietPrefix, IsFoundPrefix, PrefixesAreFound}
 use Rattle.sc_live_answers.proofs.QuietProofs.QuietPrefixes.{IsClient, replay_client, client_among, seat_in, node_among}
 use Rattle.sc_live_answers.proofs.LinesProofs.Frames.{found_once}
 use Rattle.sc_live_answers.proofs.ReplicasProofs.AllReplicas.{from_seats, into_seats}

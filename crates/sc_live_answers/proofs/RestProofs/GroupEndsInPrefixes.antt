@@ -3,19 +3,19 @@ use Rattle.std.proofs.Common.{◌≡◌, ℕ, ◌-◌, ◌≤◌, zero, suc, Lis
 use Rattle.std.proofs.lemmas.Option.{none-some}
 use Rattle.sc_base.specs.Definitions.{Among}
 use Rattle.sc_node_table.specs.Values.{Draw, Command, Base, Route}
-use Rattle.sc_group_table.specs.machine.Definitions.{Group, group_of, state_after, applied}
+use Rattle.sc_group_table.specs.machine.MachineDefinitions.{Group, group_of, state_after, applied}
 use Rattle.sc_scenario.specs.scenario.Definitions.{base_at, ValidScenariosAreBounded}
 use Rattle.sc_scenario.specs.declared.scenario.scenarios.Scenario.{Scenario}
-use Rattle.sc_node_table.specs.Definitions.{ReplicaState, next}
-use Rattle.sc_meaning.specs.sound.Definitions.{groups_at, decided_log, births, as_nodes}
-use Rattle.sc_law_entries.specs.logs.Definitions.{Rows}
-use Rattle.sc_live_plain.specs.Definitions.{replicas_after}
-use Rattle.sc_live_journals.specs.rows.Definitions.{view_at}
-use Rattle.sc_live_journals.specs.mail.Definitions.{ReplicasLast, IsOver, EntriesLeaveOver}
-use Rattle.sc_live_journals.specs.logs.Definitions.{IsGroupOf, ViewsAreReplicas}
-use Rattle.sc_live_answers.specs.Definitions.{state_at, ReplicasRunLogs, LawfulReplicasAreNamedOnce, GoneAgree, IsQuietPrefix, PrefixesAreFound, QuietLogsAreExecuted, RoutesInPrefixesAgree, AreAllFree, EndsOnce, OnlyOneEnds, TurnsGoOn, PrefixesGoInTurn, PrefixesStayInTurn}
-use Rattle.sc_live_journals.specs.charts.Definitions.{all_replicas, names_at, went_in, GoInTurn, LedStandOnce}
-use Rattle.sc_live_journals.proofs.ChartsProofs.Lemmas.{names_grow}
+use Rattle.sc_node_table.specs.NodeDefinitions.{ReplicaState, next}
+use Rattle.sc_meaning.specs.sound.SoundDefinitions.{groups_at, decided_log, births, as_nodes}
+use Rattle.sc_law_entries.specs.logs.LogDefinitions.{Rows}
+use Rattle.sc_live_plain.specs.PlainDefinitions.{replicas_after}
+use Rattle.sc_live_journals.specs.rows.RowDefinitions.{view_at}
+use Rattle.sc_live_journals.specs.mail.MailDefinitions.{ReplicasLast, IsOver, EntriesLeaveOver}
+use Rattle.sc_live_journals.specs.logs.LogDefinitions.{IsGroupOf, ViewsAreReplicas}
+use Rattle.sc_live_answers.specs.AnswerDefinitions.{state_at, ReplicasRunLogs, LawfulReplicasAreNamedOnce, GoneAgree, IsQuietPrefix, PrefixesAreFound, QuietLogsAreExecuted, RoutesInPrefixesAgree, AreAllFree, EndsOnce, OnlyOneEnds, TurnsGoOn, PrefixesGoInTurn, PrefixesStayInTurn}
+use Rattle.sc_live_journals.specs.charts.ChartDefinitions.{all_replicas, names_at, went_in, GoInTurn, LedStandOnce}
+use Rattle.sc_live_journals.proofs.ChartsProofs.ChartLemmas.{names_grow}
 use Rattle.sc_live_answers.proofs.QuietProofs.QuietPrefixGroupLogs.{prefix_timely}
 use Rattle.sc_live_answers.proofs.QuietProofs.QuietPrefixGroups.{found, seen, shown, gone_last, last_state}
 use Rattle.sc_live_answers.proofs.RestProofs.GoneGroupsInPrefixes.{gone_seen, seen_gone, seen_none, gone_named}

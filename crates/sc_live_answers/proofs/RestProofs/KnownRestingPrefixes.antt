@@ -3,18 +3,18 @@ use Rattle.std.proofs.Common.{◌≡◌, ℕ, ◌≤◌, cond, [], Some, None, r
 use Rattle.sc_base.specs.Definitions.{Among, Each}
 use Rattle.sc_node_table.specs.Values.{Node}
 use Rattle.sc_actor.specs.Definitions.{value}
-use Rattle.sc_node_table.specs.Definitions.{NodeState, replica_of, ReplicaState, name_of, next}
+use Rattle.sc_node_table.specs.NodeDefinitions.{NodeState, replica_of, ReplicaState, name_of, next}
 use Rattle.sc_scenario.specs.declared.scenario.scenarios.Scenario.{Scenario}
 use Rattle.sc_scenario.specs.scenario.Definitions.{ValidScenariosAreBounded}
-use Rattle.sc_meaning.specs.sound.Definitions.{Player, player_table, births, node_seat, as_nodes}
-use Rattle.sc_law_groups.specs.whole.Definitions.{ValidJournalsAreSound, ValidEntriesAreLogs}
-use Rattle.sc_live_steps.specs.calm.Definitions.{MayPump, Rows}
-use Rattle.sc_live_steps.proofs.CalmStepsProofs.Lemmas.{unbound_new}
-use Rattle.sc_live_journals.specs.rows.Definitions.{view_at}
-use Rattle.sc_live_journals.proofs.GroupsProofs.Lemmas.{each_among}
-use Rattle.sc_live_journals.specs.logs.Definitions.{logged_sets}
-use Rattle.sc_live_plain.specs.Definitions.{replicas_after, replicas_of}
-use Rattle.sc_live_answers.specs.Definitions.{over_at, slot_leaders_at, SentReplicas, LawfulReplicasAreNamedOnce, RoutesInPrefixesAgree, IsFoundPrefix, PrefixesAreFound, NoMailForStrangers, IsCalmJournal, IsPrefixOf, AreSent, RestingPrefixesAreKnown, SentNodesMayPump}
+use Rattle.sc_meaning.specs.sound.SoundDefinitions.{Player, player_table, births, node_seat, as_nodes}
+use Rattle.sc_law_groups.specs.whole.WholeDefinitions.{ValidJournalsAreSound, ValidEntriesAreLogs}
+use Rattle.sc_live_steps.specs.calm.CalmDefinitions.{MayPump, Rows}
+use Rattle.sc_live_steps.proofs.CalmStepsProofs.CalmStepLemmas.{unbound_new}
+use Rattle.sc_live_journals.specs.rows.RowDefinitions.{view_at}
+use Rattle.sc_live_journals.proofs.GroupsProofs.GroupLemmas.{each_among}
+use Rattle.sc_live_journals.specs.logs.LogDefinitions.{logged_sets}
+use Rattle.sc_live_plain.specs.PlainDefinitions.{replicas_after, replicas_of}
+use Rattle.sc_live_answers.specs.AnswerDefinitions.{over_at, slot_leaders_at, SentReplicas, LawfulReplicasAreNamedOnce, RoutesInPrefixesAgree, IsFoundPrefix, PrefixesAreFound, NoMailForStrangers, IsCalmJournal, IsPrefixOf, AreSent, RestingPrefixesAreKnown, SentNodesMayPump}
 use Rattle.sc_live_answers.proofs.LedMailProofs.FollowerRows.{nines_at}
 use Rattle.sc_live_answers.proofs.LinesProofs.Setting.{prefix_lawful}
 use Rattle.sc_live_answers.proofs.LinesProofs.Frames.{found_once, nodes_numbered}

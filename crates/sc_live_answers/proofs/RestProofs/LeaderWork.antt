@@ -2,20 +2,20 @@
 use Rattle.std.proofs.Common.{◌≡◌, ℕ, Bool, true, false, true≢false, List, [], ◌∷◌, ◌++◌, Option, Some, None, inl, inr, is_some, refl, sym, ◌∙◌, ap, subst, append_assoc, append-nil}
 use Rattle.sc_base.specs.Definitions.{Among, Each, is_member}
 use Rattle.sc_node_table.specs.Values.{Draw, Command, Base, Route, Flight}
-use Rattle.sc_node_table.specs.Definitions.{ReplicaState, members}
-use Rattle.sc_live_orderly.specs.Definitions.{AreInTime}
+use Rattle.sc_node_table.specs.NodeDefinitions.{ReplicaState, members}
+use Rattle.sc_live_orderly.specs.OrderlyDefinitions.{AreInTime}
 use Rattle.sc_scenario.specs.declared.scenario.scenarios.Scenario.{Scenario}
-use Rattle.sc_meaning.specs.sound.Definitions.{as_nodes, births}
-use Rattle.sc_live_steps.specs.calm.Definitions.{players, Rows}
-use Rattle.sc_live_answers.specs.Definitions.{over_at, Voting, doer, doers_of, LeadsSince, ReplicasAreRecorded}
-use Rattle.sc_live_journals.specs.logs.Definitions.{IsGroupOf, logged_sets}
-use Rattle.sc_live_steps.specs.following.Definitions.{members_at}
-use Rattle.sc_live_journals.proofs.MailProofs.Lemmas.{journals_idle}
-use Rattle.sc_live_steps.specs.orders.Definitions.{work_by, works, works_flying, works_in, works_ready, Answers, Bound, Ends, Here, Records, Work, is_watch, Asks, Closes, ClosesBoth, Deal, Ordered, Party, Recorded, Replied, SentOn, Stage, Still, Weighs, closing, leads_of, parties_of}
-use Rattle.sc_live_steps.proofs.OrderStepsProofs.Lemmas.{among-left, among-right, found, tagged, tokens, closing-work, no-work, work_of}
-use Rattle.sc_live_journals.specs.rows.Definitions.{view_at}
-use Rattle.sc_live_journals.specs.scenes.Definitions.{IsThere, scene_at}
-use Rattle.sc_live_journals.proofs.ScenesProofs.Lemmas.{tell}
+use Rattle.sc_meaning.specs.sound.SoundDefinitions.{as_nodes, births}
+use Rattle.sc_live_steps.specs.calm.CalmDefinitions.{players, Rows}
+use Rattle.sc_live_answers.specs.AnswerDefinitions.{over_at, Voting, doer, doers_of, LeadsSince, ReplicasAreRecorded}
+use Rattle.sc_live_journals.specs.logs.LogDefinitions.{IsGroupOf, logged_sets}
+use Rattle.sc_live_steps.specs.following.FollowingDefinitions.{members_at}
+use Rattle.sc_live_journals.proofs.MailProofs.MailLemmas.{journals_idle}
+use Rattle.sc_live_steps.specs.orders.OrderDefinitions.{work_by, works, works_flying, works_in, works_ready, Answers, Bound, Ends, Here, Records, Work, is_watch, Asks, Closes, ClosesBoth, Deal, Ordered, Party, Recorded, Replied, SentOn, Stage, Still, Weighs, closing, leads_of, parties_of}
+use Rattle.sc_live_steps.proofs.OrderStepsProofs.OrderStepLemmas.{among-left, among-right, found, tagged, tokens, closing-work, no-work, work_of}
+use Rattle.sc_live_journals.specs.rows.RowDefinitions.{view_at}
+use Rattle.sc_live_journals.specs.scenes.SceneDefinitions.{IsThere, scene_at}
+use Rattle.sc_live_journals.proofs.ScenesProofs.SceneLemmas.{tell}
 use Rattle.sc_live_answers.proofs.WorkProofs.PartiesSinceQuiet.{base_of}
 use Rattle.sc_live_answers.proofs.OrdersProofs.OrderFactsAtStart.{closing_bond}
 use Rattle.sc_live_answers.proofs.VotesProofs.CountableVotes.{work_flies}

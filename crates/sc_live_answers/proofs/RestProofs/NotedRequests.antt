@@ -8,20 +8,20 @@ use Rattle.std.proofs.lemmas.Bool.{cond_both}
 use Rattle.std.proofs.lemmas.Option.{none-some}
 use Rattle.sc_base.specs.Definitions.{Among}
 use Rattle.sc_node_table.specs.Values.{Draw, Noted, Op, Get, Put, Del, Add, Cas, Reply, Base, Entry}
-use Rattle.sc_words.specs.ideal.Definitions.{HasStoreReplies, contents_after, HasEntry, Contents, key_of, reply_of, was, after, holds_key}
-use Rattle.sc_words.proofs.IdealProofs.Lemmas.{get-part}
-use Rattle.sc_group_table.specs.machine.Definitions.{Group}
-use Rattle.sc_law_entries.specs.logs.Definitions.{Rows}
-use Rattle.sc_law_entries.proofs.LogsProofs.Lemmas.{entries_make_one_map, allowed_entries_make_one_map, among_place}
-use Rattle.sc_law_entries.specs.names.Definitions.{OtherNamesAreFree, TakenOrdersAreAllowed, TakenWishesAreAllowed, WishesAreAtPositions}
+use Rattle.sc_words.specs.ideal.IdealDefinitions.{HasStoreReplies, contents_after, HasEntry, Contents, key_of, reply_of, was, after, holds_key}
+use Rattle.sc_words.proofs.IdealProofs.IdealLemmas.{get-part}
+use Rattle.sc_group_table.specs.machine.MachineDefinitions.{Group}
+use Rattle.sc_law_entries.specs.logs.LogDefinitions.{Rows}
+use Rattle.sc_law_entries.proofs.LogsProofs.LogLemmas.{entries_make_one_map, allowed_entries_make_one_map, among_place}
+use Rattle.sc_law_entries.specs.names.NameDefinitions.{OtherNamesAreFree, TakenOrdersAreAllowed, TakenWishesAreAllowed, WishesAreAtPositions}
 use Rattle.sc_scenario.specs.scenario.Definitions.{ValidScenariosAreBounded}
 use Rattle.sc_scenario.specs.declared.scenario.scenarios.Scenario.{Scenario}
-use Rattle.sc_meaning.specs.sound.Definitions.{groups_at, history_at, decided_log, decided_state, as_nodes, births, issue_row, IsSound}
-use Rattle.sc_law_groups.specs.whole.Definitions.{ValidScenariosBeginWell, ValidJournalsAreSound, ValidEntriesAreLogs}
-use Rattle.sc_live_orderly.specs.Definitions.{AreInTime}
-use Rattle.sc_live_steps.specs.calm.Definitions.{players, StandsQuiet}
-use Rattle.sc_live_plain.specs.Definitions.{replicas_after, frame_at_rest, IsBegun, written_by, IsWrittenValue, IsPlainGroup}
-use Rattle.sc_live_answers.specs.Definitions.{FreeGroupsHaveArcs, IsQuietPrefix, PrefixesAreFound, QuietLogsAreExecuted, AreAllThere, AreAllFree, IssuedAreBegun, PrefixNotesAreBegun, PrefixGroupsHaveReplicas}
+use Rattle.sc_meaning.specs.sound.SoundDefinitions.{groups_at, history_at, decided_log, decided_state, as_nodes, births, issue_row, IsSound}
+use Rattle.sc_law_groups.specs.whole.WholeDefinitions.{ValidScenariosBeginWell, ValidJournalsAreSound, ValidEntriesAreLogs}
+use Rattle.sc_live_orderly.specs.OrderlyDefinitions.{AreInTime}
+use Rattle.sc_live_steps.specs.calm.CalmDefinitions.{players, StandsQuiet}
+use Rattle.sc_live_plain.specs.PlainDefinitions.{replicas_after, frame_at_rest, IsBegun, written_by, IsWrittenValue, IsPlainGroup}
+use Rattle.sc_live_answers.specs.AnswerDefinitions.{FreeGroupsHaveArcs, IsQuietPrefix, PrefixesAreFound, QuietLogsAreExecuted, AreAllThere, AreAllFree, IssuedAreBegun, PrefixNotesAreBegun, PrefixGroupsHaveReplicas}
 use Rattle.sc_live_answers.proofs.QuietProofs.QuietPrefixGroupLogs.{prefix_timely}
 use Rattle.sc_live_answers.proofs.QuietProofs.QuietPrefixGroups.{found}
 use Rattle.sc_live_answers.proofs.LinksProofs.LinkLogs.{sources, ready, well, turn}

@@ -1,5 +1,5 @@
 -- Nothing is asked for beyond the bound of a group's course, row by row.
-use Rattle.sc_live_journals.specs.rows.Definitions.{IsSeat, with_event}
+use Rattle.sc_live_journals.specs.rows.RowDefinitions.{IsSeat, with_event}
 use Rattle.sc_live_journals.proofs.GroupsProofs.PrefixesInTime.{kept_by_all}
 use Rattle.std.proofs.Common.{◌≡◌, ℕ, ◌≤◌, eqb, List, [], ◌∷◌, ◌++◌, drop, Option, Some, None, inl, inr, refl, sym, ◌∙◌, ap, subst, arith}
 use Rattle.std.proofs.lemmas.Bool.{cond-true, eq-eqb}
@@ -8,16 +8,16 @@ use Rattle.sc_node_table.specs.Values.{Draw, Base, OrderLine, Mail, MailBody, Ac
 use Rattle.sc_base.proofs.Lemmas.{same_name}
 use Rattle.sc_actor.specs.Definitions.{mails}
 use Rattle.sc_actor.proofs.Lemmas.{mails-snoc}
-use Rattle.sc_live_orderly.specs.Definitions.{IsCalmEvent, rest, taken, mail_for, AreInTime}
-use Rattle.sc_live_orderly.proofs.Lemmas.{in_time_before, in_time_tidy, last_in_time, rest-calm}
+use Rattle.sc_live_orderly.specs.OrderlyDefinitions.{IsCalmEvent, rest, taken, mail_for, AreInTime}
+use Rattle.sc_live_orderly.proofs.OrderlyLemmas.{in_time_before, in_time_tidy, last_in_time, rest-calm}
 use Rattle.sc_paxos_law.proofs.Lemmas.{Among-left, Among-right}
-use Rattle.sc_words.proofs.PaxosProofs.Lemmas.{Among-filter, Each-among, Each-append, Each-from, Each-weaker}
-use Rattle.sc_node_table.specs.Definitions.{listed}
-use Rattle.sc_meaning.specs.sound.Definitions.{Player}
-use Rattle.sc_live_steps.specs.calm.Definitions.{players, Rows}
-use Rattle.sc_live_steps.specs.following.Definitions.{Mark, Asks, mark_of, marks_of, IsKnown, Course, Sets, SlotLeaders}
-use Rattle.sc_live_journals.specs.groups.Definitions.{IsRowOf, IsGroupRow, RowPasses, RowRests, RowTakes, RowMakes, RowLeads, RowElects, Ends, IsWellLed, RowsKeepTaught, AreWellBorn, HasOneLog, IsSentSo, EventsGoOn}
-use Rattle.sc_live_answers.specs.Definitions.{AsksBelow, AreAskedBelow, GroupsAreAskedThrough}
+use Rattle.sc_words.proofs.PaxosProofs.PaxosLemmas.{Among-filter, Each-among, Each-append, Each-from, Each-weaker}
+use Rattle.sc_node_table.specs.NodeDefinitions.{listed}
+use Rattle.sc_meaning.specs.sound.SoundDefinitions.{Player}
+use Rattle.sc_live_steps.specs.calm.CalmDefinitions.{players, Rows}
+use Rattle.sc_live_steps.specs.following.FollowingDefinitions.{Mark, Asks, mark_of, marks_of, IsKnown, Course, Sets, SlotLeaders}
+use Rattle.sc_live_journals.specs.groups.GroupDefinitions.{IsRowOf, IsGroupRow, RowPasses, RowRests, RowTakes, RowMakes, RowLeads, RowElects, Ends, IsWellLed, RowsKeepTaught, AreWellBorn, HasOneLog, IsSentSo, EventsGoOn}
+use Rattle.sc_live_answers.specs.AnswerDefinitions.{AsksBelow, AreAskedBelow, GroupsAreAskedThrough}
 use Rattle.sc_live_answers.specs.OfferedSlots.{IsAskedOn}
 
 -- a mail's mark is among those of the mails

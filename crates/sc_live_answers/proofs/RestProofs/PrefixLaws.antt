@@ -1,7 +1,7 @@
 -- The prefixes of a calm journal from its births on.
 use Rattle.sc_live_answers.proofs.RestProofs.RestAtBirth.{journals_begin}
 use Rattle.sc_scenario.proofs.ScenarioProofs.Lemmas.{valid_scenarios_are_bounded}
-use Rattle.sc_live_journals.proofs.MailProofs.Lemmas.{slots_are_left}
+use Rattle.sc_live_journals.proofs.MailProofs.MailLemmas.{slots_are_left}
 use Rattle.sc_live_answers.proofs.LedGroupsProofs.LedGroupLaws.{groups_begin_standing}
 use Rattle.sc_live_answers.proofs.RequestsProofs.RequestLaws.{lawful_replicas_are_named_once}
 use Rattle.sc_live_answers.proofs.LedMailProofs.GroupMailLaws.{groups_begin_sent, groups_are_born_as_begun}
@@ -10,11 +10,11 @@ use Rattle.sc_live_answers.proofs.QuietProofs.QuietPrefixLaws.{prefixes_are_foun
 use Rattle.sc_live_answers.proofs.ReplicasProofs.PlayerViews.{views_agree}
 use Rattle.sc_live_answers.proofs.RestProofs.PrefixRestLaws.{quiet_journals_rest, quiet_prefixes_rest}
 use Rattle.sc_live_answers.proofs.BallotsProofs.HintLaws.{groups_begin_rising, orders_keep_rounds}
-use Rattle.sc_live_answers.specs.Definitions.{JournalsBeginResting, OrdersLeaveResting}
+use Rattle.sc_live_answers.specs.AnswerDefinitions.{JournalsBeginResting, OrdersLeaveResting}
 use Rattle.sc_live_answers.proofs.RestProofs.RestAfterOrders.{orders_leave}
-use Rattle.sc_live_journals.proofs.GroupsProofs.Lemmas.{scenarios_are_kept_born}
-use Rattle.sc_live_journals.proofs.LogsProofs.Lemmas.{slots_have_rosters}
-use Rattle.sc_live_journals.proofs.ScenesProofs.Lemmas.{quiet_scenes_are_over}
+use Rattle.sc_live_journals.proofs.GroupsProofs.GroupLemmas.{scenarios_are_kept_born}
+use Rattle.sc_live_journals.proofs.LogsProofs.GroupLogLemmas.{slots_have_rosters}
+use Rattle.sc_live_journals.proofs.ScenesProofs.SceneLemmas.{quiet_scenes_are_over}
 use Rattle.sc_live_answers.proofs.LedMailProofs.WellLedLeaders.{quiet_leaders_have_nothing}
 use Rattle.sc_live_answers.proofs.RestProofs.RoundsSinceQuiet.{rounds_seen as rounds_are_seen}
 use Rattle.sc_live_answers.proofs.ErrandsProofs.ErrandReceivers.{homeward_actors as node_errands_reach_players}

@@ -3,16 +3,16 @@ use Rattle.sc_live_answers.proofs.RestProofs.RestCriteria.{quiet_prefixes_rest a
 use Rattle.sc_scenario.proofs.ScenarioProofs.Lemmas.{valid_scenarios_are_bounded}
 use Rattle.sc_live_answers.proofs.QuietProofs.QuietPrefixLaws.{prefixes_are_found, quiet_prefixes_have_groups, quiet_logs_are_executed, prefixes_are_known, prefixes_are_reachable, prefixes_are_taken_in, prefixes_are_linked, still_prefixes_are_free, prefix_groups_have_replicas, prefix_members_have_replicas, prefix_notes_are_begun, no_mail_for_strangers}
 use Rattle.sc_live_answers.proofs.QuietProofs.WellLedQuietLaws.{quiet_groups_stand, quiet_groups_are_gone, quiet_replicas_rest, quiet_replicas_are_kept}
-use Rattle.sc_live_journals.proofs.GroupsProofs.Lemmas.{quiet_groups_are_led, nodes_keep_tops, nodes_are_born_topped}
+use Rattle.sc_live_journals.proofs.GroupsProofs.GroupLemmas.{quiet_groups_are_led, nodes_keep_tops, nodes_are_born_topped}
 use Rattle.sc_live_answers.proofs.LedMailProofs.GroupMail.{sent_replicas}
 use Rattle.sc_live_answers.proofs.BallotsProofs.QuietHints.{quiet_hints_rise}
 use Rattle.sc_live_answers.proofs.RestProofs.RoundsSinceQuiet.{rounds_seen as rounds_are_seen}
-use Rattle.sc_live_answers.specs.Definitions.{QuietPrefixesRest, QuietJournalsRest, RequestsLeaveResting}
+use Rattle.sc_live_answers.specs.AnswerDefinitions.{QuietPrefixesRest, QuietJournalsRest, RequestsLeaveResting}
 use Rattle.sc_live_answers.proofs.QuietProofs.QuietJournalRest.{quiet_journals_rest as quiet_journals_rest_by}
 use Rattle.sc_live_answers.proofs.RequestsProofs.RestAfterRequests.{requests_leave_resting as requests_leave_resting_by}
 use Rattle.sc_live_answers.proofs.LinesProofs.SettingLaws.{quiet_journals_have_frames}
 use Rattle.sc_live_answers.proofs.AnswersProofs.CalmRowLaws.{chart_hints_rise}
-use Rattle.sc_live_plain.proofs.Lemmas.{quiet_journals_ask}
+use Rattle.sc_live_plain.proofs.PlainLemmas.{quiet_journals_ask}
 use Rattle.sc_live_answers.proofs.QuietProofs.QuietRanges.{quiet_cuts as quiet_groups_have_cuts}
 use Rattle.sc_live_answers.proofs.QuietProofs.GroupRing.{standing_round as standing_groups_are_round}
 use Rattle.sc_live_answers.proofs.LinesProofs.SettingLinks.{settings_linked as quiet_settings_are_linked}

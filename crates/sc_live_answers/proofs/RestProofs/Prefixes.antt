@@ -5,16 +5,16 @@ use Rattle.sc_base.specs.Definitions.{Among}
 use Rattle.sc_node_table.specs.Values.{Draw, Base, OrderLine, Mail, Event, Deliver, Go}
 use Rattle.sc_actor.specs.Definitions.{System}
 use Rattle.sc_actor.specs.declared.rows.Event.TheVariants.{Told}
-use Rattle.sc_live_orderly.specs.Definitions.{IsInOrder, IsCalmEvent, is_born, is_told}
-use Rattle.sc_live_orderly.proofs.Lemmas.{in_time_tidy, quiet-empty}
+use Rattle.sc_live_orderly.specs.OrderlyDefinitions.{IsInOrder, IsCalmEvent, is_born, is_told}
+use Rattle.sc_live_orderly.proofs.OrderlyLemmas.{in_time_tidy, quiet-empty}
 use Rattle.sc_scenario.specs.declared.scenario.scenarios.Scenario.{Scenario}
-use Rattle.sc_meaning.specs.sound.Definitions.{groups_at, Player, births, as_nodes}
-use Rattle.sc_live_steps.specs.following.Definitions.{marks_of}
-use Rattle.sc_live_steps.specs.calm.Definitions.{players, Rows}
-use Rattle.sc_live_journals.specs.rows.Definitions.{marks_at}
-use Rattle.sc_live_journals.specs.mail.Definitions.{SlotsAreLeft}
-use Rattle.sc_live_journals.specs.logs.Definitions.{IsGroupOf}
-use Rattle.sc_live_answers.specs.Definitions.{AreFew, IsQuietPrefix, NoMailForStrangers, IsCalmJournal, IsPrefixOf}
+use Rattle.sc_meaning.specs.sound.SoundDefinitions.{groups_at, Player, births, as_nodes}
+use Rattle.sc_live_steps.specs.following.FollowingDefinitions.{marks_of}
+use Rattle.sc_live_steps.specs.calm.CalmDefinitions.{players, Rows}
+use Rattle.sc_live_journals.specs.rows.RowDefinitions.{marks_at}
+use Rattle.sc_live_journals.specs.mail.MailDefinitions.{SlotsAreLeft}
+use Rattle.sc_live_journals.specs.logs.LogDefinitions.{IsGroupOf}
+use Rattle.sc_live_answers.specs.AnswerDefinitions.{AreFew, IsQuietPrefix, NoMailForStrangers, IsCalmJournal, IsPrefixOf}
 use Rattle.sc_live_answers.proofs.RequestsProofs.RequestInvariant.{prefix_timely, prefix_short}
 
 -- each group of a calm journal is one of a lawful journal of a valid scenario

@@ -3,15 +3,15 @@ use Rattle.std.proofs.Common.{◌≡◌, ℕ, ◌+◌, ◌≤◌, length, Option
 use Rattle.std.proofs.lemmas.Option.{none-some}
 use Rattle.sc_base.specs.Definitions.{Among}
 use Rattle.sc_node_table.specs.Values.{Draw, Base, Route}
-use Rattle.sc_group_table.specs.machine.Definitions.{Group}
+use Rattle.sc_group_table.specs.machine.MachineDefinitions.{Group}
 use Rattle.sc_scenario.specs.declared.scenario.scenarios.Scenario.{Scenario}
-use Rattle.sc_node_table.specs.Definitions.{ReplicaState, next}
-use Rattle.sc_meaning.specs.sound.Definitions.{groups_at, decided_log, decided_state, as_nodes}
-use Rattle.sc_live_steps.specs.calm.Definitions.{HasReplica, IsNewest, StandsQuiet}
-use Rattle.sc_law_entries.specs.logs.Definitions.{Rows}
-use Rattle.sc_live_steps.specs.following.Definitions.{Course, SlotLeaders}
-use Rattle.sc_live_answers.specs.Definitions.{state_at, replicas_at, IsQuietGroup, IsTakenIn, AreKnown, AreReachable, FreeGroupsHaveArcs, IsQuietPrefix, IsKnownGroup, IsOfGroup, PrefixesAreFound, QuietLogsAreExecuted, AreAllThere, PrefixesAreKnown, PrefixesAreReachable, PrefixesAreTakenIn, WasMember, WereMembers, AreAllFree, LinksWereMembers, PrefixGroupsHaveReplicas}
-use Rattle.sc_live_plain.specs.Definitions.{replicas_after}
+use Rattle.sc_node_table.specs.NodeDefinitions.{ReplicaState, next}
+use Rattle.sc_meaning.specs.sound.SoundDefinitions.{groups_at, decided_log, decided_state, as_nodes}
+use Rattle.sc_live_steps.specs.calm.CalmDefinitions.{HasReplica, IsNewest, StandsQuiet}
+use Rattle.sc_law_entries.specs.logs.LogDefinitions.{Rows}
+use Rattle.sc_live_steps.specs.following.FollowingDefinitions.{Course, SlotLeaders}
+use Rattle.sc_live_answers.specs.AnswerDefinitions.{state_at, replicas_at, IsQuietGroup, IsTakenIn, AreKnown, AreReachable, FreeGroupsHaveArcs, IsQuietPrefix, IsKnownGroup, IsOfGroup, PrefixesAreFound, QuietLogsAreExecuted, AreAllThere, PrefixesAreKnown, PrefixesAreReachable, PrefixesAreTakenIn, WasMember, WereMembers, AreAllFree, LinksWereMembers, PrefixGroupsHaveReplicas}
+use Rattle.sc_live_plain.specs.PlainDefinitions.{replicas_after}
 use Rattle.sc_live_answers.proofs.QuietProofs.QuietPrefixGroupLogs.{newest_there}
 use Rattle.sc_live_answers.proofs.QuietProofs.QuietPrefixGroups.{see, found, seen, shown, most, last_state, ends, gone_last, was_there, newest_state}
 

@@ -4,27 +4,27 @@ use Rattle.std.proofs.lemmas.Bool.{cases_Bool}
 use Rattle.sc_base.specs.Definitions.{Among, client_actor}
 use Rattle.sc_node_table.specs.Values.{Draw, Base, OrderLine, Mail, Seat, Client}
 use Rattle.sc_actor.specs.Definitions.{mails, System, has_started, is_quiet, value}
-use Rattle.sc_live_orderly.specs.Definitions.{is_born, orders, AreInTime}
-use Rattle.sc_live_orderly.proofs.Lemmas.{in_time_tidy, quiet-empty, seat_found}
+use Rattle.sc_live_orderly.specs.OrderlyDefinitions.{is_born, orders, AreInTime}
+use Rattle.sc_live_orderly.proofs.OrderlyLemmas.{in_time_tidy, quiet-empty, seat_found}
 use Rattle.sc_scenario.specs.declared.scenario.scenarios.Scenario.{Scenario}
-use Rattle.sc_node_table.specs.Definitions.{ReplicaState, numbers_from}
-use Rattle.sc_meaning.specs.sound.Definitions.{Player, player_table, births, as_nodes, node_seat, client_seat, client_seats, route_of}
+use Rattle.sc_node_table.specs.NodeDefinitions.{ReplicaState, numbers_from}
+use Rattle.sc_meaning.specs.sound.SoundDefinitions.{Player, player_table, births, as_nodes, node_seat, client_seat, client_seats, route_of}
 use Rattle.sc_scenario.specs.scenario.Definitions.{ValidScenariosAreBounded}
 use Rattle.sc_scenario.specs.declared.scenario.scenarios.Asks.{Asks}
-use Rattle.sc_client_table.specs.table.Definitions.{Client as ClientState}
-use Rattle.sc_law_groups.proofs.WholeProofs.Lemmas.{all_apart}
-use Rattle.sc_live_plain.proofs.Lemmas.{map_among}
-use Rattle.sc_live_steps.proofs.OrderStepsProofs.Lemmas.{among-right}
-use Rattle.sc_live_journals.specs.rows.Definitions.{IsSeat, view_at, marks_at}
-use Rattle.sc_live_steps.specs.following.Definitions.{marks_of}
-use Rattle.sc_live_journals.specs.charts.Definitions.{all_replicas, names_at, GoInTurn}
-use Rattle.sc_live_steps.specs.calm.Definitions.{players, Rows}
-use Rattle.sc_live_steps.specs.orders.Definitions.{works_in, Still, IsAt}
-use Rattle.sc_live_journals.specs.mail.Definitions.{SlotsAreLeft}
-use Rattle.sc_live_journals.specs.groups.Definitions.{ScenariosAreKeptBorn}
-use Rattle.sc_live_journals.specs.logs.Definitions.{SlotsHaveRosters, logged_sets}
-use Rattle.sc_live_answers.specs.Definitions.{over_at, slot_leaders_at, QuietLeadersHaveNothing, OrdersKeepRounds, RoundsAreSeen, IsQuietPrefix, PrefixesAreFound, NoMailForStrangers, GroupsEndInTurn, IsGoingSince, NoneWaits, FirstGroupsAreReached, AreSent, IsCalmJournal, IsPrefixOf, RestsAt, IsUnder, QuietPrefixesRest, NodeErrandsReachPlayers, IsOrderedSince, OrdersLeaveResting}
-use Rattle.sc_live_journals.specs.scenes.Definitions.{HasNothing, QuietScenesAreOver, scene_at}
+use Rattle.sc_client_table.specs.table.TableDefinitions.{Client as ClientState}
+use Rattle.sc_law_groups.proofs.WholeProofs.WholeLemmas.{all_apart}
+use Rattle.sc_live_plain.proofs.PlainLemmas.{map_among}
+use Rattle.sc_live_steps.proofs.OrderStepsProofs.OrderStepLemmas.{among-right}
+use Rattle.sc_live_journals.specs.rows.RowDefinitions.{IsSeat, view_at, marks_at}
+use Rattle.sc_live_steps.specs.following.FollowingDefinitions.{marks_of}
+use Rattle.sc_live_journals.specs.charts.ChartDefinitions.{all_replicas, names_at, GoInTurn}
+use Rattle.sc_live_steps.specs.calm.CalmDefinitions.{players, Rows}
+use Rattle.sc_live_steps.specs.orders.OrderDefinitions.{works_in, Still, IsAt}
+use Rattle.sc_live_journals.specs.mail.MailDefinitions.{SlotsAreLeft}
+use Rattle.sc_live_journals.specs.groups.GroupDefinitions.{ScenariosAreKeptBorn}
+use Rattle.sc_live_journals.specs.logs.LogDefinitions.{SlotsHaveRosters, logged_sets}
+use Rattle.sc_live_answers.specs.AnswerDefinitions.{over_at, slot_leaders_at, QuietLeadersHaveNothing, OrdersKeepRounds, RoundsAreSeen, IsQuietPrefix, PrefixesAreFound, NoMailForStrangers, GroupsEndInTurn, IsGoingSince, NoneWaits, FirstGroupsAreReached, AreSent, IsCalmJournal, IsPrefixOf, RestsAt, IsUnder, QuietPrefixesRest, NodeErrandsReachPlayers, IsOrderedSince, OrdersLeaveResting}
+use Rattle.sc_live_journals.specs.scenes.SceneDefinitions.{HasNothing, QuietScenesAreOver, scene_at}
 use Rattle.sc_live_answers.proofs.RequestsProofs.RequestInvariant.{prefix_timely, prefix_short}
 use Rattle.sc_live_answers.proofs.LedGroupsProofs.GuidedGroups.{named_there}
 use Rattle.sc_live_answers.proofs.LedGroupsProofs.JournalGroups.{calm_group}

@@ -6,13 +6,13 @@ use Rattle.sc_base.specs.Definitions.{Among, same_draw}
 use Rattle.sc_node_table.specs.Values.{Draw, Base, Route}
 use Rattle.sc_scenario.specs.scenario.Definitions.{ValidScenariosAreBounded}
 use Rattle.sc_scenario.specs.declared.scenario.scenarios.Scenario.{Scenario}
-use Rattle.sc_node_table.specs.Definitions.{ReplicaState, name_of, born_replica, slots_ahead}
-use Rattle.sc_meaning.specs.sound.Definitions.{groups_at, births, as_nodes}
-use Rattle.sc_live_steps.specs.calm.Definitions.{Rows}
-use Rattle.sc_live_journals.specs.rows.Definitions.{view_at}
-use Rattle.sc_live_journals.specs.mail.Definitions.{SlotsAreLeft}
-use Rattle.sc_live_answers.specs.Definitions.{GroupsBeginStanding, LawfulReplicasAreNamedOnce, GroupsBeginSent, GroupsAreBornAsBegun, QuietJournalsBegin, GroupsBeginRising, IsQuietPrefix, PrefixesAreFound, IsCalmJournal, IsPrefixOf, AreSent, IsNamedGroup, ViewsAgree, QuietJournalsRest, JournalsBeginResting}
-use Rattle.sc_live_journals.specs.charts.Definitions.{names_at, all_replicas, went_in, GoInTurn}
+use Rattle.sc_node_table.specs.NodeDefinitions.{ReplicaState, name_of, born_replica, slots_ahead}
+use Rattle.sc_meaning.specs.sound.SoundDefinitions.{groups_at, births, as_nodes}
+use Rattle.sc_live_steps.specs.calm.CalmDefinitions.{Rows}
+use Rattle.sc_live_journals.specs.rows.RowDefinitions.{view_at}
+use Rattle.sc_live_journals.specs.mail.MailDefinitions.{SlotsAreLeft}
+use Rattle.sc_live_answers.specs.AnswerDefinitions.{GroupsBeginStanding, LawfulReplicasAreNamedOnce, GroupsBeginSent, GroupsAreBornAsBegun, QuietJournalsBegin, GroupsBeginRising, IsQuietPrefix, PrefixesAreFound, IsCalmJournal, IsPrefixOf, AreSent, IsNamedGroup, ViewsAgree, QuietJournalsRest, JournalsBeginResting}
+use Rattle.sc_live_journals.specs.charts.ChartDefinitions.{names_at, all_replicas, went_in, GoInTurn}
 use Rattle.sc_live_answers.proofs.LedGroupsProofs.GuidedGroups.{named_there}
 use Rattle.sc_live_answers.proofs.ReplicasProofs.PlayerReplicas.{place_of}
 use Rattle.sc_live_answers.proofs.LedGroupsProofs.JournalGroups.{calm_group, calm_slots}

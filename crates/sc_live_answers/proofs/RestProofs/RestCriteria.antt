@@ -4,24 +4,24 @@ use Rattle.std.specs.Prelude.{is_some}
 use Rattle.std.proofs.lemmas.Bool.{cases_Bool, cases_lt}
 use Rattle.sc_base.specs.Definitions.{Among}
 use Rattle.sc_node_table.specs.Values.{Ballot, Draw, Command, Base, Free, OrderLine, Mail, Report}
-use Rattle.sc_group_table.specs.machine.Definitions.{Group}
-use Rattle.sc_words.specs.paxos.Definitions.{IsAtLeast}
-use Rattle.sc_words.proofs.PaxosProofs.Lemmas.{Each-weaker}
+use Rattle.sc_group_table.specs.machine.MachineDefinitions.{Group}
+use Rattle.sc_words.specs.paxos.PaxosDefinitions.{IsAtLeast}
+use Rattle.sc_words.proofs.PaxosProofs.PaxosLemmas.{Each-weaker}
 use Rattle.sc_actor.specs.Definitions.{System}
-use Rattle.sc_live_orderly.specs.Definitions.{is_born, rest}
-use Rattle.sc_live_orderly.proofs.Lemmas.{in_time_tidy, quiet-empty}
-use Rattle.sc_node_table.specs.Definitions.{ReplicaState}
+use Rattle.sc_live_orderly.specs.OrderlyDefinitions.{is_born, rest}
+use Rattle.sc_live_orderly.proofs.OrderlyLemmas.{in_time_tidy, quiet-empty}
+use Rattle.sc_node_table.specs.NodeDefinitions.{ReplicaState}
 use Rattle.sc_scenario.specs.declared.scenario.scenarios.Scenario.{Scenario}
 use Rattle.sc_scenario.specs.scenario.Definitions.{ValidScenariosAreBounded}
-use Rattle.sc_meaning.specs.sound.Definitions.{groups_at, Player, births, as_nodes}
-use Rattle.sc_live_steps.specs.calm.Definitions.{players, MayPump, HasReplica, StandsQuiet, IsGoneQuiet, IsAtRest, RisesAt, Rows}
-use Rattle.sc_live_steps.specs.following.Definitions.{Course, marks_of, IsLeadOf}
-use Rattle.sc_live_journals.specs.rows.Definitions.{marks_at, progress_at}
-use Rattle.sc_live_journals.specs.groups.Definitions.{NodesKeepTops, NodesAreBornTopped, QuietGroupsAreLed, IsLedQuietly}
-use Rattle.sc_live_journals.specs.logs.Definitions.{logged_sets}
-use Rattle.sc_live_answers.specs.Definitions.{over_at, state_at, slot_leaders_at, replicas_at, SawNoMore, QuietGroupsStand, QuietGroupsAreGone, QuietReplicasRest, QuietReplicasAreKept, IsSentThrough, SentReplicas, IsQuietPrefix, IsKnownGroup, IsFoundPrefix, PrefixesAreFound, QuietPrefixesHaveGroups, QuietLogsAreExecuted, PrefixesAreKnown, PrefixesAreReachable, PrefixesAreTakenIn, PrefixesAreLinked, StillPrefixesAreFree, AreAllFree, PrefixNotesAreBegun, QuietHintsRise, RoundsAreSeen, NoMailForStrangers, PrefixGroupsHaveReplicas, PrefixMembersHaveReplicas, RestsAt, EndsQuietly, QuietPrefixesRest}
+use Rattle.sc_meaning.specs.sound.SoundDefinitions.{groups_at, Player, births, as_nodes}
+use Rattle.sc_live_steps.specs.calm.CalmDefinitions.{players, MayPump, HasReplica, StandsQuiet, IsGoneQuiet, IsAtRest, RisesAt, Rows}
+use Rattle.sc_live_steps.specs.following.FollowingDefinitions.{Course, marks_of, IsLeadOf}
+use Rattle.sc_live_journals.specs.rows.RowDefinitions.{marks_at, progress_at}
+use Rattle.sc_live_journals.specs.groups.GroupDefinitions.{NodesKeepTops, NodesAreBornTopped, QuietGroupsAreLed, IsLedQuietly}
+use Rattle.sc_live_journals.specs.logs.LogDefinitions.{logged_sets}
+use Rattle.sc_live_answers.specs.AnswerDefinitions.{over_at, state_at, slot_leaders_at, replicas_at, SawNoMore, QuietGroupsStand, QuietGroupsAreGone, QuietReplicasRest, QuietReplicasAreKept, IsSentThrough, SentReplicas, IsQuietPrefix, IsKnownGroup, IsFoundPrefix, PrefixesAreFound, QuietPrefixesHaveGroups, QuietLogsAreExecuted, PrefixesAreKnown, PrefixesAreReachable, PrefixesAreTakenIn, PrefixesAreLinked, StillPrefixesAreFree, AreAllFree, PrefixNotesAreBegun, QuietHintsRise, RoundsAreSeen, NoMailForStrangers, PrefixGroupsHaveReplicas, PrefixMembersHaveReplicas, RestsAt, EndsQuietly, QuietPrefixesRest}
 use Rattle.sc_live_answers.proofs.QuietProofs.QuietGroupReplicas.{even, has_one}
-use Rattle.sc_live_plain.specs.Definitions.{replicas_after, IsQuietJournal, IsKept}
+use Rattle.sc_live_plain.specs.PlainDefinitions.{replicas_after, IsQuietJournal, IsKept}
 use Rattle.sc_live_answers.proofs.QuietProofs.QuietPrefixGroups.{newest_state}
 use Rattle.sc_live_answers.proofs.RequestsProofs.RequestInvariant.{prefix_timely}
 use Rattle.sc_live_answers.proofs.QuietProofs.QuietGroupViews.{stands_as, gone_as}

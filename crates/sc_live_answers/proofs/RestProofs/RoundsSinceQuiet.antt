@@ -5,19 +5,19 @@ use Rattle.sc_base.specs.Definitions.{Among, least_of}
 use Rattle.sc_node_table.specs.Values.{Ballot, Base, Deliver}
 use Rattle.sc_actor.specs.declared.rows.Event.TheVariants.{Told}
 use Rattle.sc_scenario.specs.declared.scenario.scenarios.Scenario.{Scenario}
-use Rattle.sc_node_table.specs.Definitions.{ReplicaState}
-use Rattle.sc_meaning.specs.sound.Definitions.{births, as_nodes}
-use Rattle.sc_live_steps.specs.calm.Definitions.{players, Rows}
-use Rattle.sc_live_steps.specs.following.Definitions.{pledged, Course, Sets, members_at, IsOpen, SlotLeaders}
-use Rattle.sc_live_steps.proofs.FollowingProofs.Lemmas.{least_in}
-use Rattle.sc_live_steps.specs.orders.Definitions.{Work, Deal, Stage, Still, Asks}
-use Rattle.sc_live_journals.specs.rows.Definitions.{view_at, marks_at, promise_in}
-use Rattle.sc_live_journals.specs.groups.Definitions.{Ends, ScenariosAreWellBorn}
-use Rattle.sc_live_journals.proofs.GroupsProofs.Lemmas.{replicas_kept, scenarios_kept_born}
-use Rattle.sc_live_journals.specs.mail.Definitions.{JournalsKeepIdle}
-use Rattle.sc_live_journals.specs.scenes.Definitions.{IsThere, IsFresh, AreUntouched}
-use Rattle.sc_live_journals.proofs.ScenesProofs.Lemmas.{asked_fresh}
-use Rattle.sc_live_answers.specs.Definitions.{IsSentThrough, top_in, HasMembers, StaysGone, OrdersKeepRounds, RequestsKeepBallots, SameViewsKeepBallot, RoundsAreSeen}
+use Rattle.sc_node_table.specs.NodeDefinitions.{ReplicaState}
+use Rattle.sc_meaning.specs.sound.SoundDefinitions.{births, as_nodes}
+use Rattle.sc_live_steps.specs.calm.CalmDefinitions.{players, Rows}
+use Rattle.sc_live_steps.specs.following.FollowingDefinitions.{pledged, Course, Sets, members_at, IsOpen, SlotLeaders}
+use Rattle.sc_live_steps.proofs.FollowingProofs.FollowingLemmas.{least_in}
+use Rattle.sc_live_steps.specs.orders.OrderDefinitions.{Work, Deal, Stage, Still, Asks}
+use Rattle.sc_live_journals.specs.rows.RowDefinitions.{view_at, marks_at, promise_in}
+use Rattle.sc_live_journals.specs.groups.GroupDefinitions.{Ends, ScenariosAreWellBorn}
+use Rattle.sc_live_journals.proofs.GroupsProofs.GroupLemmas.{replicas_kept, scenarios_kept_born}
+use Rattle.sc_live_journals.specs.mail.MailDefinitions.{JournalsKeepIdle}
+use Rattle.sc_live_journals.specs.scenes.SceneDefinitions.{IsThere, IsFresh, AreUntouched}
+use Rattle.sc_live_journals.proofs.ScenesProofs.SceneLemmas.{asked_fresh}
+use Rattle.sc_live_answers.specs.AnswerDefinitions.{IsSentThrough, top_in, HasMembers, StaysGone, OrdersKeepRounds, RequestsKeepBallots, SameViewsKeepBallot, RoundsAreSeen}
 use Rattle.sc_live_answers.proofs.QuietProofs.EvenReplicas.{leader, has_one, even, over_then}
 use Rattle.sc_live_answers.proofs.BallotsProofs.JournalHints.{calm_of}
 use Rattle.sc_live_answers.proofs.BallotsProofs.HintedMarks.{round_most, member_open}

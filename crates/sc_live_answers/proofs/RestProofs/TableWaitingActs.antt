@@ -7,10 +7,10 @@ use Rattle.sc_words.specs.declared.commands.votes.Past.TheVariants as Cast
 use Rattle.sc_words.specs.declared.commands.votes.Vote.TheVariants as Vows
 use Rattle.sc_words.specs.declared.paxos.answers.AcceptAnswer.TheVariants as Asked
 use Rattle.sc_words.specs.declared.paxos.answers.PrepareAnswer.TheVariants as Prepared
-use Rattle.sc_words.specs.paxos.Definitions.{accepted as accepted_by, AcceptorState, may_promise, after_promise, after_accept, reports_from, below, IsAtLeast, LeaderState, flight_at, promise_counted, without_flight_at, prepared, counted, kept_voters, voters_after, with_voters, vote_at}
-use Rattle.sc_words.proofs.PaxosProofs.Lemmas.{at_least_from_below, at_least_trans}
-use Rattle.sc_node_table.specs.Definitions.{act_queued, with_act, elected, ended, stopped, saw, all_ready, executed, executed_one, has_room, is_among, looked, looked_for, install_to, named, jumped, sent, ordered_command, untaken, queued_or_refused, ordered_row, pumped, queued_number, with_order_queued, without_request, ReplicaState, Place, Executed, childless, first_set, forgotten, installed_replica, last_slot, may_offer, members, name_of, next, set_at, settled, refused_at, queued, requested, request_row, learn_row, ask_row, looked_up, took_over, install_row, made_by, mailed, with_slot, asked_next, awaits_vote, awaits_watch, elsewhere_row, is_bound, noted_outcome, offer_row, offered_by, outcome_row, sent_elsewhere, standing_vote, vote_met, vote_queued, vote_row, watch_met, watch_queued, watch_row, watched_by, watched_row, hinted, promise_to, prepare_row, accepted_to, took, accept_row, leads, promise_row, readied, vote_tallied, voted, accepted_row, nack_row}
-use Rattle.sc_law_walks.proofs.Lemmas.{promised_place, asked_place, either_way}
+use Rattle.sc_words.specs.paxos.PaxosDefinitions.{accepted as accepted_by, AcceptorState, may_promise, after_promise, after_accept, reports_from, below, IsAtLeast, LeaderState, flight_at, promise_counted, without_flight_at, prepared, counted, kept_voters, voters_after, with_voters, vote_at}
+use Rattle.sc_words.proofs.PaxosProofs.PaxosLemmas.{at_least_from_below, at_least_trans}
+use Rattle.sc_node_table.specs.NodeDefinitions.{act_queued, with_act, elected, ended, stopped, saw, all_ready, executed, executed_one, has_room, is_among, looked, looked_for, install_to, named, jumped, sent, ordered_command, untaken, queued_or_refused, ordered_row, pumped, queued_number, with_order_queued, without_request, ReplicaState, Place, Executed, childless, first_set, forgotten, installed_replica, last_slot, may_offer, members, name_of, next, set_at, settled, refused_at, queued, requested, request_row, learn_row, ask_row, looked_up, took_over, install_row, made_by, mailed, with_slot, asked_next, awaits_vote, awaits_watch, elsewhere_row, is_bound, noted_outcome, offer_row, offered_by, outcome_row, sent_elsewhere, standing_vote, vote_met, vote_queued, vote_row, watch_met, watch_queued, watch_row, watched_by, watched_row, hinted, promise_to, prepare_row, accepted_to, took, accept_row, leads, promise_row, readied, vote_tallied, voted, accepted_row, nack_row}
+use Rattle.sc_law_walks.proofs.WalkLemmas.{promised_place, asked_place, either_way}
 use Rattle.sc_live_steps.specs.pump.Waiting.{HasNoneWaiting, PumpsLeaveNone}
 use Rattle.sc_live_steps.proofs.CalmStepsProofs.PumpInvariants.{pump_kept}
 

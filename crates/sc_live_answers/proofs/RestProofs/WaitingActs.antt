@@ -5,21 +5,21 @@ use Rattle.sc_base.specs.Definitions.{Among}
 use Rattle.sc_node_table.specs.Values.{Draw, Base, OrderLine, Mail, Seat, Event, Deliver, Row}
 use Rattle.sc_actor.specs.Definitions.{is_quiet, System, row_of}
 use Rattle.sc_actor.specs.declared.rows.Event.TheVariants.{Told}
-use Rattle.sc_live_orderly.specs.Definitions.{AreInTime}
-use Rattle.sc_live_orderly.proofs.Lemmas.{in_time_before, last_in_time}
+use Rattle.sc_live_orderly.specs.OrderlyDefinitions.{AreInTime}
+use Rattle.sc_live_orderly.proofs.OrderlyLemmas.{in_time_before, last_in_time}
 use Rattle.sc_scenario.specs.declared.scenario.scenarios.Scenario.{Scenario}
-use Rattle.sc_node_table.specs.Definitions.{ReplicaState, born_replica, last_slot, next, slots_ahead}
+use Rattle.sc_node_table.specs.NodeDefinitions.{ReplicaState, born_replica, last_slot, next, slots_ahead}
 use Rattle.sc_live_steps.specs.pump.Waiting.{HasNoneWaiting, PumpsLeaveNone}
-use Rattle.sc_meaning.specs.sound.Definitions.{groups_at, Player, player_table, births, as_nodes}
-use Rattle.sc_live_steps.specs.calm.Definitions.{players, IsAtRest, Rows}
-use Rattle.sc_live_journals.specs.rows.Definitions.{view_at, IsSeat, with_event}
-use Rattle.sc_live_journals.proofs.RowsProofs.Lemmas.{view_others}
-use Rattle.sc_live_journals.specs.mail.Definitions.{SlotsAreLeft, IsPlainlyKept, JournalsKeepIdle}
-use Rattle.sc_live_journals.specs.groups.Definitions.{ScenariosAreKeptBorn, ScenariosAreWellBorn}
-use Rattle.sc_live_journals.proofs.GroupsProofs.Lemmas.{kept_leaders_rest}
-use Rattle.sc_live_journals.specs.logs.Definitions.{IsGroupOf, SlotsHaveRosters, logged_sets}
-use Rattle.sc_live_journals.proofs.ScenesProofs.Lemmas.{calm_is}
-use Rattle.sc_live_answers.specs.Definitions.{over_at, slot_leaders_at, IsSentThrough, PrefixesAreFound, NoMailForStrangers, IsCalmJournal, IsPrefixOf, IsNamedGroup, AreSent, HaveNoneWaiting, NoneWaits}
+use Rattle.sc_meaning.specs.sound.SoundDefinitions.{groups_at, Player, player_table, births, as_nodes}
+use Rattle.sc_live_steps.specs.calm.CalmDefinitions.{players, IsAtRest, Rows}
+use Rattle.sc_live_journals.specs.rows.RowDefinitions.{view_at, IsSeat, with_event}
+use Rattle.sc_live_journals.proofs.RowsProofs.RowLemmas.{view_others}
+use Rattle.sc_live_journals.specs.mail.MailDefinitions.{SlotsAreLeft, IsPlainlyKept, JournalsKeepIdle}
+use Rattle.sc_live_journals.specs.groups.GroupDefinitions.{ScenariosAreKeptBorn, ScenariosAreWellBorn}
+use Rattle.sc_live_journals.proofs.GroupsProofs.GroupLemmas.{kept_leaders_rest}
+use Rattle.sc_live_journals.specs.logs.LogDefinitions.{IsGroupOf, SlotsHaveRosters, logged_sets}
+use Rattle.sc_live_journals.proofs.ScenesProofs.SceneLemmas.{calm_is}
+use Rattle.sc_live_answers.specs.AnswerDefinitions.{over_at, slot_leaders_at, IsSentThrough, PrefixesAreFound, NoMailForStrangers, IsCalmJournal, IsPrefixOf, IsNamedGroup, AreSent, HaveNoneWaiting, NoneWaits}
 use Rattle.sc_live_answers.proofs.RequestsProofs.RequestInvariant.{prefix_short, prefix_timely}
 use Rattle.sc_live_answers.proofs.LedMailProofs.WellLedLeaders.{gives}
 use Rattle.sc_live_answers.proofs.RestProofs.TableWaitingActs.{off_none, idle_none, mailed_ends, order_ends, made_none}

@@ -4,21 +4,21 @@ use Rattle.std.specs.Prelude.{is_some, option_map}
 use Rattle.std.proofs.lemmas.Bool.{eqb-true, eq-eqb, and_from, cases_lt, cond-true, lt-ltb}
 use Rattle.sc_base.specs.Definitions.{Among, Each, IsRoster}
 use Rattle.sc_node_table.specs.Values.{Base, Command, Flight, Seat}
-use Rattle.sc_words.specs.paxos.Definitions.{flight_at}
-use Rattle.sc_words.proofs.PaxosProofs.Lemmas.{find_found, Each-among}
-use Rattle.sc_group_table.specs.machine.Definitions.{applied}
-use Rattle.sc_node_table.specs.Definitions.{has_room, ReplicaState, next, last_slot, flying, either, listed, at_slot, slots_ahead}
-use Rattle.sc_meaning.specs.sound.Definitions.{Player}
-use Rattle.sc_live_steps.specs.calm.Definitions.{IsServedCall, MayCount, MayPump, Rows}
-use Rattle.sc_live_steps.specs.following.Definitions.{Course, Sets, SlotLeaders, IsLeadOf}
-use Rattle.sc_live_journals.specs.rows.Definitions.{view_at, progress_at}
-use Rattle.sc_live_journals.specs.groups.Definitions.{Ends, IsWellLed, IsSlotKept}
-use Rattle.sc_live_steps.specs.orders.Definitions.{Work, works, works_in, works_flying, works_ready, work_by, FliesLone, IsUnderWay}
-use Rattle.sc_live_steps.proofs.OrderStepsProofs.Lemmas.{among-left, among-right}
-use Rattle.sc_live_journals.specs.scenes.Definitions.{IsWork, WorksFlyLone, scene_at, LeadsAlone, ScenesDescribe}
+use Rattle.sc_words.specs.paxos.PaxosDefinitions.{flight_at}
+use Rattle.sc_words.proofs.PaxosProofs.PaxosLemmas.{find_found, Each-among}
+use Rattle.sc_group_table.specs.machine.MachineDefinitions.{applied}
+use Rattle.sc_node_table.specs.NodeDefinitions.{has_room, ReplicaState, next, last_slot, flying, either, listed, at_slot, slots_ahead}
+use Rattle.sc_meaning.specs.sound.SoundDefinitions.{Player}
+use Rattle.sc_live_steps.specs.calm.CalmDefinitions.{IsServedCall, MayCount, MayPump, Rows}
+use Rattle.sc_live_steps.specs.following.FollowingDefinitions.{Course, Sets, SlotLeaders, IsLeadOf}
+use Rattle.sc_live_journals.specs.rows.RowDefinitions.{view_at, progress_at}
+use Rattle.sc_live_journals.specs.groups.GroupDefinitions.{Ends, IsWellLed, IsSlotKept}
+use Rattle.sc_live_steps.specs.orders.OrderDefinitions.{Work, works, works_in, works_flying, works_ready, work_by, FliesLone, IsUnderWay}
+use Rattle.sc_live_steps.proofs.OrderStepsProofs.OrderStepLemmas.{among-left, among-right}
+use Rattle.sc_live_journals.specs.scenes.SceneDefinitions.{IsWork, WorksFlyLone, scene_at, LeadsAlone, ScenesDescribe}
 use Rattle.sc_live_steps.specs.entries.StageEntries.{IsEntry, OrderEntriesCount}
 use Rattle.sc_live_answers.proofs.LedMailProofs.FollowerRows.{nines_at}
-use Rattle.sc_live_answers.specs.Definitions.{WellLedLeadAlone, StagesLeaveOneWork, CountsEntries}
+use Rattle.sc_live_answers.specs.AnswerDefinitions.{WellLedLeadAlone, StagesLeaveOneWork, CountsEntries}
 
 -- ---- lists
 

@@ -7,19 +7,19 @@ use Rattle.sc_base.specs.Definitions.{Among, Each, same_draw, IsRoster, is_membe
 use Rattle.sc_node_table.specs.Values.{Draw, Body, Command, Noop, Call, Split, GiveUp, RecordWatch, Base, Core, Lock, Free, Coordinating, Promised, Watching, Effect, Heard, Past, Flight}
 use Rattle.sc_words.specs.declared.commands.bodies.Body.TheVariants as At
 use Rattle.sc_words.specs.declared.commands.votes.Past.TheVariants as Cast
-use Rattle.sc_group_table.specs.machine.Definitions.{Group, group_of, applied, can_split, may_merge, staying, released, watch_recorded, asks_watcher, committed}
-use Rattle.sc_words.proofs.PaxosProofs.Lemmas.{Each-among}
+use Rattle.sc_group_table.specs.machine.MachineDefinitions.{Group, group_of, applied, can_split, may_merge, staying, released, watch_recorded, asks_watcher, committed}
+use Rattle.sc_words.proofs.PaxosProofs.PaxosLemmas.{Each-among}
 use Rattle.sc_scenario.specs.declared.scenario.scenarios.Scenario.{Scenario}
-use Rattle.sc_node_table.specs.Definitions.{ReplicaState, forgotten, members, next, entered, asked_link, before_of}
-use Rattle.sc_meaning.specs.sound.Definitions.{decided_log, births, as_nodes}
-use Rattle.sc_law_groups.specs.whole.Definitions.{MembersStayRosters}
-use Rattle.sc_live_steps.specs.calm.Definitions.{newcomers, Rows}
-use Rattle.sc_live_steps.specs.orders.Definitions.{bond_in, bond_of, is_cast_yes, work_by, Work, Opens, Records, GivesUp, Here, Turn, First, Lone, Next, is_watch, Asking, Stage, IsAt, IsVote}
-use Rattle.sc_live_journals.specs.rows.Definitions.{view_at}
-use Rattle.sc_live_journals.specs.logs.Definitions.{SlotsHaveRosters, ViewsAreReplicas}
-use Rattle.sc_live_answers.specs.Definitions.{ReplicasRunLogs, LeadsSince, IsRecord, RecordsAreTrue, ReplicasAreRecorded, IsTrueEntry, FlightsAreEntries}
-use Rattle.sc_live_journals.specs.scenes.Definitions.{IsWork, QuietScenesAreOver, scene_at, IsThere}
-use Rattle.sc_live_journals.proofs.ScenesProofs.Lemmas.{tell}
+use Rattle.sc_node_table.specs.NodeDefinitions.{ReplicaState, forgotten, members, next, entered, asked_link, before_of}
+use Rattle.sc_meaning.specs.sound.SoundDefinitions.{decided_log, births, as_nodes}
+use Rattle.sc_law_groups.specs.whole.WholeDefinitions.{MembersStayRosters}
+use Rattle.sc_live_steps.specs.calm.CalmDefinitions.{newcomers, Rows}
+use Rattle.sc_live_steps.specs.orders.OrderDefinitions.{bond_in, bond_of, is_cast_yes, work_by, Work, Opens, Records, GivesUp, Here, Turn, First, Lone, Next, is_watch, Asking, Stage, IsAt, IsVote}
+use Rattle.sc_live_journals.specs.rows.RowDefinitions.{view_at}
+use Rattle.sc_live_journals.specs.logs.LogDefinitions.{SlotsHaveRosters, ViewsAreReplicas}
+use Rattle.sc_live_answers.specs.AnswerDefinitions.{ReplicasRunLogs, LeadsSince, IsRecord, RecordsAreTrue, ReplicasAreRecorded, IsTrueEntry, FlightsAreEntries}
+use Rattle.sc_live_journals.specs.scenes.SceneDefinitions.{IsWork, QuietScenesAreOver, scene_at, IsThere}
+use Rattle.sc_live_journals.proofs.ScenesProofs.SceneLemmas.{tell}
 use Rattle.sc_live_steps.specs.entries.StageEntries.{IsEntry}
 use Rattle.sc_live_answers.proofs.WorkProofs.PartiesSinceQuiet.{base_of}
 use Rattle.sc_live_answers.proofs.RestProofs.LeaderWork.{IsWorkAt, OfOrder, OfQuestion, OfVote, OfOutcome, at_stage, stands_in, was_there}

@@ -7,23 +7,23 @@ use Rattle.sc_base.specs.Definitions.{Among, Each, least_of}
 use Rattle.sc_live_answers.proofs.LedMailProofs.FollowerMail.{view_here, row_here}
 use Rattle.sc_live_answers.proofs.LedMailProofs.LeaderMail.{free_of, leads, leads_alone, named_so, takes, the_scene, works_one}
 use Rattle.sc_live_answers.proofs.BallotsProofs.NewestReplicas.{newest_after, stopped_newest}
-use Rattle.sc_live_answers.specs.Definitions.{IsHere, IsGuided, IsOrdersAlone, IsTrueEntry, StagesExpectWork, VotesAreFound, WorkExpects}
-use Rattle.sc_live_journals.specs.groups.Definitions.{IsSlotKept}
-use Rattle.sc_live_steps.specs.calm.Definitions.{Rows}
-use Rattle.sc_live_steps.proofs.OrderStepsProofs.Lemmas.{votes-count-alone, orders-leave, votes-leave, among-left, among-right, cases-draw, ends-leave, records-leave, watch-records-leave, entries-run-alone}
-use Rattle.sc_live_steps.specs.orders.Definitions.{EntryLeaves, bond_of, work_by, works, works_flying, works_in, works_ready, results, FliesLone, Answers, Asking, Bond, Bound, Changes, Elsewhere, Ends, Errand, First, Here, IsNone, Lone, Next, Opens, Question, Records, Reply, Result, Scene, Turn, Unbound, Work, free, is_watch, Closes, ClosesBoth, Filed, IsOrder, IsSound, IsUnderWay, IsVote, Leg, Mailed, Ordered, Recorded, Replied, SentOn, Stage, Still, Weighs, bound_by, closing, heard, parties_of, Asks as AsksStage}
-use Rattle.sc_live_journals.proofs.RowsProofs.Lemmas.{known, found_name}
-use Rattle.sc_live_journals.specs.rows.Definitions.{progress_at, with_event}
-use Rattle.sc_live_journals.proofs.ScenesProofs.Lemmas.{fly_lone, quiet_over, tell}
-use Rattle.sc_live_journals.specs.scenes.Definitions.{IsEntry, StaysIn, Aborted, Changed, Decided, Ended, FindsFlight, Heard, Late, Opened, Voted, IsThere, IsWork, scene_at, LeadsAlone, NewestAreBound}
-use Rattle.sc_words.specs.commands.Definitions.{is_alone, is_changed}
-use Rattle.sc_live_steps.proofs.FollowingProofs.Lemmas.{same_mark, order_is_kept}
-use Rattle.sc_live_steps.specs.following.Definitions.{Votes, mark_of, ActsAlone, IsLeadOf}
-use Rattle.sc_group_table.specs.machine.Definitions.{Group, applied, vote_of}
-use Rattle.sc_node_table.specs.Definitions.{NodeState, Place, ReplicaState, next, mailed}
-use Rattle.sc_words.proofs.PaxosProofs.Lemmas.{Each-among, find_found}
-use Rattle.sc_words.specs.paxos.Definitions.{flight_at}
-use Rattle.sc_meaning.specs.sound.Definitions.{Player}
+use Rattle.sc_live_answers.specs.AnswerDefinitions.{IsHere, IsGuided, IsOrdersAlone, IsTrueEntry, StagesExpectWork, VotesAreFound, WorkExpects}
+use Rattle.sc_live_journals.specs.groups.GroupDefinitions.{IsSlotKept}
+use Rattle.sc_live_steps.specs.calm.CalmDefinitions.{Rows}
+use Rattle.sc_live_steps.proofs.OrderStepsProofs.OrderStepLemmas.{votes-count-alone, orders-leave, votes-leave, among-left, among-right, cases-draw, ends-leave, records-leave, watch-records-leave, entries-run-alone}
+use Rattle.sc_live_steps.specs.orders.OrderDefinitions.{EntryLeaves, bond_of, work_by, works, works_flying, works_in, works_ready, results, FliesLone, Answers, Asking, Bond, Bound, Changes, Elsewhere, Ends, Errand, First, Here, IsNone, Lone, Next, Opens, Question, Records, Reply, Result, Scene, Turn, Unbound, Work, free, is_watch, Closes, ClosesBoth, Filed, IsOrder, IsSound, IsUnderWay, IsVote, Leg, Mailed, Ordered, Recorded, Replied, SentOn, Stage, Still, Weighs, bound_by, closing, heard, parties_of, Asks as AsksStage}
+use Rattle.sc_live_journals.proofs.RowsProofs.RowLemmas.{known, found_name}
+use Rattle.sc_live_journals.specs.rows.RowDefinitions.{progress_at, with_event}
+use Rattle.sc_live_journals.proofs.ScenesProofs.SceneLemmas.{fly_lone, quiet_over, tell}
+use Rattle.sc_live_journals.specs.scenes.SceneDefinitions.{IsEntry, StaysIn, Aborted, Changed, Decided, Ended, FindsFlight, Heard, Late, Opened, Voted, IsThere, IsWork, scene_at, LeadsAlone, NewestAreBound}
+use Rattle.sc_words.specs.commands.CommandDefinitions.{is_alone, is_changed}
+use Rattle.sc_live_steps.proofs.FollowingProofs.FollowingLemmas.{same_mark, order_is_kept}
+use Rattle.sc_live_steps.specs.following.FollowingDefinitions.{Votes, mark_of, ActsAlone, IsLeadOf}
+use Rattle.sc_group_table.specs.machine.MachineDefinitions.{Group, applied, vote_of}
+use Rattle.sc_node_table.specs.NodeDefinitions.{NodeState, Place, ReplicaState, next, mailed}
+use Rattle.sc_words.proofs.PaxosProofs.PaxosLemmas.{Each-among, find_found}
+use Rattle.sc_words.specs.paxos.PaxosDefinitions.{flight_at}
+use Rattle.sc_meaning.specs.sound.SoundDefinitions.{Player}
 use Rattle.sc_words.specs.declared.commands.votes.Past.TheVariants as Cast
 use Rattle.sc_words.specs.declared.commands.votes.Vote.TheVariants as Says
 use Rattle.sc_live_answers.proofs.VotesProofs.CountableVotes.{only_work, work_flies}

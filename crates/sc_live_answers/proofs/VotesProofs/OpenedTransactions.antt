@@ -2,10 +2,10 @@
 use Rattle.std.proofs.Common.{◌≡◌, ℕ, Bool, true, false, Option, Some, None, refl, sym, ◌∙◌, ap, subst}
 use Rattle.sc_node_table.specs.Values.{Draw, Body, Offer, Watch, Command, Split, Begin, RecordVote, GiveUp, RecordWatch, Core, Free, Coordinating, Promised, Watching, Effect, OrderRefusal, Heard, No}
 use Rattle.sc_words.specs.declared.commands.bodies.Body.TheVariants as At
-use Rattle.sc_group_table.specs.machine.Definitions.{Group, applied, begin_refused, refusal_of, refused_in, split_refused, locked_in, begun_group, decided_group, heard_group, vote_of, watch_vote_of}
-use Rattle.sc_law_groups.proofs.WholeProofs.Lemmas.{EndsIt, comes, voting_group}
-use Rattle.sc_live_steps.specs.orders.Definitions.{bond_in, bond_of, turn_of, work_by, Bond, Unbound, Asking, Bound, Turn, First, Lone, Next, Opens, Answers, Records}
-use Rattle.sc_live_answers.specs.Definitions.{BeginsSo}
+use Rattle.sc_group_table.specs.machine.MachineDefinitions.{Group, applied, begin_refused, refusal_of, refused_in, split_refused, locked_in, begun_group, decided_group, heard_group, vote_of, watch_vote_of}
+use Rattle.sc_law_groups.proofs.WholeProofs.WholeLemmas.{EndsIt, comes, voting_group}
+use Rattle.sc_live_steps.specs.orders.OrderDefinitions.{bond_in, bond_of, turn_of, work_by, Bond, Unbound, Asking, Bound, Turn, First, Lone, Next, Opens, Answers, Records}
+use Rattle.sc_live_answers.specs.AnswerDefinitions.{BeginsSo}
 
 -- why a transaction of this body is refused, if it is
 abbrev pub opening_refused : Core → Body → Option OrderRefusal

@@ -1,10 +1,10 @@
 -- Each command of an order, and each lock of a coordinator, keeps the order's number while the order is under way.
 use Rattle.std.proofs.Common.{◌≡◌, ℕ, Option, Some, None, subst}
 use Rattle.sc_node_table.specs.Values.{Command, Lock, Free, Coordinating, Promised, Watching, Effect, No}
-use Rattle.sc_group_table.specs.machine.Definitions.{Group, applied, bound_by, vote_of, watch_vote_of}
-use Rattle.sc_live_answers.specs.Definitions.{HasNumber, LockNumber}
+use Rattle.sc_group_table.specs.machine.MachineDefinitions.{Group, applied, bound_by, vote_of, watch_vote_of}
+use Rattle.sc_live_answers.specs.AnswerDefinitions.{HasNumber, LockNumber}
 use Rattle.sc_live_answers.proofs.WorkProofs.Affairs.{Affair, BeginsFree}
-use Rattle.sc_law_walks.proofs.Lemmas.{MachineWalk, machine_step}
+use Rattle.sc_law_walks.proofs.WalkLemmas.{MachineWalk, machine_step}
 
 module _ (n : ℕ) where
   abbrev N : Group × Effect → Type 0

@@ -5,19 +5,19 @@ use Rattle.sc_base.specs.Definitions.{Among, same_draw}
 use Rattle.sc_node_table.specs.Values.{Draw, Seat, Offer, Watch, Command, Split, Begin, Prepared, RecordVote, Finish, Watched, RecordWatch, Base, Free, Promised, Watching, NoEffect, Outcome, Flight}
 use Rattle.sc_base.proofs.Lemmas.{same_name}
 use Rattle.sc_actor.proofs.Lemmas.{lawful-prefix}
-use Rattle.sc_group_table.specs.machine.Definitions.{finished, participant_after, settled_in, watch_ended, Group, state_after, applied, frozen_of}
-use Rattle.sc_node_table.specs.Definitions.{ReplicaState}
-use Rattle.sc_words.proofs.PaxosProofs.Lemmas.{Each-among, Each-from}
+use Rattle.sc_group_table.specs.machine.MachineDefinitions.{finished, participant_after, settled_in, watch_ended, Group, state_after, applied, frozen_of}
+use Rattle.sc_node_table.specs.NodeDefinitions.{ReplicaState}
+use Rattle.sc_words.proofs.PaxosProofs.PaxosLemmas.{Each-among, Each-from}
 use Rattle.sc_scenario.specs.declared.scenario.scenarios.Scenario.{Scenario}
-use Rattle.sc_meaning.specs.sound.Definitions.{world_at, Lawful, Player, as_nodes, births, schedule, system_of, IsOneMap}
-use Rattle.sc_law_groups.specs.whole.Definitions.{ValidEntriesAreLogs, ValidJournalsAreSound}
-use Rattle.sc_law_entries.specs.logs.Definitions.{AreItsLogs}
-use Rattle.sc_live_steps.specs.calm.Definitions.{Rows}
-use Rattle.sc_live_answers.specs.Definitions.{IsTrueEntry, Doer, HasDone, Voting, doer, doers_of, LeadsSince, VotesAreTrue, EntriesAreTrue, HasOwnKeys, OutcomesAreTaken, RecordsAreTrue, IsAllowedBy, LockIsRecorded, ReplicasAreRecorded}
-use Rattle.sc_live_steps.specs.orders.Definitions.{bond_of, work_by, Answers, Bound, Ends, Here, Records, Work, IsAt, IsOrder, Stage, leads_of, parties_of}
-use Rattle.sc_live_journals.specs.rows.Definitions.{view_at}
-use Rattle.sc_live_journals.specs.scenes.Definitions.{IsThere, scene_at}
-use Rattle.sc_live_journals.proofs.ScenesProofs.Lemmas.{tell}
+use Rattle.sc_meaning.specs.sound.SoundDefinitions.{world_at, Lawful, Player, as_nodes, births, schedule, system_of, IsOneMap}
+use Rattle.sc_law_groups.specs.whole.WholeDefinitions.{ValidEntriesAreLogs, ValidJournalsAreSound}
+use Rattle.sc_law_entries.specs.logs.LogDefinitions.{AreItsLogs}
+use Rattle.sc_live_steps.specs.calm.CalmDefinitions.{Rows}
+use Rattle.sc_live_answers.specs.AnswerDefinitions.{IsTrueEntry, Doer, HasDone, Voting, doer, doers_of, LeadsSince, VotesAreTrue, EntriesAreTrue, HasOwnKeys, OutcomesAreTaken, RecordsAreTrue, IsAllowedBy, LockIsRecorded, ReplicasAreRecorded}
+use Rattle.sc_live_steps.specs.orders.OrderDefinitions.{bond_of, work_by, Answers, Bound, Ends, Here, Records, Work, IsAt, IsOrder, Stage, leads_of, parties_of}
+use Rattle.sc_live_journals.specs.rows.RowDefinitions.{view_at}
+use Rattle.sc_live_journals.specs.scenes.SceneDefinitions.{IsThere, scene_at}
+use Rattle.sc_live_journals.proofs.ScenesProofs.SceneLemmas.{tell}
 use Rattle.sc_live_answers.proofs.VotesProofs.VoteEffects.{Decides}
 use Rattle.sc_live_answers.proofs.RestProofs.LeaderWork.{IsEnding, IsWorkAt, OfOrder, OfOutcome, OfQuestion, OfVote, at_stage, was_there}
 use Rattle.sc_live_answers.proofs.VotesProofs.OpenedTransactions.{ByOffer, ByWatch, IsBoundBy}

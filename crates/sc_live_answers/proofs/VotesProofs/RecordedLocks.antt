@@ -5,24 +5,24 @@ use Rattle.sc_base.specs.Definitions.{Among, Each, united}
 use Rattle.sc_node_table.specs.Values.{Draw, Seat, Offer, Watch, Command, Finish, Prepared, RecordVote, Watched, Base, Route, Frozen, Outcome, Merged, Flight}
 use Rattle.sc_words.specs.declared.commands.bodies.Body.TheVariants as At
 use Rattle.sc_words.specs.declared.commands.votes.Vote.TheVariants as Vows
-use Rattle.sc_group_table.specs.machine.Definitions.{Group, group_of, state_after}
-use Rattle.sc_node_table.specs.Definitions.{NodeState, ReplicaState}
-use Rattle.sc_words.proofs.PaxosProofs.Lemmas.{Each-weaker}
-use Rattle.sc_paxos_law.specs.Definitions.{IsLog}
+use Rattle.sc_group_table.specs.machine.MachineDefinitions.{Group, group_of, state_after}
+use Rattle.sc_node_table.specs.NodeDefinitions.{NodeState, ReplicaState}
+use Rattle.sc_words.proofs.PaxosProofs.PaxosLemmas.{Each-weaker}
+use Rattle.sc_paxos_law.specs.PaxosLawDefinitions.{IsLog}
 use Rattle.sc_scenario.specs.scenario.Definitions.{IsValid, ValidScenariosAreBounded}
 use Rattle.sc_scenario.specs.declared.scenario.scenarios.Scenario.{Scenario}
-use Rattle.sc_meaning.specs.sound.Definitions.{entries_at, groups_at, decided_log, Lawful, Player, as_nodes, route_of}
-use Rattle.sc_law_entries.specs.ring.Definitions.{Sources, Story, unsigned, unsigned_watch}
-use Rattle.sc_law_entries.specs.logs.Definitions.{AllowsAsItStands, GroupAllows}
-use Rattle.sc_law_entries.proofs.LogsProofs.Lemmas.{states_allow, groups_allow_others, deciding_rows}
-use Rattle.sc_law_entries.specs.names.Definitions.{OtherNamesAreFree, TakenOrdersAreAllowed, TakenWishesAreAllowed, WishesAreAtPositions, owner_in}
-use Rattle.sc_law_groups.proofs.GroupProofs.Lemmas.{Part, entry_offered, h_of, IsFlying, rule, Each-take, each_got}
-use Rattle.sc_law_groups.specs.whole.Definitions.{BeginsWell, IsFresh, OrdersAreAllowed, IsHeardAt, MayQueue, stories_at, MergesFit, PartiesAreApart, ValidScenariosBeginWell}
-use Rattle.sc_law_groups.proofs.WholeProofs.Lemmas.{BeginsShared, hears_merges, none_split, splits_fit, parties_are_apart, merges_fit, goes_on_from, orders_allowed, stands_heard, stands_offer, stands_watch, Holds}
-use Rattle.sc_live_steps.specs.calm.Definitions.{Rows}
-use Rattle.sc_live_journals.specs.logs.Definitions.{HasReplica, IsGroupOf}
-use Rattle.sc_live_journals.proofs.LogsProofs.Lemmas.{along, flying, found, prefixes, part, stay, whole}
-use Rattle.sc_live_answers.specs.Definitions.{MergesEndAtOwner, IsTakenBy, OutcomesAreTaken, IsAllowedBy, LockIsRecorded, ReplicasAreRecorded, sources_of}
+use Rattle.sc_meaning.specs.sound.SoundDefinitions.{entries_at, groups_at, decided_log, Lawful, Player, as_nodes, route_of}
+use Rattle.sc_law_entries.specs.ring.RingDefinitions.{Sources, Story, unsigned, unsigned_watch}
+use Rattle.sc_law_entries.specs.logs.LogDefinitions.{AllowsAsItStands, GroupAllows}
+use Rattle.sc_law_entries.proofs.LogsProofs.LogLemmas.{states_allow, groups_allow_others, deciding_rows}
+use Rattle.sc_law_entries.specs.names.NameDefinitions.{OtherNamesAreFree, TakenOrdersAreAllowed, TakenWishesAreAllowed, WishesAreAtPositions, owner_in}
+use Rattle.sc_law_groups.proofs.GroupProofs.GroupLemmas.{Part, entry_offered, h_of, IsFlying, rule, Each-take, each_got}
+use Rattle.sc_law_groups.specs.whole.WholeDefinitions.{BeginsWell, IsFresh, OrdersAreAllowed, IsHeardAt, MayQueue, stories_at, MergesFit, PartiesAreApart, ValidScenariosBeginWell}
+use Rattle.sc_law_groups.proofs.WholeProofs.WholeLemmas.{BeginsShared, hears_merges, none_split, splits_fit, parties_are_apart, merges_fit, goes_on_from, orders_allowed, stands_heard, stands_offer, stands_watch, Holds}
+use Rattle.sc_live_steps.specs.calm.CalmDefinitions.{Rows}
+use Rattle.sc_live_journals.specs.logs.LogDefinitions.{HasReplica, IsGroupOf}
+use Rattle.sc_live_journals.proofs.LogsProofs.GroupLogLemmas.{along, flying, found, prefixes, part, stay, whole}
+use Rattle.sc_live_answers.specs.AnswerDefinitions.{MergesEndAtOwner, IsTakenBy, OutcomesAreTaken, IsAllowedBy, LockIsRecorded, ReplicasAreRecorded, sources_of}
 use Rattle.sc_live_answers.proofs.LinksProofs.MergeStories.{stories_home}
 use Rattle.sc_live_answers.proofs.VotesProofs.Outcomes.{outcomes_fit}
 

@@ -4,24 +4,24 @@ use Rattle.std.specs.Prelude.{length, not, ◌&&◌}
 use Rattle.sc_base.specs.Definitions.{Among, Each, holds, is_member, united}
 use Rattle.sc_node_table.specs.Values.{Draw, Seat, Body, Offer, Command, Prepared, RecordVote, RecordWatch, Base, Coordinating, Free, Promised, Frozen, Past, Flight}
 use Rattle.sc_actor.proofs.Lemmas.{lawful-prefix}
-use Rattle.sc_live_plain.specs.Definitions.{replicas_after}
-use Rattle.sc_words.specs.commands.Definitions.{is_alone}
+use Rattle.sc_live_plain.specs.PlainDefinitions.{replicas_after}
+use Rattle.sc_words.specs.commands.CommandDefinitions.{is_alone}
 use Rattle.sc_words.specs.declared.commands.bodies.Body.TheVariants as At
 use Rattle.sc_words.specs.declared.commands.votes.Vote.TheVariants as Vows
-use Rattle.sc_group_table.specs.machine.Definitions.{Group, limit_refused, can_migrate, can_repart, frozen_of, has_key_of, may_merge, merged_link, taken, begun_group, heard_group, vote_of, state_after}
-use Rattle.sc_node_table.specs.Definitions.{ReplicaState, before_in}
-use Rattle.sc_words.proofs.PaxosProofs.Lemmas.{Each-among}
-use Rattle.sc_law_entries.specs.ring.Definitions.{offer_with, unsigned, watch_with}
+use Rattle.sc_group_table.specs.machine.MachineDefinitions.{Group, limit_refused, can_migrate, can_repart, frozen_of, has_key_of, may_merge, merged_link, taken, begun_group, heard_group, vote_of, state_after}
+use Rattle.sc_node_table.specs.NodeDefinitions.{ReplicaState, before_in}
+use Rattle.sc_words.proofs.PaxosProofs.PaxosLemmas.{Each-among}
+use Rattle.sc_law_entries.specs.ring.RingDefinitions.{offer_with, unsigned, watch_with}
 use Rattle.sc_scenario.specs.declared.scenario.scenarios.Scenario.{Scenario}
-use Rattle.sc_meaning.specs.sound.Definitions.{world_at, Lawful, Player, as_nodes, births, schedule, system_of, IsOneMap}
-use Rattle.sc_law_groups.specs.whole.Definitions.{ValidEntriesAreLogs, ValidJournalsAreSound}
-use Rattle.sc_law_entries.specs.logs.Definitions.{AreItsLogs}
-use Rattle.sc_live_steps.specs.calm.Definitions.{StandsQuiet, Rows}
-use Rattle.sc_live_answers.specs.Definitions.{IsTrueEntry, Doer, HasDone, Promising, doer, heard_doer, opened, voted, LeadsSince, IsRecord, RecordsAreTrue, IsAllowedBy, LockIsRecorded, ReplicasAreRecorded, IsTrueSince}
-use Rattle.sc_live_steps.specs.orders.Definitions.{bond_of, is_cast_yes, turn_of, work_by, Answers, Asking, Bound, Ends, First, Here, Lone, Next, Records, Turn, Work, is_watch, Deal, IsAt, IsOrder, Recorded, Stage, bound_by, heard, heard_lead}
-use Rattle.sc_live_journals.specs.rows.Definitions.{view_at}
-use Rattle.sc_live_journals.specs.scenes.Definitions.{IsThere, scene_at}
-use Rattle.sc_live_journals.proofs.ScenesProofs.Lemmas.{tell}
+use Rattle.sc_meaning.specs.sound.SoundDefinitions.{world_at, Lawful, Player, as_nodes, births, schedule, system_of, IsOneMap}
+use Rattle.sc_law_groups.specs.whole.WholeDefinitions.{ValidEntriesAreLogs, ValidJournalsAreSound}
+use Rattle.sc_law_entries.specs.logs.LogDefinitions.{AreItsLogs}
+use Rattle.sc_live_steps.specs.calm.CalmDefinitions.{StandsQuiet, Rows}
+use Rattle.sc_live_answers.specs.AnswerDefinitions.{IsTrueEntry, Doer, HasDone, Promising, doer, heard_doer, opened, voted, LeadsSince, IsRecord, RecordsAreTrue, IsAllowedBy, LockIsRecorded, ReplicasAreRecorded, IsTrueSince}
+use Rattle.sc_live_steps.specs.orders.OrderDefinitions.{bond_of, is_cast_yes, turn_of, work_by, Answers, Asking, Bound, Ends, First, Here, Lone, Next, Records, Turn, Work, is_watch, Deal, IsAt, IsOrder, Recorded, Stage, bound_by, heard, heard_lead}
+use Rattle.sc_live_journals.specs.rows.RowDefinitions.{view_at}
+use Rattle.sc_live_journals.specs.scenes.SceneDefinitions.{IsThere, scene_at}
+use Rattle.sc_live_journals.proofs.ScenesProofs.SceneLemmas.{tell}
 use Rattle.sc_live_answers.proofs.LinksProofs.FittingGroups.{Agrees, Meets, gives, merges, migrates, none_of, takes}
 use Rattle.sc_live_answers.proofs.VotesProofs.VoteEffects.{lone_true, merge_true, migrate_true, next_true, repart_true}
 use Rattle.sc_live_answers.proofs.RestProofs.LeaderWork.{IsWorkAt, OfOrder, OfOutcome, OfQuestion, OfVote, at_stage, stands_in, was_there}

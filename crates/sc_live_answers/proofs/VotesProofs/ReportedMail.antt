@@ -6,15 +6,15 @@ use Rattle.sc_base.specs.Definitions.{is_member, least_of}
 use Rattle.sc_node_table.specs.Values.{Command, Call, Effect, Route, OrderResult, AnswerBody, Mail, Told, Prepare, Accept, Learn, Must, Gap}
 use Rattle.sc_mail.specs.declared.bodies.AnswerBody.TheVariants as Says
 use Rattle.sc_words.specs.declared.paxos.answers.Must.TheVariants.{Value, Free as Open}
-use Rattle.sc_words.specs.paxos.Definitions.{must}
+use Rattle.sc_words.specs.paxos.PaxosDefinitions.{must}
 use Rattle.sc_paxos_law.proofs.Lemmas.{Among-left, Among-right}
-use Rattle.sc_group_table.specs.policy.Definitions.{is_reported}
-use Rattle.sc_group_table.specs.machine.Definitions.{Group, applied}
-use Rattle.sc_node_table.specs.Definitions.{elected, ended, stopped, open_nodes, entered, answer_of, answered_or_put_back, order_result, effect_reported, announced, learnt_to, welcomed, landed, left_gone, left, is_among, looked_for, looked, executed_one, executed, install_to, asked_to_promise, welcomed_all, answered_all, sent_others, order_number, result_sent, order_reported, Found, is_act, from_backlog, from_acts, from_queues, found_by, found_for, offered, pumped, ReplicaState, Place, name_of, next, members, under_way, is_idle, before_of, begun_result, spoken_number, result_reported, begun_reported, spoken_mails, spoken}
+use Rattle.sc_group_table.specs.policy.PolicyDefinitions.{is_reported}
+use Rattle.sc_group_table.specs.machine.MachineDefinitions.{Group, applied}
+use Rattle.sc_node_table.specs.NodeDefinitions.{elected, ended, stopped, open_nodes, entered, answer_of, answered_or_put_back, order_result, effect_reported, announced, learnt_to, welcomed, landed, left_gone, left, is_among, looked_for, looked, executed_one, executed, install_to, asked_to_promise, welcomed_all, answered_all, sent_others, order_number, result_sent, order_reported, Found, is_act, from_backlog, from_acts, from_queues, found_by, found_for, offered, pumped, ReplicaState, Place, name_of, next, members, under_way, is_idle, before_of, begun_result, spoken_number, result_reported, begun_reported, spoken_mails, spoken}
 use Rattle.sc_node_table.specs.declared.Before.{Before}
-use Rattle.sc_law_walks.proofs.Lemmas.{either_way, executed_place, welcomed_place, next_found, Offers, pumped_place, Talk, parties, grows}
+use Rattle.sc_law_walks.proofs.WalkLemmas.{either_way, executed_place, welcomed_place, next_found, Offers, pumped_place, Talk, parties, grows}
 use Rattle.sc_law_walks.proofs.Talks.{all_sent, others_sent, client_reported, desk_reported, one_answered, all_answered, all_dismissed, went_said, spoken_said}
-use Rattle.sc_live_answers.specs.Definitions.{IsTold}
+use Rattle.sc_live_answers.specs.AnswerDefinitions.{IsTold}
 
 -- more mail reports it too
 pub told_more : (n : ℕ) (result : OrderResult) (mails more : List Mail) → IsTold mails n result → IsTold (mails ++ more) n result

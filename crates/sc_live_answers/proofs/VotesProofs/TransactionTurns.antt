@@ -2,13 +2,13 @@
 use Rattle.std.proofs.Common.{◌≡◌, ℕ, Bool, false, true≢false, Option, Some, None, refl, sym, ◌∙◌, ap}
 use Rattle.sc_node_table.specs.Values.{Draw, Body, Offer, Prepared, Core, Coordinating}
 use Rattle.sc_base.proofs.Lemmas.{same_name}
-use Rattle.sc_words.specs.commands.Definitions.{is_alone}
+use Rattle.sc_words.specs.commands.CommandDefinitions.{is_alone}
 use Rattle.sc_words.specs.declared.commands.bodies.Body.TheVariants as At
-use Rattle.sc_law_entries.specs.ring.Definitions.{Story, offer_for, offer_with, unsigned}
+use Rattle.sc_law_entries.specs.ring.RingDefinitions.{Story, offer_for, offer_with, unsigned}
 use Rattle.sc_scenario.specs.declared.scenario.scenarios.Scenario.{Scenario}
-use Rattle.sc_live_steps.specs.calm.Definitions.{Rows}
-use Rattle.sc_live_steps.specs.orders.Definitions.{turn_of, Asking, First, Lone, Next, Records, Turn, is_watch}
-use Rattle.sc_live_answers.specs.Definitions.{IsAllowedBy}
+use Rattle.sc_live_steps.specs.calm.CalmDefinitions.{Rows}
+use Rattle.sc_live_steps.specs.orders.OrderDefinitions.{turn_of, Asking, First, Lone, Next, Records, Turn, is_watch}
+use Rattle.sc_live_answers.specs.AnswerDefinitions.{IsAllowedBy}
 use Rattle.sc_live_answers.proofs.LinksProofs.FittingGroups.{none_of}
 use Rattle.sc_live_answers.proofs.VotesProofs.OpenedTransactions.{opening_refused}
 

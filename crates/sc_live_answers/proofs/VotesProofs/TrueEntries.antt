@@ -4,26 +4,26 @@ use Rattle.std.proofs.lemmas.Bool.{cases_Bool, cond-true, cond-false, cond_both}
 use Rattle.sc_base.specs.Definitions.{Among, Each, same_draw, is_member}
 use Rattle.sc_node_table.specs.Values.{Draw, Body, Watch, Command, Split, Begin, Prepared, RecordVote, Finish, Watched, RecordWatch, Base, Core, Coordinating, Free, Effect, NoEffect, Voted, Route, OrderRefusal, No, Flight, Seat, Promised, Watching, Apart}
 use Rattle.sc_base.proofs.Lemmas.{same_name}
-use Rattle.sc_words.specs.commands.Definitions.{is_alone, is_changed}
+use Rattle.sc_words.specs.commands.CommandDefinitions.{is_alone, is_changed}
 use Rattle.sc_words.specs.declared.commands.bodies.Body.TheVariants as At
-use Rattle.sc_group_table.specs.machine.Definitions.{Group, applied, split_group, body_refused, locked_in, ordered, refusal_of, refused_in, has_named, left_group, begun_group, has_voted, no_of, past_of, voted_on, watch_no, watch_vote_of, merged_link, right_link, vote_of}
-use Rattle.sc_node_table.specs.Definitions.{ReplicaState}
-use Rattle.sc_words.proofs.PaxosProofs.Lemmas.{Each-among}
+use Rattle.sc_group_table.specs.machine.MachineDefinitions.{Group, applied, split_group, body_refused, locked_in, ordered, refusal_of, refused_in, has_named, left_group, begun_group, has_voted, no_of, past_of, voted_on, watch_no, watch_vote_of, merged_link, right_link, vote_of}
+use Rattle.sc_node_table.specs.NodeDefinitions.{ReplicaState}
+use Rattle.sc_words.proofs.PaxosProofs.PaxosLemmas.{Each-among}
 use Rattle.sc_scenario.specs.declared.scenario.scenarios.Scenario.{Scenario}
-use Rattle.sc_meaning.specs.sound.Definitions.{as_nodes, births, world_at, Lawful, Player, schedule, system_of, IsOneMap}
-use Rattle.sc_law_entries.specs.names.Definitions.{CoreNames, IsUsed, NamesAreDrawn}
-use Rattle.sc_live_steps.specs.calm.Definitions.{Rows, StandsQuiet}
-use Rattle.sc_live_steps.specs.orders.Definitions.{IsBegun, work_by, Answers, Ends, First, Here, Lone, Next, Opens, Records, Turn, Work, is_watch, Deal, IsAt, IsOrder, Stage, Weighs, heard, heard_lead}
-use Rattle.sc_live_journals.specs.scenes.Definitions.{StaysIn, IsThere, scene_at}
-use Rattle.sc_live_answers.specs.Definitions.{IsTrueEntry, HasDone, Promising, doer, heard_doer, opened, IsAskedOrCast, LeadsSince, VotesAreTrue, IsAllowedBy, LockIsRecorded, ReplicasAreRecorded, IsTrueSince}
+use Rattle.sc_meaning.specs.sound.SoundDefinitions.{as_nodes, births, world_at, Lawful, Player, schedule, system_of, IsOneMap}
+use Rattle.sc_law_entries.specs.names.NameDefinitions.{CoreNames, IsUsed, NamesAreDrawn}
+use Rattle.sc_live_steps.specs.calm.CalmDefinitions.{Rows, StandsQuiet}
+use Rattle.sc_live_steps.specs.orders.OrderDefinitions.{IsBegun, work_by, Answers, Ends, First, Here, Lone, Next, Opens, Records, Turn, Work, is_watch, Deal, IsAt, IsOrder, Stage, Weighs, heard, heard_lead}
+use Rattle.sc_live_journals.specs.scenes.SceneDefinitions.{StaysIn, IsThere, scene_at}
+use Rattle.sc_live_answers.specs.AnswerDefinitions.{IsTrueEntry, HasDone, Promising, doer, heard_doer, opened, IsAskedOrCast, LeadsSince, VotesAreTrue, IsAllowedBy, LockIsRecorded, ReplicasAreRecorded, IsTrueSince}
 use Rattle.sc_actor.proofs.Lemmas.{lawful-prefix}
-use Rattle.sc_live_plain.specs.Definitions.{replicas_after}
-use Rattle.sc_live_journals.specs.rows.Definitions.{view_at}
-use Rattle.sc_live_journals.proofs.ScenesProofs.Lemmas.{tell}
-use Rattle.sc_law_entries.specs.logs.Definitions.{AreItsLogs}
-use Rattle.sc_law_entries.specs.ring.Definitions.{Story, unsigned_watch, watch_with}
+use Rattle.sc_live_plain.specs.PlainDefinitions.{replicas_after}
+use Rattle.sc_live_journals.specs.rows.RowDefinitions.{view_at}
+use Rattle.sc_live_journals.proofs.ScenesProofs.SceneLemmas.{tell}
+use Rattle.sc_law_entries.specs.logs.LogDefinitions.{AreItsLogs}
+use Rattle.sc_law_entries.specs.ring.RingDefinitions.{Story, unsigned_watch, watch_with}
 use Rattle.sc_scenario.specs.scenario.Definitions.{ValidScenariosAreBounded}
-use Rattle.sc_law_groups.specs.whole.Definitions.{ValidEntriesAreLogs, ValidJournalsAreSound}
+use Rattle.sc_law_groups.specs.whole.WholeDefinitions.{ValidEntriesAreLogs, ValidJournalsAreSound}
 use Rattle.sc_live_answers.proofs.RestProofs.LeaderWork.{IsWorkAt, OfOrder, OfOutcome, OfQuestion, OfVote, at_stage, stands_in, was_there}
 use Rattle.sc_live_answers.proofs.ReplicasProofs.Names.{has_not_voted, used_in}
 use Rattle.sc_live_answers.proofs.VotesProofs.OpenedTransactions.{IsOpened}

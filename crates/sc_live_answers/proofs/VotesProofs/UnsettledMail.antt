@@ -4,19 +4,19 @@ use Rattle.std.specs.List.{find}
 use Rattle.sc_base.specs.Definitions.{Among, same_draw}
 use Rattle.sc_node_table.specs.Values.{Draw, Seat, Deliver, Base, Outcome, Mail, MailBody, TxElsewhere, TxPrepare, TxVote, TxWatch, TxWatched, Node}
 use Rattle.sc_actor.proofs.Lemmas.{lawful-prefix}
-use Rattle.sc_group_table.specs.machine.Definitions.{Group, locked_in, is_locked_in}
-use Rattle.sc_node_table.specs.Definitions.{NodeState, ReplicaState, gone_vote, noted_outcome, standing_by, standing_vote}
+use Rattle.sc_group_table.specs.machine.MachineDefinitions.{Group, locked_in, is_locked_in}
+use Rattle.sc_node_table.specs.NodeDefinitions.{NodeState, ReplicaState, gone_vote, noted_outcome, standing_by, standing_vote}
 use Rattle.sc_scenario.specs.scenario.Definitions.{ValidScenariosAreBounded}
 use Rattle.sc_scenario.specs.declared.scenario.scenarios.Scenario.{Scenario}
-use Rattle.sc_meaning.specs.sound.Definitions.{Lawful, Player, as_nodes, births, schedule, system_of}
-use Rattle.sc_law_entries.specs.names.Definitions.{IsUsed, NamesAreDrawn}
-use Rattle.sc_live_steps.specs.calm.Definitions.{Rows}
-use Rattle.sc_live_steps.specs.orders.Definitions.{bond_of, errand_by, is_cast_yes, is_yes, Errand, Here, Question, Reply, Asks, Deal, Replied, Stage}
-use Rattle.sc_live_journals.specs.rows.Definitions.{view_at}
-use Rattle.sc_live_journals.proofs.RowsProofs.Lemmas.{view_was}
-use Rattle.sc_live_journals.specs.scenes.Definitions.{AreUntouched, IsThere, scene_at}
-use Rattle.sc_live_journals.proofs.ScenesProofs.Lemmas.{asked_fresh}
-use Rattle.sc_live_answers.specs.Definitions.{IsUnsettled, HasDone, doer, opened, IsTrueSince, MailComesUnsettled, TakesSince}
+use Rattle.sc_meaning.specs.sound.SoundDefinitions.{Lawful, Player, as_nodes, births, schedule, system_of}
+use Rattle.sc_law_entries.specs.names.NameDefinitions.{IsUsed, NamesAreDrawn}
+use Rattle.sc_live_steps.specs.calm.CalmDefinitions.{Rows}
+use Rattle.sc_live_steps.specs.orders.OrderDefinitions.{bond_of, errand_by, is_cast_yes, is_yes, Errand, Here, Question, Reply, Asks, Deal, Replied, Stage}
+use Rattle.sc_live_journals.specs.rows.RowDefinitions.{view_at}
+use Rattle.sc_live_journals.proofs.RowsProofs.RowLemmas.{view_was}
+use Rattle.sc_live_journals.specs.scenes.SceneDefinitions.{AreUntouched, IsThere, scene_at}
+use Rattle.sc_live_journals.proofs.ScenesProofs.SceneLemmas.{asked_fresh}
+use Rattle.sc_live_answers.specs.AnswerDefinitions.{IsUnsettled, HasDone, doer, opened, IsTrueSince, MailComesUnsettled, TakesSince}
 use Rattle.sc_live_answers.proofs.ReplicasProofs.Names.{undecided, unvoted, used_in}
 use Rattle.sc_live_answers.proofs.WorkProofs.Parties.{coordinates, decided_same, lead_bond}
 use Rattle.sc_live_answers.proofs.ErrandsProofs.PendingErrands.{goes_to, is_pending, question_at, reply_at}

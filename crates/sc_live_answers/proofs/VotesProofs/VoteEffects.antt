@@ -5,12 +5,12 @@ use Rattle.std.proofs.lemmas.Bool.{cases_Bool, cond-true, cond-false}
 use Rattle.sc_base.specs.Definitions.{holds, same_draw, is_member}
 use Rattle.sc_node_table.specs.Values.{Draw, Body, Command, RecordVote, RecordWatch, Coordinating, Effect, Changed, NoEffect, Frozen, Heard, Outcome, Divided, Merged, Migrated, Moved, Past}
 use Rattle.sc_base.proofs.Lemmas.{same_name}
-use Rattle.sc_words.specs.commands.Definitions.{decided_in, is_changed}
+use Rattle.sc_words.specs.commands.CommandDefinitions.{decided_in, is_changed}
 use Rattle.sc_words.specs.declared.commands.bodies.Body.TheVariants as At
 use Rattle.sc_words.specs.declared.commands.votes.Past.TheVariants as Cast
 use Rattle.sc_words.specs.declared.commands.votes.Vote.TheVariants as Vows
-use Rattle.sc_group_table.specs.machine.Definitions.{Group, applied, can_migrate, can_repart, can_split, closing_group, closing_plan, giving_group, giving_plan, has_key_of, may_merge, merged_group, merged_route, migrated_group, part_gift, taken, taking_group, taking_plan, left_group, committed, granted, heard_group, watch_answered, vote_recorded, watch_recorded}
-use Rattle.sc_live_journals.specs.scenes.Definitions.{StaysIn}
+use Rattle.sc_group_table.specs.machine.MachineDefinitions.{Group, applied, can_migrate, can_repart, can_split, closing_group, closing_plan, giving_group, giving_plan, has_key_of, may_merge, merged_group, merged_route, migrated_group, part_gift, taken, taking_group, taking_plan, left_group, committed, granted, heard_group, watch_answered, vote_recorded, watch_recorded}
+use Rattle.sc_live_journals.specs.scenes.SceneDefinitions.{StaysIn}
 
 -- it decides
 abbrev pub Decides : Group × Effect → Type 0

@@ -7,18 +7,18 @@ use Rattle.std.proofs.lemmas.Bool.{cond_both, and_parts}
 use Rattle.sc_base.specs.Definitions.{Each, is_member, least_of}
 use Rattle.sc_node_table.specs.Values.{Ballot, Draw, Command, Call, Base, Effect, Route, OrderResult, AnswerBody, Mail, Prepare, Accept, Learn, Install, Must, Flight, Report}
 use Rattle.sc_mail.specs.declared.bodies.AnswerBody.TheVariants as Answers
-use Rattle.sc_law_entries.proofs.HistoryProofs.Lemmas.{applied_same}
-use Rattle.sc_group_table.specs.machine.Definitions.{child_by, Group, base_of, applied}
-use Rattle.sc_law_entries.specs.names.Definitions.{Opt}
-use Rattle.sc_law_entries.proofs.NamesProofs.Lemmas.{opt_find, opt_map, opt_either, opt_slot, slot_without, flight_without}
+use Rattle.sc_law_entries.proofs.HistoryProofs.HistoryLemmas.{applied_same}
+use Rattle.sc_group_table.specs.machine.MachineDefinitions.{child_by, Group, base_of, applied}
+use Rattle.sc_law_entries.specs.names.NameDefinitions.{Opt}
+use Rattle.sc_law_entries.proofs.NamesProofs.NameLemmas.{opt_find, opt_map, opt_either, opt_slot, slot_without, flight_without}
 use Rattle.sc_paxos_law.proofs.Lemmas.{among-member}
 use Rattle.sc_words.specs.declared.paxos.answers.Must.TheVariants.{Free as Open}
-use Rattle.sc_words.specs.paxos.Definitions.{below, LeaderState, must, must_without, flight_at, without_flight_at, names_above, chosen_value}
-use Rattle.sc_words.proofs.PaxosProofs.Lemmas.{Each-append}
+use Rattle.sc_words.specs.paxos.PaxosDefinitions.{below, LeaderState, must, must_without, flight_at, without_flight_at, names_above, chosen_value}
+use Rattle.sc_words.proofs.PaxosProofs.PaxosLemmas.{Each-append}
 use Rattle.sc_words.proofs.PaxosProofs.ListLemmas.{Each-from as each_among}
-use Rattle.sc_node_table.specs.Definitions.{open_nodes, elected, ended, stopped, saw, entered, answer_of, answered_or_put_back, order_result, effect_reported, announced, learnt_to, welcomed, slot_lost, landed, left_gone, left, is_among, looked_for, looked, executed_one, child_at, next_child, has_room, next_ready, ending, executed_ready, executed, install_to, asked_to_promise, welcomed_all, sent, answered_all, sent_others, order_number, Found, is_act, next_queued, from_backlog, from_acts, from_queues, found_by, found_for, offered, pumped_from, pumped, ReplicaState, Place, Executed, childless, name_of, next, members, flying, settled, may_offer, first_set, listed, taken_at, taken_from, under_way, is_idle, open_slots, last_slot, forgotten, at_slot, without_slot, before_of, spoken}
+use Rattle.sc_node_table.specs.NodeDefinitions.{open_nodes, elected, ended, stopped, saw, entered, answer_of, answered_or_put_back, order_result, effect_reported, announced, learnt_to, welcomed, slot_lost, landed, left_gone, left, is_among, looked_for, looked, executed_one, child_at, next_child, has_room, next_ready, ending, executed_ready, executed, install_to, asked_to_promise, welcomed_all, sent, answered_all, sent_others, order_number, Found, is_act, next_queued, from_backlog, from_acts, from_queues, found_by, found_for, offered, pumped_from, pumped, ReplicaState, Place, Executed, childless, name_of, next, members, flying, settled, may_offer, first_set, listed, taken_at, taken_from, under_way, is_idle, open_slots, last_slot, forgotten, at_slot, without_slot, before_of, spoken}
 use Rattle.sc_node_table.specs.declared.Before.{Before}
-use Rattle.sc_law_walks.proofs.Lemmas.{executed_place, either_way}
+use Rattle.sc_law_walks.proofs.WalkLemmas.{executed_place, either_way}
 use Rattle.sc_live_answers.proofs.WorkProofs.Affairs.{Affair, AreGood}
 use Rattle.sc_live_answers.proofs.WorkProofs.WorkMail.{one_sent, all_sent, others_sent, desk_reported, all_answered, none_dismissed, spoken_said}
 

@@ -3,7 +3,7 @@ use Rattle.std.proofs.Common.{◌≡◌, ◌⊎◌, ℕ, true, List, Option, Som
 use Rattle.sc_base.specs.Definitions.{Each, is_member}
 use Rattle.sc_node_table.specs.Values.{Draw, Op, Body, Offer, Watch, Command, Call, Begin, Prepared, RecordVote, Finish, Watched, RecordWatch, Base, Core, Free, Coordinating, Heard, Outcome, Past, Vote, Mail, MailBody, Request, Answer, Prepare, Promise, Accept, Accepted, Nack, Learn, Ask, Install, TxPrepare, TxVote, TxOutcome, TxElsewhere, TxWatch, TxWatched, Told}
 use Rattle.sc_words.specs.declared.commands.bodies.Body.TheVariants as At
-use Rattle.sc_group_table.specs.machine.Definitions.{Group, child_by, applied}
+use Rattle.sc_group_table.specs.machine.MachineDefinitions.{Group, child_by, applied}
 
 -- By a group's name: the commands that stand there, the states in which it is, and the children that come of them; and whether other groups have a part, so that offers, votes of participants and states are sent. No request stands there; each command leaves such a state, and makes such children; it adds no member, where no other group has a part; and what is asked then is asked of a watcher.
 pub record Affair : Type 1 where

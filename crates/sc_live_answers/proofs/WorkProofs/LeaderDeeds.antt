@@ -3,17 +3,17 @@ use Rattle.std.proofs.Common.{◌≡◌, ℕ, Bool, true, false, List, [], ◌�
 use Rattle.sc_base.specs.Definitions.{Each}
 use Rattle.sc_node_table.specs.Values.{Draw, Command, Seat, Deliver, Flight}
 use Rattle.sc_actor.specs.Definitions.{numbers_of}
-use Rattle.sc_group_table.specs.machine.Definitions.{applied}
-use Rattle.sc_node_table.specs.Definitions.{ReplicaState}
-use Rattle.sc_live_orderly.specs.Definitions.{AreInTime}
-use Rattle.sc_words.proofs.PaxosProofs.Lemmas.{Each-among}
-use Rattle.sc_meaning.specs.sound.Definitions.{Player}
-use Rattle.sc_live_steps.specs.calm.Definitions.{players, Rows}
-use Rattle.sc_live_steps.specs.orders.Definitions.{IsTaken, OfQuestion, OfVote, OfOutcome, LastTakes, OneTakes, TwoTakes, LastFreed, OneFreed, TwoFreed, IsStepOf, ByRest, ByOrder, ByChange, ByDeal, ByPassing, ByAsking, ByTaking, ByVote, ByNo, ByHearing, ByDeciding, ByEnd, closed, work_by, works, Turn, First, Lone, Next, is_watch, Work, Opens, Answers, Records, Here, Scene, Asks, Closes, ClosesBoth, Deal, Filed, IsAt, Leg, Mailed, Ordered, Party, Recorded, Replied, SentOn, Stage, Still, Weighs, closing, heard, heard_lead}
-use Rattle.sc_live_journals.specs.rows.Definitions.{view_at, IsSeat, with_event}
-use Rattle.sc_live_journals.specs.scenes.Definitions.{FindsOrder, is_running, scene_at, work_at, works_of}
-use Rattle.sc_live_journals.proofs.ScenesProofs.Lemmas.{lead_runs}
-use Rattle.sc_live_answers.specs.Definitions.{AreDeeds, BeginsSo, Deed, Doer, FlightsBeginSo, HasDone, HasStepped, Rested, Executed, Hearing, IsDeed, Opening, Promising, Voting, closing_doer, doer, doers_of, heard_doer, opened, voted}
+use Rattle.sc_group_table.specs.machine.MachineDefinitions.{applied}
+use Rattle.sc_node_table.specs.NodeDefinitions.{ReplicaState}
+use Rattle.sc_live_orderly.specs.OrderlyDefinitions.{AreInTime}
+use Rattle.sc_words.proofs.PaxosProofs.PaxosLemmas.{Each-among}
+use Rattle.sc_meaning.specs.sound.SoundDefinitions.{Player}
+use Rattle.sc_live_steps.specs.calm.CalmDefinitions.{players, Rows}
+use Rattle.sc_live_steps.specs.orders.OrderDefinitions.{IsTaken, OfQuestion, OfVote, OfOutcome, LastTakes, OneTakes, TwoTakes, LastFreed, OneFreed, TwoFreed, IsStepOf, ByRest, ByOrder, ByChange, ByDeal, ByPassing, ByAsking, ByTaking, ByVote, ByNo, ByHearing, ByDeciding, ByEnd, closed, work_by, works, Turn, First, Lone, Next, is_watch, Work, Opens, Answers, Records, Here, Scene, Asks, Closes, ClosesBoth, Deal, Filed, IsAt, Leg, Mailed, Ordered, Party, Recorded, Replied, SentOn, Stage, Still, Weighs, closing, heard, heard_lead}
+use Rattle.sc_live_journals.specs.rows.RowDefinitions.{view_at, IsSeat, with_event}
+use Rattle.sc_live_journals.specs.scenes.SceneDefinitions.{FindsOrder, is_running, scene_at, work_at, works_of}
+use Rattle.sc_live_journals.proofs.ScenesProofs.SceneLemmas.{lead_runs}
+use Rattle.sc_live_answers.specs.AnswerDefinitions.{AreDeeds, BeginsSo, Deed, Doer, FlightsBeginSo, HasDone, HasStepped, Rested, Executed, Hearing, IsDeed, Opening, Promising, Voting, closing_doer, doer, doers_of, heard_doer, opened, voted}
 use Rattle.sc_live_answers.proofs.WorkProofs.LeaderDeliveries.{Comes, goes_on}
 use Rattle.sc_group_table.proofs.MachineProofs.Lemmas.{state_push}
 

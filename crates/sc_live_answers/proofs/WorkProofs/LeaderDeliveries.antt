@@ -4,24 +4,24 @@ use Rattle.std.proofs.lemmas.Bool.{cases_Bool, eq-eqb, eqb-true, cond-false}
 use Rattle.std.specs.Option.{option_map}
 use Rattle.std.proofs.lemmas.Option.{same_Some}
 use Rattle.sc_base.specs.Definitions.{Among, is_member}
-use Rattle.sc_group_table.specs.policy.Definitions.{is_reported}
+use Rattle.sc_group_table.specs.policy.PolicyDefinitions.{is_reported}
 use Rattle.sc_node_table.specs.Values.{Ballot, Draw, Command, OrderLine, OrderResult, Mail, MailBody, Request, Answer, Prepare, Promise, Accept, Accepted, Nack, Learn, Ask, Install, TxPrepare, TxVote, TxOutcome, TxElsewhere, TxWatch, TxWatched, Told as ToldMail, Node, Client, Seat, Event, Deliver, Got, Flight}
-use Rattle.sc_group_table.specs.machine.Definitions.{Group, applied}
-use Rattle.sc_client_table.specs.table.Definitions.{Client as ClientState}
+use Rattle.sc_group_table.specs.machine.MachineDefinitions.{Group, applied}
+use Rattle.sc_client_table.specs.table.TableDefinitions.{Client as ClientState}
 use Rattle.sc_actor.specs.Definitions.{mails, numbered, value, row_of}
-use Rattle.sc_live_orderly.specs.Definitions.{AreInTime}
-use Rattle.sc_live_orderly.proofs.Lemmas.{last_in_time}
-use Rattle.sc_node_table.specs.Definitions.{NodeState, replica_of, group_of_mail, may_come, unknown, routed, on_mail, ReplicaState, Place, mailed}
-use Rattle.sc_law_walks.proofs.Lemmas.{either_way}
-use Rattle.sc_meaning.specs.sound.Definitions.{Player, player_table}
-use Rattle.sc_live_steps.specs.calm.Definitions.{players, Rows}
-use Rattle.sc_live_steps.specs.orders.Definitions.{bond_of, errand_by, is_yes, is_cast_yes, work_by, works, FliesLone, RunsAlone, Answers, Bound, Elsewhere, Errand, Question, Reply, Result, Here, Records, Ends, Unbound, Work, IsUnderWay, IsUnbound, MayFile, Works}
-use Rattle.sc_live_steps.proofs.OrderStepsProofs.Lemmas.{votes-count-alone, tables-file, tables-ask-on, cases-draw, tables-rest, promises-keep, entries-run-alone}
-use Rattle.sc_live_journals.specs.rows.Definitions.{view_at, IsSeat, with_event}
-use Rattle.sc_live_journals.proofs.RowsProofs.Lemmas.{view_is, view_others, view_was, none_some}
-use Rattle.sc_live_journals.specs.scenes.Definitions.{Expects, IsAsking, IsWaiting, Aborted, BesideFinds, AtAnother, AtLeader, Changed, Decided, Ended, FindsFlight, FindsOrder, FindsReplica, Heard, Late, LeaderFinds, Leaves, Opened, Voted, ComesTo, ComesToLeader, IsBeside, Led, Unled, scene_at, IsTaking, IsTablesRow, StaysIn, Creates, LeadsAlone, LeavesOrMakes}
-use Rattle.sc_live_journals.proofs.ScenesProofs.Lemmas.{unknown_apart, row_of_comes, takes_one, answers_reach, errand_among, now_is, was_is, calm_is, tell}
-use Rattle.sc_live_answers.specs.Definitions.{HasStepped, Rested, Executed, IsTold}
+use Rattle.sc_live_orderly.specs.OrderlyDefinitions.{AreInTime}
+use Rattle.sc_live_orderly.proofs.OrderlyLemmas.{last_in_time}
+use Rattle.sc_node_table.specs.NodeDefinitions.{NodeState, replica_of, group_of_mail, may_come, unknown, routed, on_mail, ReplicaState, Place, mailed}
+use Rattle.sc_law_walks.proofs.WalkLemmas.{either_way}
+use Rattle.sc_meaning.specs.sound.SoundDefinitions.{Player, player_table}
+use Rattle.sc_live_steps.specs.calm.CalmDefinitions.{players, Rows}
+use Rattle.sc_live_steps.specs.orders.OrderDefinitions.{bond_of, errand_by, is_yes, is_cast_yes, work_by, works, FliesLone, RunsAlone, Answers, Bound, Elsewhere, Errand, Question, Reply, Result, Here, Records, Ends, Unbound, Work, IsUnderWay, IsUnbound, MayFile, Works}
+use Rattle.sc_live_steps.proofs.OrderStepsProofs.OrderStepLemmas.{votes-count-alone, tables-file, tables-ask-on, cases-draw, tables-rest, promises-keep, entries-run-alone}
+use Rattle.sc_live_journals.specs.rows.RowDefinitions.{view_at, IsSeat, with_event}
+use Rattle.sc_live_journals.proofs.RowsProofs.RowLemmas.{view_is, view_others, view_was, none_some}
+use Rattle.sc_live_journals.specs.scenes.SceneDefinitions.{Expects, IsAsking, IsWaiting, Aborted, BesideFinds, AtAnother, AtLeader, Changed, Decided, Ended, FindsFlight, FindsOrder, FindsReplica, Heard, Late, LeaderFinds, Leaves, Opened, Voted, ComesTo, ComesToLeader, IsBeside, Led, Unled, scene_at, IsTaking, IsTablesRow, StaysIn, Creates, LeadsAlone, LeavesOrMakes}
+use Rattle.sc_live_journals.proofs.ScenesProofs.SceneLemmas.{unknown_apart, row_of_comes, takes_one, answers_reach, errand_among, now_is, was_is, calm_is, tell}
+use Rattle.sc_live_answers.specs.AnswerDefinitions.{HasStepped, Rested, Executed, IsTold}
 use Rattle.sc_live_answers.proofs.VotesProofs.ReportedMail.{Ends as EndsOrder, entry_reports}
 use Rattle.sc_live_answers.proofs.ReplicasProofs.TakenMail.{mail_taken}
 use Rattle.sc_live_journals.proofs.ScenesProofs.AnswersAndLateMail.{untouched, asks_leave, votes_late, learnt_late, sent_late}

@@ -5,18 +5,18 @@ use Rattle.std.specs.List.{list_any}
 use Rattle.std.proofs.lemmas.Bool.{cond_both}
 use Rattle.sc_base.specs.Definitions.{same_draw, is_member}
 use Rattle.sc_node_table.specs.Values.{Draw, Body, Watch, Command, Noop, Call, Join, Leave, Split, Begin, Prepared, RecordVote, GiveUp, Finish, Watched, RecordWatch, Base, Core, Lock, Free, Coordinating, Promised, Watching, Effect, Route, OrderRefusal, Heard, No, Outcome, Past, Vote, Frozen}
-use Rattle.sc_words.specs.commands.Definitions.{is_alone}
+use Rattle.sc_words.specs.commands.CommandDefinitions.{is_alone}
 use Rattle.sc_words.specs.declared.commands.bodies.Body.TheVariants as At
 use Rattle.sc_words.specs.declared.commands.votes.Past.TheVariants as Cast
 use Rattle.sc_words.specs.declared.commands.votes.Vote.TheVariants as Votes
-use Rattle.sc_group_table.specs.machine.Definitions.{ordered_child, released_child, answered_child, watched_child, child_by, participant_after, settled_in, watch_ended, finished, Group, applied, split_group, locked_in, refusal_of, with_node, without_node, Plan, can_split, split_plan, merge_plan, closing_plan, repart_plan, migrate_plan, staying, left_group, child_of, has_named, is_locked_in, begun_group, committed, granted, participant_answered, asks_watcher, vote_recorded, released, watch_answered, watch_recorded, is_coordinating, has_voted, bound_by, watched, vote_of, watch_vote_of}
+use Rattle.sc_group_table.specs.machine.MachineDefinitions.{ordered_child, released_child, answered_child, watched_child, child_by, participant_after, settled_in, watch_ended, finished, Group, applied, split_group, locked_in, refusal_of, with_node, without_node, Plan, can_split, split_plan, merge_plan, closing_plan, repart_plan, migrate_plan, staying, left_group, child_of, has_named, is_locked_in, begun_group, committed, granted, participant_answered, asks_watcher, vote_recorded, released, watch_answered, watch_recorded, is_coordinating, has_voted, bound_by, watched, vote_of, watch_vote_of}
 use Rattle.sc_paxos_law.proofs.Lemmas.{among-member, member-among}
-use Rattle.sc_law_groups.proofs.GroupProofs.Lemmas.{ordered_if}
-use Rattle.sc_live_answers.specs.Definitions.{IsNoSplit, DoesSplit, DoesOther, DoesBy, SplitsInto, LockSplits, LockOther, IsBy, CreatesBy}
+use Rattle.sc_law_groups.proofs.GroupProofs.GroupLemmas.{ordered_if}
+use Rattle.sc_live_answers.specs.AnswerDefinitions.{IsNoSplit, DoesSplit, DoesOther, DoesBy, SplitsInto, LockSplits, LockOther, IsBy, CreatesBy}
 use Rattle.sc_live_answers.proofs.WorkProofs.Affairs.{Affair, BeginsFree}
 use Rattle.sc_live_answers.proofs.ChildrenProofs.ChildrenUnderOrders.{none_some}
 use Rattle.sc_live_answers.proofs.VotesProofs.OrderNumbers.{numbered, numbered_free}
-use Rattle.sc_law_entries.proofs.HistoryProofs.Lemmas.{free_by}
+use Rattle.sc_law_entries.proofs.HistoryProofs.HistoryLemmas.{free_by}
 
 -- of two that are off, the first is
 pub first_off : (b c : Bool) → b || c ≡ false → b ≡ false

@@ -2,14 +2,14 @@
 use Rattle.std.proofs.Common.{◌≡◌, ℕ, Bool, false, List, [], ◌∷◌, Some, ◌∙◌, ap}
 use Rattle.sc_node_table.specs.Values.{Draw, Command, Free, Seat}
 use Rattle.sc_actor.specs.Definitions.{numbers_of}
-use Rattle.sc_group_table.specs.machine.Definitions.{Group, state_after}
-use Rattle.sc_node_table.specs.Definitions.{ReplicaState}
-use Rattle.sc_meaning.specs.sound.Definitions.{Player}
-use Rattle.sc_live_steps.specs.calm.Definitions.{Rows}
-use Rattle.sc_live_steps.specs.orders.Definitions.{bond_of, Asking, Bound, Turn, First, Lone, Next}
-use Rattle.sc_live_journals.specs.rows.Definitions.{view_at}
-use Rattle.sc_live_journals.specs.scenes.Definitions.{bond_by, bond_there, scene_at}
-use Rattle.sc_live_answers.specs.Definitions.{AreDeeds, Promising, Voting, opened}
+use Rattle.sc_group_table.specs.machine.MachineDefinitions.{Group, state_after}
+use Rattle.sc_node_table.specs.NodeDefinitions.{ReplicaState}
+use Rattle.sc_meaning.specs.sound.SoundDefinitions.{Player}
+use Rattle.sc_live_steps.specs.calm.CalmDefinitions.{Rows}
+use Rattle.sc_live_steps.specs.orders.OrderDefinitions.{bond_of, Asking, Bound, Turn, First, Lone, Next}
+use Rattle.sc_live_journals.specs.rows.RowDefinitions.{view_at}
+use Rattle.sc_live_journals.specs.scenes.SceneDefinitions.{bond_by, bond_there, scene_at}
+use Rattle.sc_live_answers.specs.AnswerDefinitions.{AreDeeds, Promising, Voting, opened}
 use Rattle.sc_live_answers.proofs.VotesProofs.OpenedTransactions.{HasBoth, IsBoundBy, IsOpened, both_by, opened_by, voted_by}
 
 -- the bond of a group that is led, by its leader

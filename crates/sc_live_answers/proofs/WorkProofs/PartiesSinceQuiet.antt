@@ -4,19 +4,19 @@ use Rattle.sc_base.specs.Definitions.{Each}
 use Rattle.sc_node_table.specs.Values.{Draw, Seat, Body, Offer, Command, Begin, RecordVote, Base, Coordinating, Free, Promised, Frozen, Heard, Flight}
 use Rattle.sc_words.specs.declared.commands.bodies.Body.TheVariants as At
 use Rattle.sc_words.specs.declared.commands.votes.Vote.TheVariants as Vows
-use Rattle.sc_group_table.specs.machine.Definitions.{Group, frozen_of}
-use Rattle.sc_node_table.specs.Definitions.{ReplicaState}
-use Rattle.sc_words.proofs.PaxosProofs.Lemmas.{Each-weaker}
+use Rattle.sc_group_table.specs.machine.MachineDefinitions.{Group, frozen_of}
+use Rattle.sc_node_table.specs.NodeDefinitions.{ReplicaState}
+use Rattle.sc_words.proofs.PaxosProofs.PaxosLemmas.{Each-weaker}
 use Rattle.sc_scenario.specs.declared.scenario.scenarios.Scenario.{Scenario}
-use Rattle.sc_meaning.specs.sound.Definitions.{Player, as_nodes, births}
-use Rattle.sc_live_steps.specs.calm.Definitions.{StandsQuiet, Rows}
-use Rattle.sc_live_journals.specs.logs.Definitions.{IsGroupOf}
-use Rattle.sc_live_journals.proofs.LogsProofs.Lemmas.{views_are_replicas}
-use Rattle.sc_live_steps.specs.orders.Definitions.{bond_of, Asking, Bound, First, Here, Lone, Next, Scene, Turn, Deal, heard, heard_lead}
-use Rattle.sc_live_journals.specs.rows.Definitions.{view_at}
-use Rattle.sc_live_journals.specs.scenes.Definitions.{IsThere, scene_at}
-use Rattle.sc_live_plain.specs.Definitions.{replicas_after}
-use Rattle.sc_live_answers.specs.Definitions.{BeginsSo, Doer, FlightsBeginSo, HasDone, Promising, doer, heard_doer, opened, IsCalmJournal, RestsAt, IsAllowedBy, LockIsRecorded, ReplicasAreRecorded, AreSeen}
+use Rattle.sc_meaning.specs.sound.SoundDefinitions.{Player, as_nodes, births}
+use Rattle.sc_live_steps.specs.calm.CalmDefinitions.{StandsQuiet, Rows}
+use Rattle.sc_live_journals.specs.logs.LogDefinitions.{IsGroupOf}
+use Rattle.sc_live_journals.proofs.LogsProofs.GroupLogLemmas.{views_are_replicas}
+use Rattle.sc_live_steps.specs.orders.OrderDefinitions.{bond_of, Asking, Bound, First, Here, Lone, Next, Scene, Turn, Deal, heard, heard_lead}
+use Rattle.sc_live_journals.specs.rows.RowDefinitions.{view_at}
+use Rattle.sc_live_journals.specs.scenes.SceneDefinitions.{IsThere, scene_at}
+use Rattle.sc_live_plain.specs.PlainDefinitions.{replicas_after}
+use Rattle.sc_live_answers.specs.AnswerDefinitions.{BeginsSo, Doer, FlightsBeginSo, HasDone, Promising, doer, heard_doer, opened, IsCalmJournal, RestsAt, IsAllowedBy, LockIsRecorded, ReplicasAreRecorded, AreSeen}
 use Rattle.sc_live_answers.proofs.VotesProofs.OpenedTransactions.{ByOffer, ByWatch, HasBoth, IsBoundBy, IsOpened}
 use Rattle.sc_live_answers.proofs.WorkProofs.Parties.{Coordinates, coordinates, lead_bond, promised}
 use Rattle.sc_live_answers.proofs.QuietProofs.QuietLeaders.{leads_it, link_stands}

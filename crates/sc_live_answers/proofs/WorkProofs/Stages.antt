@@ -2,10 +2,10 @@
 use Rattle.std.proofs.Common.{◌≡◌, ℕ, true, List, [], ◌∷◌, ◌++◌, Some, ◌⊎◌, inl, inr, refl, sym, ◌∙◌, ap, subst}
 use Rattle.sc_base.specs.Definitions.{Among}
 use Rattle.sc_node_table.specs.Values.{Draw}
-use Rattle.sc_words.proofs.PaxosProofs.Lemmas.{Each-among}
-use Rattle.sc_live_steps.specs.orders.Definitions.{Turn, First, Lone, Next, Work, Opens, Scene, Deal, Leg, Mailed, Filed, Stage, Still, Ordered, Asks, SentOn, Weighs, Replied, Recorded, Closes, ClosesBoth, heard, closing, parties_of, heard_lead, leads_of, IsAt, TakesOutcome, LastTakes, OneTakes, TwoTakes, IsFreed, LastFreed, OneFreed, TwoFreed, OfQuestion, OfVote, OfOutcome, closed, filed_there, IsStepOf, ByRest, ByOrder, ByChange, ByDeal, ByPassing, ByAsking, ByTaking, ByVote, ByNo, ByHearing, ByDeciding, ByEnd}
-use Rattle.sc_live_steps.proofs.OrderStepsProofs.Lemmas.{tagged, tokens, found, work_of, no-work}
-use Rattle.sc_live_answers.specs.Definitions.{MustLead}
+use Rattle.sc_words.proofs.PaxosProofs.PaxosLemmas.{Each-among}
+use Rattle.sc_live_steps.specs.orders.OrderDefinitions.{Turn, First, Lone, Next, Work, Opens, Scene, Deal, Leg, Mailed, Filed, Stage, Still, Ordered, Asks, SentOn, Weighs, Replied, Recorded, Closes, ClosesBoth, heard, closing, parties_of, heard_lead, leads_of, IsAt, TakesOutcome, LastTakes, OneTakes, TwoTakes, IsFreed, LastFreed, OneFreed, TwoFreed, OfQuestion, OfVote, OfOutcome, closed, filed_there, IsStepOf, ByRest, ByOrder, ByChange, ByDeal, ByPassing, ByAsking, ByTaking, ByVote, ByNo, ByHearing, ByDeciding, ByEnd}
+use Rattle.sc_live_steps.proofs.OrderStepsProofs.OrderStepLemmas.{tagged, tokens, found, work_of, no-work}
+use Rattle.sc_live_answers.specs.AnswerDefinitions.{MustLead}
 
 -- ---- a group at whose leader work stands
 

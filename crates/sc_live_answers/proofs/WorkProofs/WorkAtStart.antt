@@ -8,21 +8,21 @@ use Rattle.sc_words.specs.declared.commands.orders.OrderRefusal.TheVariants.{Not
 use Rattle.sc_actor.specs.declared.rows.Event.TheVariants.{Told}
 use Rattle.sc_actor.specs.declared.rows.Input.TheVariants.{Told as ToldInput}
 use Rattle.sc_actor.specs.Definitions.{value, row_of, is_quiet}
-use Rattle.sc_client_table.specs.table.Definitions.{Client as ClientState}
-use Rattle.sc_live_orderly.specs.Definitions.{AreInTime}
-use Rattle.sc_live_orderly.proofs.Lemmas.{in_time_before, in_time_tidy, quiet-empty}
+use Rattle.sc_client_table.specs.table.TableDefinitions.{Client as ClientState}
+use Rattle.sc_live_orderly.specs.OrderlyDefinitions.{AreInTime}
+use Rattle.sc_live_orderly.proofs.OrderlyLemmas.{in_time_before, in_time_tidy, quiet-empty}
 use Rattle.sc_scenario.specs.scenario.Definitions.{IsBounded, ValidScenariosAreBounded}
 use Rattle.sc_scenario.specs.declared.scenario.scenarios.Scenario.{Scenario}
-use Rattle.sc_node_table.specs.Definitions.{result_sent, NodeState, replica_of, group_of_order, ordered_of, takes_name, untaken, ordered_row, ReplicaState, Place, name_of, next, last_slot}
-use Rattle.sc_meaning.specs.sound.Definitions.{Player, player_table, births, as_nodes, Lawful}
-use Rattle.sc_live_steps.specs.calm.Definitions.{players, IsAtRest, Rows}
-use Rattle.sc_live_steps.proofs.CalmStepsProofs.Lemmas.{put_others}
-use Rattle.sc_live_steps.proofs.OrderStepsProofs.Lemmas.{cases-draw}
-use Rattle.sc_live_journals.specs.rows.Definitions.{view_at, IsSeat, with_event, IsReplicasRow, IsWellKept}
-use Rattle.sc_live_journals.proofs.RowsProofs.Lemmas.{names_stay, found_name, rows_replicas, view_was, sent_is, Plays, Found, found_well, replay_well}
-use Rattle.sc_live_journals.specs.groups.Definitions.{ScenariosAreWellBorn}
-use Rattle.sc_live_journals.proofs.ScenesProofs.Lemmas.{client_leaves, now_is, all_sent}
-use Rattle.sc_live_answers.specs.Definitions.{Task, is_split, AreAtWork, IsTaskOf, OrdersBeginWork}
+use Rattle.sc_node_table.specs.NodeDefinitions.{result_sent, NodeState, replica_of, group_of_order, ordered_of, takes_name, untaken, ordered_row, ReplicaState, Place, name_of, next, last_slot}
+use Rattle.sc_meaning.specs.sound.SoundDefinitions.{Player, player_table, births, as_nodes, Lawful}
+use Rattle.sc_live_steps.specs.calm.CalmDefinitions.{players, IsAtRest, Rows}
+use Rattle.sc_live_steps.proofs.CalmStepsProofs.CalmStepLemmas.{put_others}
+use Rattle.sc_live_steps.proofs.OrderStepsProofs.OrderStepLemmas.{cases-draw}
+use Rattle.sc_live_journals.specs.rows.RowDefinitions.{view_at, IsSeat, with_event, IsReplicasRow, IsWellKept}
+use Rattle.sc_live_journals.proofs.RowsProofs.RowLemmas.{names_stay, found_name, rows_replicas, view_was, sent_is, Plays, Found, found_well, replay_well}
+use Rattle.sc_live_journals.specs.groups.GroupDefinitions.{ScenariosAreWellBorn}
+use Rattle.sc_live_journals.proofs.ScenesProofs.SceneLemmas.{client_leaves, now_is, all_sent}
+use Rattle.sc_live_answers.specs.AnswerDefinitions.{Task, is_split, AreAtWork, IsTaskOf, OrdersBeginWork}
 use Rattle.sc_live_answers.proofs.WorkProofs.Affairs.{Affair, BeginsFree, AreGood}
 use Rattle.sc_live_answers.proofs.WorkProofs.WorkInRows.{HeldSo, RowHolds}
 use Rattle.sc_live_answers.proofs.WorkProofs.OrderTasks.{affair_of, begins_free}
@@ -31,7 +31,7 @@ use Rattle.sc_live_answers.proofs.WorkProofs.WorkInPrefixes.{AreHeld, goes_on, h
 use Rattle.sc_live_answers.proofs.ChildrenProofs.DrawnNames.{drawn_nowhere, drawn_unknown}
 use Rattle.std.proofs.lemmas.Option.{same_Some}
 use Rattle.sc_live_answers.proofs.BallotsProofs.WellPlayers.{plays_of}
-use Rattle.sc_law_walks.proofs.Lemmas.{order_refused}
+use Rattle.sc_law_walks.proofs.WalkLemmas.{order_refused}
 use Rattle.sc_law_entries.proofs.NamesProofs.Fresh.{IsClient, replay_client}
 
 -- at one that rests nothing stands

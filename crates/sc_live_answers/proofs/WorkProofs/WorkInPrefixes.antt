@@ -4,21 +4,21 @@ use Rattle.std.proofs.lemmas.Bool.{cases_eq}
 use Rattle.sc_base.specs.Definitions.{Each}
 use Rattle.sc_node_table.specs.Values.{Draw, Command, Noop, Call, Base, OrderLine, Mail, MailBody, Request, Answer, Prepare, Promise, Accept, Accepted, Nack, Learn, Ask, Install, TxPrepare, TxVote, TxOutcome, TxElsewhere, TxWatch, TxWatched, Told as ToldMail, Seat, Event, Deliver, Row}
 use Rattle.sc_actor.specs.Definitions.{mails, numbered, System, row_of}
-use Rattle.sc_live_orderly.specs.Definitions.{is_born, rest, mail_for, taken, AreInTime}
-use Rattle.sc_live_orderly.proofs.Lemmas.{in_time_before, in_time_tidy, last_in_time, TakesFirst, is_born-from, takes_first, rest-calm}
-use Rattle.sc_words.proofs.PaxosProofs.Lemmas.{Each-append, Each-weaker}
-use Rattle.sc_law_entries.proofs.NamesProofs.Lemmas.{Each-drop}
+use Rattle.sc_live_orderly.specs.OrderlyDefinitions.{is_born, rest, mail_for, taken, AreInTime}
+use Rattle.sc_live_orderly.proofs.OrderlyLemmas.{in_time_before, in_time_tidy, last_in_time, TakesFirst, is_born-from, takes_first, rest-calm}
+use Rattle.sc_words.proofs.PaxosProofs.PaxosLemmas.{Each-append, Each-weaker}
+use Rattle.sc_law_entries.proofs.NamesProofs.NameLemmas.{Each-drop}
 use Rattle.sc_scenario.specs.declared.scenario.scenarios.Scenario.{Scenario}
-use Rattle.sc_node_table.specs.Definitions.{NodeState, replica_of, ReplicaState, mailed}
-use Rattle.sc_meaning.specs.sound.Definitions.{Player, player_table, births, as_nodes}
-use Rattle.sc_live_steps.specs.calm.Definitions.{players, Rows}
-use Rattle.sc_live_steps.specs.orders.Definitions.{works_in}
-use Rattle.sc_live_journals.specs.rows.Definitions.{view_at, IsSeat, with_event}
-use Rattle.sc_live_journals.proofs.RowsProofs.Lemmas.{view_others}
-use Rattle.sc_live_journals.specs.groups.Definitions.{ScenariosAreWellBorn}
-use Rattle.sc_live_journals.specs.scenes.Definitions.{IsWork, IsTaking}
-use Rattle.sc_live_journals.proofs.ScenesProofs.Lemmas.{calm_is}
-use Rattle.sc_live_answers.specs.Definitions.{Task, Does, DoesBy, CreatesBy, IsAtWork, SaysWork, AreAtWork, IsGuidedRow, DeliveriesKeepWork, WorkStandsAlone}
+use Rattle.sc_node_table.specs.NodeDefinitions.{NodeState, replica_of, ReplicaState, mailed}
+use Rattle.sc_meaning.specs.sound.SoundDefinitions.{Player, player_table, births, as_nodes}
+use Rattle.sc_live_steps.specs.calm.CalmDefinitions.{players, Rows}
+use Rattle.sc_live_steps.specs.orders.OrderDefinitions.{works_in}
+use Rattle.sc_live_journals.specs.rows.RowDefinitions.{view_at, IsSeat, with_event}
+use Rattle.sc_live_journals.proofs.RowsProofs.RowLemmas.{view_others}
+use Rattle.sc_live_journals.specs.groups.GroupDefinitions.{ScenariosAreWellBorn}
+use Rattle.sc_live_journals.specs.scenes.SceneDefinitions.{IsWork, IsTaking}
+use Rattle.sc_live_journals.proofs.ScenesProofs.SceneLemmas.{calm_is}
+use Rattle.sc_live_answers.specs.AnswerDefinitions.{Task, Does, DoesBy, CreatesBy, IsAtWork, SaysWork, AreAtWork, IsGuidedRow, DeliveriesKeepWork, WorkStandsAlone}
 use Rattle.sc_live_answers.proofs.WorkProofs.Affairs.{Affair, BeginsFree, Says, IsGood, AreGood}
 use Rattle.sc_live_answers.proofs.WorkProofs.AffairParts.{Kids}
 use Rattle.sc_live_answers.proofs.WorkProofs.WorkInRows.{HeldSo, RowHolds, delivery_holds, delivery_creates, delivery_unborn}

@@ -5,27 +5,27 @@ use Rattle.std.proofs.lemmas.Bool.{cond-false}
 use Rattle.sc_base.specs.Definitions.{Each}
 use Rattle.sc_node_table.specs.Values.{Ballot, Draw, Command, Base, OrderLine, AnswerBody, Mail, MailBody, Request, Answer, Prepare, Promise, Accept, Accepted, Nack, Learn, Ask, Install, TxPrepare, TxVote, TxWatch, Node, Client, Seat, Event, Deliver, Go, Got}
 use Rattle.sc_actor.specs.Definitions.{mails, numbered, value, row_of}
-use Rattle.sc_client_table.specs.table.Definitions.{Client as ClientState}
-use Rattle.sc_live_orderly.specs.Definitions.{AreInTime}
-use Rattle.sc_node_table.specs.Definitions.{NodeState, replica_of, with_replica, with_children, group_of_mail, may_come, unknown, routed, on_mail, absent, ReplicaState, Executed, name_of, next, born_replica, mailed, made_by, slots_ahead, listed}
-use Rattle.sc_law_walks.proofs.Lemmas.{either_way}
+use Rattle.sc_client_table.specs.table.TableDefinitions.{Client as ClientState}
+use Rattle.sc_live_orderly.specs.OrderlyDefinitions.{AreInTime}
+use Rattle.sc_node_table.specs.NodeDefinitions.{NodeState, replica_of, with_replica, with_children, group_of_mail, may_come, unknown, routed, on_mail, absent, ReplicaState, Executed, name_of, next, born_replica, mailed, made_by, slots_ahead, listed}
+use Rattle.sc_law_walks.proofs.WalkLemmas.{either_way}
 use Rattle.sc_scenario.specs.declared.scenario.scenarios.Scenario.{Scenario}
-use Rattle.sc_meaning.specs.sound.Definitions.{Player, player_table, births, as_nodes}
-use Rattle.sc_live_steps.specs.calm.Definitions.{players, Rows}
-use Rattle.sc_live_steps.proofs.CalmStepsProofs.Lemmas.{put_others}
-use Rattle.sc_live_steps.proofs.OrderStepsProofs.Lemmas.{cases-draw}
-use Rattle.sc_live_steps.specs.following.Definitions.{Mark, Asks, Prepares, mark_of, IsFit, from_slot_of}
-use Rattle.sc_live_steps.proofs.FollowingProofs.Lemmas.{prepares_are_known, same_mark}
-use Rattle.sc_live_journals.specs.rows.Definitions.{view_at, next_in, progress_at, TakesMail, HoldsReplica, IsSeat, with_event, IsReplicasRow, IsWellKept}
-use Rattle.sc_live_journals.proofs.RowsProofs.Lemmas.{names_stay, fit, found_name, rows_replicas, view_was, sent_is, Plays, Found, found_well, replay_well}
-use Rattle.sc_live_journals.specs.groups.Definitions.{dated_at, IsLedScene, Delivers, ScenariosAreWellBorn}
-use Rattle.sc_live_journals.proofs.GroupsProofs.Lemmas.{scene, dated_in, taken_dated, rows_dated}
-use Rattle.sc_live_answers.specs.Definitions.{IsGuided, IsNamedGuide, MeetsOrder}
-use Rattle.sc_live_journals.specs.scenes.Definitions.{FindsReplica, AtLeader, AtAnother, LeaderFinds, BesideFinds, NodeFinds, IsTaking}
-use Rattle.sc_live_journals.proofs.ScenesProofs.Lemmas.{client_leaves, got_nothing, unknown_apart, OneOf, all_children, all_sent, each_is, now_is}
+use Rattle.sc_meaning.specs.sound.SoundDefinitions.{Player, player_table, births, as_nodes}
+use Rattle.sc_live_steps.specs.calm.CalmDefinitions.{players, Rows}
+use Rattle.sc_live_steps.proofs.CalmStepsProofs.CalmStepLemmas.{put_others}
+use Rattle.sc_live_steps.proofs.OrderStepsProofs.OrderStepLemmas.{cases-draw}
+use Rattle.sc_live_steps.specs.following.FollowingDefinitions.{Mark, Asks, Prepares, mark_of, IsFit, from_slot_of}
+use Rattle.sc_live_steps.proofs.FollowingProofs.FollowingLemmas.{prepares_are_known, same_mark}
+use Rattle.sc_live_journals.specs.rows.RowDefinitions.{view_at, next_in, progress_at, TakesMail, HoldsReplica, IsSeat, with_event, IsReplicasRow, IsWellKept}
+use Rattle.sc_live_journals.proofs.RowsProofs.RowLemmas.{names_stay, fit, found_name, rows_replicas, view_was, sent_is, Plays, Found, found_well, replay_well}
+use Rattle.sc_live_journals.specs.groups.GroupDefinitions.{dated_at, IsLedScene, Delivers, ScenariosAreWellBorn}
+use Rattle.sc_live_journals.proofs.GroupsProofs.GroupLemmas.{scene, dated_in, taken_dated, rows_dated}
+use Rattle.sc_live_answers.specs.AnswerDefinitions.{IsGuided, IsNamedGuide, MeetsOrder}
+use Rattle.sc_live_journals.specs.scenes.SceneDefinitions.{FindsReplica, AtLeader, AtAnother, LeaderFinds, BesideFinds, NodeFinds, IsTaking}
+use Rattle.sc_live_journals.proofs.ScenesProofs.SceneLemmas.{client_leaves, got_nothing, unknown_apart, OneOf, all_children, all_sent, each_is, now_is}
 use Rattle.sc_live_answers.proofs.WorkProofs.Affairs.{Affair, BeginsFree, Says, IsGood, AreGood}
 use Rattle.sc_live_answers.proofs.WorkProofs.AffairParts.{Held, AllDo, Fly, Wait, Fine, Kids}
-use Rattle.sc_group_table.specs.machine.Definitions.{child_by, Group}
+use Rattle.sc_group_table.specs.machine.MachineDefinitions.{child_by, Group}
 use Rattle.sc_live_answers.proofs.ChildrenProofs.UnknownChildren.{IsUnborn, made_unborn}
 use Rattle.sc_live_answers.proofs.WorkProofs.AffairRows.{Hears, mailed_fine, mailed_kids, made_fine}
 use Rattle.std.proofs.lemmas.Option.{same_Some}

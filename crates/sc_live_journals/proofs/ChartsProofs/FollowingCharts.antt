@@ -4,12 +4,12 @@ use Rattle.sc_base.specs.Definitions.{Each}
 use Rattle.sc_node_table.specs.Values.{Draw, OrderLine, Mail, MailBody, Answer, TxElsewhere, Node, Client, Seat, Row}
 use Rattle.sc_mail.specs.declared.bodies.AnswerBody.TheVariants as Says
 use Rattle.sc_actor.specs.Definitions.{value, System, is_quiet}
-use Rattle.sc_live_orderly.specs.Definitions.{under_way, AreInTime}
-use Rattle.sc_live_orderly.proofs.Lemmas.{in_time_tidy}
-use Rattle.sc_meaning.specs.sound.Definitions.{Player, player_table}
-use Rattle.sc_live_steps.specs.calm.Definitions.{players, Chart, SeeksNoMore, MayFollow, Ways, asked_owes, elsewhere_owes, body_owes, mail_owes, client_owes, search_owes, Rows, is_led}
-use Rattle.sc_live_steps.proofs.CalmStepsProofs.Lemmas.{quiet_mail}
-use Rattle.sc_live_journals.specs.charts.Definitions.{all_replicas, asked_in, names_at, far_at, reach_in, chart_at, WaitsForNone, AsksSame, ChartsFollow, QuietChartsRest, quiet_prefix}
+use Rattle.sc_live_orderly.specs.OrderlyDefinitions.{under_way, AreInTime}
+use Rattle.sc_live_orderly.proofs.OrderlyLemmas.{in_time_tidy}
+use Rattle.sc_meaning.specs.sound.SoundDefinitions.{Player, player_table}
+use Rattle.sc_live_steps.specs.calm.CalmDefinitions.{players, Chart, SeeksNoMore, MayFollow, Ways, asked_owes, elsewhere_owes, body_owes, mail_owes, client_owes, search_owes, Rows, is_led}
+use Rattle.sc_live_steps.proofs.CalmStepsProofs.CalmStepLemmas.{quiet_mail}
+use Rattle.sc_live_journals.specs.charts.ChartDefinitions.{all_replicas, asked_in, names_at, far_at, reach_in, chart_at, WaitsForNone, AsksSame, ChartsFollow, QuietChartsRest, quiet_prefix}
 use Rattle.sc_live_journals.proofs.ChartsProofs.LastQuietPrefixes.{prefix_stays}
 use Rattle.sc_live_journals.proofs.ChartsProofs.LedNames.{Extends, names_grow}
 

@@ -2,8 +2,8 @@
 use Rattle.std.proofs.Common.{◌≡◌, ℕ, zero, suc, ◌+◌, ◌-◌, ◌≤◌, true, length, List, Option, Some, None, refl, sym, ◌∙◌, ap, arith}
 use Rattle.std.specs.Prelude.{is_some}
 use Rattle.sc_node_table.specs.Values.{Draw, Route}
-use Rattle.sc_node_table.specs.Definitions.{ReplicaState}
-use Rattle.sc_live_journals.specs.charts.Definitions.{went_in, ends_by, GoInTurn, EndsFall}
+use Rattle.sc_node_table.specs.NodeDefinitions.{ReplicaState}
+use Rattle.sc_live_journals.specs.charts.ChartDefinitions.{went_in, ends_by, GoInTurn, EndsFall}
 
 module _ (names : List Draw) (replicas : List ReplicaState) (turn : Draw → ℕ) (goes : GoInTurn names replicas turn) where
   -- one that stands is away by none

@@ -4,9 +4,9 @@ use Rattle.std.proofs.lemmas.Bool.{cond-false, cond_both}
 use Rattle.std.proofs.lemmas.List.{length_push, take-append-le, take_all}
 use Rattle.sc_node_table.specs.Values.{OrderLine, Mail, Row}
 use Rattle.sc_actor.specs.Definitions.{System, is_quiet}
-use Rattle.sc_meaning.specs.sound.Definitions.{Player}
-use Rattle.sc_live_steps.specs.calm.Definitions.{Rows}
-use Rattle.sc_live_journals.specs.charts.Definitions.{quiet_upto, quiet_prefix}
+use Rattle.sc_meaning.specs.sound.SoundDefinitions.{Player}
+use Rattle.sc_live_steps.specs.calm.CalmDefinitions.{Rows}
+use Rattle.sc_live_journals.specs.charts.ChartDefinitions.{quiet_upto, quiet_prefix}
 
 -- ---- quiet prefixes
 

@@ -7,12 +7,12 @@ use Rattle.sc_base.specs.Definitions.{Among, Each, same_draw}
 use Rattle.sc_node_table.specs.Values.{Draw, OrderLine, Mail, Node, Client, Seat, Row}
 use Rattle.sc_base.proofs.Lemmas.{draw_is, same_name}
 use Rattle.sc_actor.specs.Definitions.{value}
-use Rattle.sc_words.proofs.PaxosProofs.Lemmas.{Among-filter, Each-passes, find_found}
-use Rattle.sc_node_table.specs.Definitions.{replica_of, ReplicaState, name_of}
-use Rattle.sc_live_orderly.proofs.Lemmas.{Each-append}
-use Rattle.sc_meaning.specs.sound.Definitions.{Player, player_table}
-use Rattle.sc_live_steps.specs.calm.Definitions.{StandsOnce, Rows, is_leading, leads, is_led}
-use Rattle.sc_live_journals.specs.charts.Definitions.{replicas_of, all_replicas, with_names, led_names, names_upto, names_at, LedStandOnce}
+use Rattle.sc_words.proofs.PaxosProofs.PaxosLemmas.{Among-filter, Each-passes, find_found}
+use Rattle.sc_node_table.specs.NodeDefinitions.{replica_of, ReplicaState, name_of}
+use Rattle.sc_live_orderly.proofs.OrderlyLemmas.{Each-append}
+use Rattle.sc_meaning.specs.sound.SoundDefinitions.{Player, player_table}
+use Rattle.sc_live_steps.specs.calm.CalmDefinitions.{StandsOnce, Rows, is_leading, leads, is_led}
+use Rattle.sc_live_journals.specs.charts.ChartDefinitions.{replicas_of, all_replicas, with_names, led_names, names_upto, names_at, LedStandOnce}
 
 -- whether a name stands among some
 abbrev is_seen : Draw → List Draw → Bool

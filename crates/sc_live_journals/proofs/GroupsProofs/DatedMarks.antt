@@ -3,15 +3,15 @@ use Rattle.std.proofs.Common.{◌≡◌, ℕ, List, [], ◌∷◌, ◌++◌, Opt
 use Rattle.std.specs.Option.{option_map}
 use Rattle.sc_node_table.specs.Values.{Draw, Base, OrderLine, Mail, Seat, Event, Deliver, Row}
 use Rattle.sc_actor.specs.Definitions.{mails, numbered}
-use Rattle.sc_live_orderly.specs.Definitions.{AreInTime}
-use Rattle.sc_live_orderly.proofs.Lemmas.{in_time_before, in_time_tidy, last_in_time}
-use Rattle.sc_node_table.specs.Definitions.{listed}
-use Rattle.sc_meaning.specs.sound.Definitions.{Player}
-use Rattle.sc_live_steps.specs.calm.Definitions.{players, Rows}
-use Rattle.sc_live_steps.specs.following.Definitions.{Dated, from_slot_of, dated_of, dated_for, IsDatedRow, Mark, mark_of, Course}
-use Rattle.sc_live_journals.specs.rows.Definitions.{next_in, progress_at, mark_in, taken_mark}
-use Rattle.sc_live_journals.specs.groups.Definitions.{dated_at}
-use Rattle.sc_live_journals.proofs.RowsProofs.Lemmas.{view_others}
+use Rattle.sc_live_orderly.specs.OrderlyDefinitions.{AreInTime}
+use Rattle.sc_live_orderly.proofs.OrderlyLemmas.{in_time_before, in_time_tidy, last_in_time}
+use Rattle.sc_node_table.specs.NodeDefinitions.{listed}
+use Rattle.sc_meaning.specs.sound.SoundDefinitions.{Player}
+use Rattle.sc_live_steps.specs.calm.CalmDefinitions.{players, Rows}
+use Rattle.sc_live_steps.specs.following.FollowingDefinitions.{Dated, from_slot_of, dated_of, dated_for, IsDatedRow, Mark, mark_of, Course}
+use Rattle.sc_live_journals.specs.rows.RowDefinitions.{next_in, progress_at, mark_in, taken_mark}
+use Rattle.sc_live_journals.specs.groups.GroupDefinitions.{dated_at}
+use Rattle.sc_live_journals.proofs.RowsProofs.RowLemmas.{view_others}
 use Rattle.sc_live_journals.proofs.RowsProofs.RowMarks.{row_reads}
 
 -- the mark of a mail with its slot, if there is one

@@ -3,15 +3,15 @@ use Rattle.std.proofs.Common.{◌≡◌, ℕ, ◌+◌, ◌<◌, true, List, None
 use Rattle.std.proofs.lemmas.Bool.{eqb-true}
 use Rattle.sc_node_table.specs.Values.{Base, OrderLine, Seat, Event}
 use Rattle.sc_base.specs.Definitions.{IsRoster, is_member}
-use Rattle.sc_live_orderly.specs.Definitions.{AreInTime}
-use Rattle.sc_node_table.specs.Definitions.{ReplicaState, born_replica, slots_ahead}
-use Rattle.sc_meaning.specs.sound.Definitions.{Player}
-use Rattle.sc_live_steps.specs.calm.Definitions.{players, Rows}
-use Rattle.sc_live_steps.specs.following.Definitions.{Course, Sets, SlotLeaders, IsOrderly}
-use Rattle.sc_live_steps.proofs.FollowingProofs.Lemmas.{leaders_begin}
-use Rattle.sc_live_journals.specs.rows.Definitions.{view_at, begun_course, IsLedBy, with_event, IsIdleIn, IsBornOr}
-use Rattle.sc_live_journals.proofs.RowsProofs.Lemmas.{same_some, leads_stay}
-use Rattle.sc_live_journals.specs.groups.Definitions.{RowPasses, IsLedStep, Ends, hint_in, IsWellLed, IsLogOf, MailsKeepLed, OthersKeepLed, IsStage}
+use Rattle.sc_live_orderly.specs.OrderlyDefinitions.{AreInTime}
+use Rattle.sc_node_table.specs.NodeDefinitions.{ReplicaState, born_replica, slots_ahead}
+use Rattle.sc_meaning.specs.sound.SoundDefinitions.{Player}
+use Rattle.sc_live_steps.specs.calm.CalmDefinitions.{players, Rows}
+use Rattle.sc_live_steps.specs.following.FollowingDefinitions.{Course, Sets, SlotLeaders, IsOrderly}
+use Rattle.sc_live_steps.proofs.FollowingProofs.FollowingLemmas.{leaders_begin}
+use Rattle.sc_live_journals.specs.rows.RowDefinitions.{view_at, begun_course, IsLedBy, with_event, IsIdleIn, IsBornOr}
+use Rattle.sc_live_journals.proofs.RowsProofs.RowLemmas.{same_some, leads_stay}
+use Rattle.sc_live_journals.specs.groups.GroupDefinitions.{RowPasses, IsLedStep, Ends, hint_in, IsWellLed, IsLogOf, MailsKeepLed, OthersKeepLed, IsStage}
 use Rattle.sc_live_journals.proofs.GroupsProofs.LearningReplicas.{learns}
 use Rattle.sc_live_journals.proofs.GroupsProofs.NodeMail.{accepts, prepares, installs, passes_vote, passes_promise, stays_aside, makes, stays_ordered}
 use Rattle.sc_live_journals.proofs.GroupsProofs.Rows.{rows_keep_led}

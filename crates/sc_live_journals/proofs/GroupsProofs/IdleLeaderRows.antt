@@ -2,11 +2,11 @@
 use Rattle.std.proofs.Common.{◌≡◌, ℕ, ◌&&◌, not, Bool, true, false, cond, List, [], ◌∷◌, ◌++◌, refl, ap}
 use Rattle.sc_base.specs.Definitions.{Drawer, same_ballot, is_member}
 use Rattle.sc_node_table.specs.Values.{Ballot, Command, OrderLine, MailBody, Promise, Report}
-use Rattle.sc_words.specs.paxos.Definitions.{LeaderState, promise_counted}
+use Rattle.sc_words.specs.paxos.PaxosDefinitions.{LeaderState, promise_counted}
 use Rattle.sc_node_table.specs.declared.ReplicaInput.TheVariants as Given
-use Rattle.sc_node_table.specs.Definitions.{pumped, ReplicaState, name_of, next, mailed, stepped, leads, promise_row}
-use Rattle.sc_live_steps.specs.following.Definitions.{Progress, Sets, IsLeadOf, IsAside, MayOffer}
-use Rattle.sc_live_steps.proofs.FollowingProofs.Lemmas.{aside_is, order_is, pumps_offer}
+use Rattle.sc_node_table.specs.NodeDefinitions.{pumped, ReplicaState, name_of, next, mailed, stepped, leads, promise_row}
+use Rattle.sc_live_steps.specs.following.FollowingDefinitions.{Progress, Sets, IsLeadOf, IsAside, MayOffer}
+use Rattle.sc_live_steps.proofs.FollowingProofs.FollowingLemmas.{aside_is, order_is, pumps_offer}
 
 module _ (at : Sets) (now : Progress) (r : ReplicaState) (was : IsLeadOf at now r) where
   -- one with other queues may offer as well

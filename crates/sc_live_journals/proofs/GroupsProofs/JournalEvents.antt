@@ -6,17 +6,17 @@ use Rattle.sc_node_table.specs.Values.{Draw, Base, OrderLine, Mail, MailBody, Pr
 use Rattle.sc_base.proofs.Lemmas.{draw_is, same_name}
 use Rattle.sc_actor.specs.declared.rows.Event.TheVariants.{Told}
 use Rattle.sc_actor.specs.Definitions.{numbered, mails, value, row_of}
-use Rattle.sc_live_orderly.specs.Definitions.{IsTidy, IsCalmEvent, AreInTime}
-use Rattle.sc_live_orderly.proofs.Lemmas.{in_time_before, in_time_tidy, takes_first, is_born-from}
-use Rattle.sc_words.proofs.PaxosProofs.Lemmas.{Each-among}
-use Rattle.sc_node_table.specs.Definitions.{NodeState, replica_of, group_of_mail, may_come, group_of_order, ordered_row, ReplicaState, mailed}
-use Rattle.sc_meaning.specs.sound.Definitions.{Player, player_table}
-use Rattle.sc_live_steps.specs.calm.Definitions.{players, Rows}
-use Rattle.sc_live_steps.specs.following.Definitions.{Teaches, mark_of, Course, Sets, SlotLeaders, IsAside}
-use Rattle.sc_live_steps.proofs.FollowingProofs.Lemmas.{same_mark}
-use Rattle.sc_live_journals.specs.rows.Definitions.{PlaysAlone, view_at, mark_in, TakesMail, HoldsReplica, IsOwnMail, IsOwnAsking, IsSeat, with_event, LeavesAlone, IsReplicasRow, IsWellKept}
-use Rattle.sc_live_journals.proofs.RowsProofs.Lemmas.{ballots_own, fit, others_idle, rows_replicas, view_was, Plays, Found, found_well, replay_well}
-use Rattle.sc_live_journals.specs.groups.Definitions.{IsLedStep, Ends, IsWellLed, IsOfLog, CountsAsMember, IsLedScene, IsWellPlayer, AreWellBorn, IsRowOf, Delivers, HasOneLog, IsSentSo, EventsGoOn}
+use Rattle.sc_live_orderly.specs.OrderlyDefinitions.{IsTidy, IsCalmEvent, AreInTime}
+use Rattle.sc_live_orderly.proofs.OrderlyLemmas.{in_time_before, in_time_tidy, takes_first, is_born-from}
+use Rattle.sc_words.proofs.PaxosProofs.PaxosLemmas.{Each-among}
+use Rattle.sc_node_table.specs.NodeDefinitions.{NodeState, replica_of, group_of_mail, may_come, group_of_order, ordered_row, ReplicaState, mailed}
+use Rattle.sc_meaning.specs.sound.SoundDefinitions.{Player, player_table}
+use Rattle.sc_live_steps.specs.calm.CalmDefinitions.{players, Rows}
+use Rattle.sc_live_steps.specs.following.FollowingDefinitions.{Teaches, mark_of, Course, Sets, SlotLeaders, IsAside}
+use Rattle.sc_live_steps.proofs.FollowingProofs.FollowingLemmas.{same_mark}
+use Rattle.sc_live_journals.specs.rows.RowDefinitions.{PlaysAlone, view_at, mark_in, TakesMail, HoldsReplica, IsOwnMail, IsOwnAsking, IsSeat, with_event, LeavesAlone, IsReplicasRow, IsWellKept}
+use Rattle.sc_live_journals.proofs.RowsProofs.RowLemmas.{ballots_own, fit, others_idle, rows_replicas, view_was, Plays, Found, found_well, replay_well}
+use Rattle.sc_live_journals.specs.groups.GroupDefinitions.{IsLedStep, Ends, IsWellLed, IsOfLog, CountsAsMember, IsLedScene, IsWellPlayer, AreWellBorn, IsRowOf, Delivers, HasOneLog, IsSentSo, EventsGoOn}
 use Rattle.sc_live_journals.proofs.GroupsProofs.LeaderEvents.{leaders_keep_led}
 use Rattle.sc_live_journals.proofs.GroupsProofs.NodeMail.{scene}
 use Rattle.sc_live_journals.proofs.GroupsProofs.IdleEvents.{others_keep_led, mails_keep_led}

@@ -5,15 +5,15 @@ use Rattle.sc_base.specs.Definitions.{Each, is_member}
 use Rattle.sc_node_table.specs.Values.{Ballot, Draw, Base, OrderLine, Mail, Promise, Accepted, Seat, Event, Deliver}
 use Rattle.sc_actor.specs.declared.rows.Event.TheVariants.{Told}
 use Rattle.sc_actor.specs.Definitions.{mails}
-use Rattle.sc_live_orderly.specs.Definitions.{AreInTime}
-use Rattle.sc_node_table.specs.Definitions.{NodeState, replica_of, group_of_mail, group_of_order, ordered_row, ReplicaState, Place, name_of, next, mailed}
-use Rattle.sc_meaning.specs.sound.Definitions.{Player}
-use Rattle.sc_live_steps.specs.calm.Definitions.{players, Rows}
-use Rattle.sc_live_steps.specs.following.Definitions.{AsksLow, Mark, Votes, Promises, mark_of, Course, Progress, Sets, members_at, SlotLeaders, LeavesLast, IsLeadOf, LeadsInto, IsAside, DecidesNext, IsOrderly, CountsOwn}
-use Rattle.sc_live_steps.proofs.FollowingProofs.Lemmas.{acts_stop_alone, rows_ask_next, rows_lead, same_mark, order_is_kept, leaders_count_own, leaders_leave_last}
-use Rattle.sc_live_journals.specs.rows.Definitions.{view_at, progress_at, mark_in, taken_mark, IsScene, TakesMail, HoldsReplica, led_course, LedBy, with_event, IsReplicasRow}
-use Rattle.sc_live_journals.proofs.RowsProofs.Lemmas.{steps_lead, aside_mark, told_is, leads_here, named, row_to, taken, found_name, rows_replicas}
-use Rattle.sc_live_journals.specs.groups.Definitions.{RowLeads, IsLedStep, Ends, IsOfLog, RestsBy, CountsTo, CountsAsMember, IsLedScene, LeadersKeepLed, IsStateFrom, LeadsWell}
+use Rattle.sc_live_orderly.specs.OrderlyDefinitions.{AreInTime}
+use Rattle.sc_node_table.specs.NodeDefinitions.{NodeState, replica_of, group_of_mail, group_of_order, ordered_row, ReplicaState, Place, name_of, next, mailed}
+use Rattle.sc_meaning.specs.sound.SoundDefinitions.{Player}
+use Rattle.sc_live_steps.specs.calm.CalmDefinitions.{players, Rows}
+use Rattle.sc_live_steps.specs.following.FollowingDefinitions.{AsksLow, Mark, Votes, Promises, mark_of, Course, Progress, Sets, members_at, SlotLeaders, LeavesLast, IsLeadOf, LeadsInto, IsAside, DecidesNext, IsOrderly, CountsOwn}
+use Rattle.sc_live_steps.proofs.FollowingProofs.FollowingLemmas.{acts_stop_alone, rows_ask_next, rows_lead, same_mark, order_is_kept, leaders_count_own, leaders_leave_last}
+use Rattle.sc_live_journals.specs.rows.RowDefinitions.{view_at, progress_at, mark_in, taken_mark, IsScene, TakesMail, HoldsReplica, led_course, LedBy, with_event, IsReplicasRow}
+use Rattle.sc_live_journals.proofs.RowsProofs.RowLemmas.{steps_lead, aside_mark, told_is, leads_here, named, row_to, taken, found_name, rows_replicas}
+use Rattle.sc_live_journals.specs.groups.GroupDefinitions.{RowLeads, IsLedStep, Ends, IsOfLog, RestsBy, CountsTo, CountsAsMember, IsLedScene, LeadersKeepLed, IsStateFrom, LeadsWell}
 use Rattle.sc_live_journals.proofs.GroupsProofs.IdleLeaderRows.{asides_stay, orders_stay, promises_stay}
 use Rattle.sc_live_journals.proofs.GroupsProofs.NodeMail.{scene, stage}
 use Rattle.sc_live_journals.proofs.GroupsProofs.Rows.{rows_keep_led}

@@ -5,12 +5,12 @@ use Rattle.std.specs.Option.{option_map}
 use Rattle.std.proofs.lemmas.Bool.{eq-eqb, lt-ltb, le-ltb, cases_lt}
 use Rattle.sc_base.specs.Definitions.{Each}
 use Rattle.sc_node_table.specs.Values.{Command, Flight}
-use Rattle.sc_words.specs.paxos.Definitions.{flight_at, kept_voters}
-use Rattle.sc_node_table.specs.Definitions.{has_room, ReplicaState, next, last_slot, either, flying, taken_at, at_slot}
-use Rattle.sc_live_steps.specs.following.Definitions.{Progress, Sets, IsLeadOf}
-use Rattle.sc_live_journals.specs.rows.Definitions.{IsEvenAt, progress_at}
-use Rattle.sc_live_journals.proofs.RowsProofs.Lemmas.{quiet_rests}
-use Rattle.sc_live_journals.specs.groups.Definitions.{IsCleared, QuietLeadersRest, IsLedQuietly}
+use Rattle.sc_words.specs.paxos.PaxosDefinitions.{flight_at, kept_voters}
+use Rattle.sc_node_table.specs.NodeDefinitions.{has_room, ReplicaState, next, last_slot, either, flying, taken_at, at_slot}
+use Rattle.sc_live_steps.specs.following.FollowingDefinitions.{Progress, Sets, IsLeadOf}
+use Rattle.sc_live_journals.specs.rows.RowDefinitions.{IsEvenAt, progress_at}
+use Rattle.sc_live_journals.proofs.RowsProofs.RowLemmas.{quiet_rests}
+use Rattle.sc_live_journals.specs.groups.GroupDefinitions.{IsCleared, QuietLeadersRest, IsLedQuietly}
 use Rattle.sc_live_journals.proofs.GroupsProofs.QuietGroups.{quiet_groups_led}
 
 -- what is asked of none of three is the other one

@@ -5,18 +5,18 @@ use Rattle.std.proofs.lemmas.Bool.{cases_lt, and_parts, leb-true}
 use Rattle.sc_base.specs.Definitions.{Each, most_nodes, IsRoster, is_member, least_of}
 use Rattle.sc_node_table.specs.Values.{Ballot, Draw, Command, Base, Route, Mail, Learn, Seat, Deliver}
 use Rattle.sc_actor.specs.Definitions.{mails}
-use Rattle.sc_words.specs.paxos.Definitions.{below}
-use Rattle.sc_words.proofs.PaxosProofs.Lemmas.{below_from, at_least_below}
-use Rattle.sc_node_table.specs.Definitions.{entered, is_among, NodeState, group_of_mail, is_node, ReplicaState, Place, name_of, next, members, last_slot, forgotten, mailed}
-use Rattle.sc_law_walks.proofs.Lemmas.{entered_next}
-use Rattle.sc_meaning.specs.sound.Definitions.{Player}
-use Rattle.sc_live_steps.specs.calm.Definitions.{players, Rows}
-use Rattle.sc_live_steps.specs.following.Definitions.{IsOther, Dated, IsNoPrepare, dated_for, Mark, Asks, Votes, Teaches, Installs, Prepares, Promises, mark_of, pledged, Course, Progress, Sets, members_at, IsOpen, IsHeir, SlotLeaders, hint_by, AreAt, AreLearntLast, IsInTime, Stays, MayElect, next_ballot}
-use Rattle.sc_live_steps.proofs.FollowingProofs.Lemmas.{elections_ask_next, tables_elect, elections_lead, nodes_heed, least_in, tables, same_mark, hints_follow, heirs_elect}
-use Rattle.sc_live_journals.specs.rows.Definitions.{IsNextLead, promise_in, progress_at, marks_at, taken_mark, IsScene, TakesMail, HoldsReplica, WaitsStill, elected_course, IsReplicasRow}
+use Rattle.sc_words.specs.paxos.PaxosDefinitions.{below}
+use Rattle.sc_words.proofs.PaxosProofs.PaxosLemmas.{below_from, at_least_below}
+use Rattle.sc_node_table.specs.NodeDefinitions.{entered, is_among, NodeState, group_of_mail, is_node, ReplicaState, Place, name_of, next, members, last_slot, forgotten, mailed}
+use Rattle.sc_law_walks.proofs.WalkLemmas.{entered_next}
+use Rattle.sc_meaning.specs.sound.SoundDefinitions.{Player}
+use Rattle.sc_live_steps.specs.calm.CalmDefinitions.{players, Rows}
+use Rattle.sc_live_steps.specs.following.FollowingDefinitions.{IsOther, Dated, IsNoPrepare, dated_for, Mark, Asks, Votes, Teaches, Installs, Prepares, Promises, mark_of, pledged, Course, Progress, Sets, members_at, IsOpen, IsHeir, SlotLeaders, hint_by, AreAt, AreLearntLast, IsInTime, Stays, MayElect, next_ballot}
+use Rattle.sc_live_steps.proofs.FollowingProofs.FollowingLemmas.{elections_ask_next, tables_elect, elections_lead, nodes_heed, least_in, tables, same_mark, hints_follow, heirs_elect}
+use Rattle.sc_live_journals.specs.rows.RowDefinitions.{IsNextLead, promise_in, progress_at, marks_at, taken_mark, IsScene, TakesMail, HoldsReplica, WaitsStill, elected_course, IsReplicasRow}
 use Rattle.sc_live_journals.proofs.RowsProofs.RowMarks.{HasMark}
-use Rattle.sc_live_journals.proofs.RowsProofs.Lemmas.{elections_keep, entered_name, entered_me, apart_off, row_in, head, all_fit, within, no_lead, named, row_to, fit, taken, steps_elect}
-use Rattle.sc_live_journals.specs.groups.Definitions.{RowElects, IsLedStep, Ends, hint_in, hints_at, IsOfLog, HasRounds, IsLedScene, ElectsWell}
+use Rattle.sc_live_journals.proofs.RowsProofs.RowLemmas.{elections_keep, entered_name, entered_me, apart_off, row_in, head, all_fit, within, no_lead, named, row_to, fit, taken, steps_elect}
+use Rattle.sc_live_journals.specs.groups.GroupDefinitions.{RowElects, IsLedStep, Ends, hint_in, hints_at, IsOfLog, HasRounds, IsLedScene, ElectsWell}
 use Rattle.sc_live_journals.proofs.GroupsProofs.NodeMail.{scene, stage, takes_further}
 use Rattle.sc_live_journals.proofs.GroupsProofs.Rows.{rows_keep_led}
 

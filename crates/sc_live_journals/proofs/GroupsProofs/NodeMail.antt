@@ -7,16 +7,16 @@ use Rattle.sc_base.specs.Definitions.{same_ballot, is_member}
 use Rattle.sc_node_table.specs.Values.{Ballot, Draw, Command, Base, OrderLine, Mail, Prepare, Promise, Accept, Accepted, Install, Seat, Event, Deliver, Report}
 use Rattle.sc_actor.specs.declared.rows.Event.TheVariants.{Told}
 use Rattle.sc_actor.specs.Definitions.{mails, row_of}
-use Rattle.sc_live_orderly.specs.Definitions.{AreInTime}
-use Rattle.sc_words.specs.paxos.Definitions.{below, LeaderState, flight_at, promise_counted}
-use Rattle.sc_node_table.specs.Definitions.{NodeState, replica_of, group_of_mail, group_of_order, ordered_row, pumped, ReplicaState, Place, Executed, childless, listed, either, taken_at, name_of, next, first_ballot, set_at, mailed, made_by, at_slot, leads, promise_row, voted, accepted_row}
-use Rattle.sc_meaning.specs.sound.Definitions.{Player, player_table}
-use Rattle.sc_live_steps.specs.calm.Definitions.{players, Rows}
-use Rattle.sc_live_steps.specs.following.Definitions.{from_slot_of, Mark, Asks, Votes, Installs, Prepares, Promises, mark_of, Course, Progress, Sets, members_at, SlotLeaders, hint_by, AreHeeded, IsOther, GoesBy, IsAside, AreApart, HasBallot, IsOrderly, IsRow, IsCount, marks_for, StepsBy}
-use Rattle.sc_live_steps.proofs.FollowingProofs.Lemmas.{prepares_are_known, nodes_heed, tables, same_mark, states, hints_follow}
-use Rattle.sc_live_journals.specs.rows.Definitions.{IsUnmoved, view_at, next_in, promise_in, progress_at, marks_at, mark_in, taken_mark, LeavesLead, IsScene, TakesMail, HoldsReplica, WaitsStill, with_event, IsReplicasRow}
-use Rattle.sc_live_journals.proofs.RowsProofs.Lemmas.{asides_still, same_some, aside_mark, apart_off, goes_on, idle_apart, waits_here, row_in, head, all_fit, known, within, no_lead, named, row_to, fit, taken, leads_stay, steps_take, states_take, uncounted_pass, still_idle, rows_replicas}
-use Rattle.sc_live_journals.specs.groups.Definitions.{RowRests, RowTakes, RowMakes, IsLedStep, Ends, hint_in, hints_at, dated_at, IsLogsState, IsLedScene, IsStage, LeavesWell}
+use Rattle.sc_live_orderly.specs.OrderlyDefinitions.{AreInTime}
+use Rattle.sc_words.specs.paxos.PaxosDefinitions.{below, LeaderState, flight_at, promise_counted}
+use Rattle.sc_node_table.specs.NodeDefinitions.{NodeState, replica_of, group_of_mail, group_of_order, ordered_row, pumped, ReplicaState, Place, Executed, childless, listed, either, taken_at, name_of, next, first_ballot, set_at, mailed, made_by, at_slot, leads, promise_row, voted, accepted_row}
+use Rattle.sc_meaning.specs.sound.SoundDefinitions.{Player, player_table}
+use Rattle.sc_live_steps.specs.calm.CalmDefinitions.{players, Rows}
+use Rattle.sc_live_steps.specs.following.FollowingDefinitions.{from_slot_of, Mark, Asks, Votes, Installs, Prepares, Promises, mark_of, Course, Progress, Sets, members_at, SlotLeaders, hint_by, AreHeeded, IsOther, GoesBy, IsAside, AreApart, HasBallot, IsOrderly, IsRow, IsCount, marks_for, StepsBy}
+use Rattle.sc_live_steps.proofs.FollowingProofs.FollowingLemmas.{prepares_are_known, nodes_heed, tables, same_mark, states, hints_follow}
+use Rattle.sc_live_journals.specs.rows.RowDefinitions.{IsUnmoved, view_at, next_in, promise_in, progress_at, marks_at, mark_in, taken_mark, LeavesLead, IsScene, TakesMail, HoldsReplica, WaitsStill, with_event, IsReplicasRow}
+use Rattle.sc_live_journals.proofs.RowsProofs.RowLemmas.{asides_still, same_some, aside_mark, apart_off, goes_on, idle_apart, waits_here, row_in, head, all_fit, known, within, no_lead, named, row_to, fit, taken, leads_stay, steps_take, states_take, uncounted_pass, still_idle, rows_replicas}
+use Rattle.sc_live_journals.specs.groups.GroupDefinitions.{RowRests, RowTakes, RowMakes, IsLedStep, Ends, hint_in, hints_at, dated_at, IsLogsState, IsLedScene, IsStage, LeavesWell}
 use Rattle.sc_live_journals.proofs.GroupsProofs.DatedMarks.{dated_in, taken_dated, rows_dated}
 use Rattle.sc_live_journals.proofs.GroupsProofs.Rows.{rows_keep_led}
 

@@ -3,14 +3,14 @@ use Rattle.std.proofs.Common.{◌≡◌, ℕ, ◌+◌, ◌<◌, cond, true, true
 use Rattle.std.proofs.lemmas.Bool.{cond_both, and_from, eqb-true}
 use Rattle.sc_base.specs.Definitions.{Each}
 use Rattle.sc_node_table.specs.Values.{Ballot, Draw, Command, Base}
-use Rattle.sc_words.specs.paxos.Definitions.{IsAtLeast, below, LeaderState, promise_counted, counted}
-use Rattle.sc_words.proofs.PaxosProofs.Lemmas.{at_least_itself, at_least_trans, at_least_from_below, below_from}
-use Rattle.sc_node_table.specs.Definitions.{entered, jumped, forgotten, ReplicaState, replica_of, installed_replica, first_ballot}
-use Rattle.sc_meaning.specs.sound.Definitions.{Player}
-use Rattle.sc_law_walks.specs.Definitions.{IsKept, GoesOn}
-use Rattle.sc_law_walks.proofs.Lemmas.{StateParts, ended_replica, promise_ballot, counted_ballot, StateBirths}
+use Rattle.sc_words.specs.paxos.PaxosDefinitions.{IsAtLeast, below, LeaderState, promise_counted, counted}
+use Rattle.sc_words.proofs.PaxosProofs.PaxosLemmas.{at_least_itself, at_least_trans, at_least_from_below, below_from}
+use Rattle.sc_node_table.specs.NodeDefinitions.{entered, jumped, forgotten, ReplicaState, replica_of, installed_replica, first_ballot}
+use Rattle.sc_meaning.specs.sound.SoundDefinitions.{Player}
+use Rattle.sc_law_walks.specs.WalkDefinitions.{IsKept, GoesOn}
+use Rattle.sc_law_walks.proofs.WalkLemmas.{StateParts, ended_replica, promise_ballot, counted_ballot, StateBirths}
 use Rattle.sc_live_journals.proofs.RowsProofs.Players as players
-use Rattle.sc_live_journals.specs.groups.Definitions.{IsTopKept, NodesKeepTops, NodesAreBornTopped}
+use Rattle.sc_live_journals.specs.groups.GroupDefinitions.{IsTopKept, NodesKeepTops, NodesAreBornTopped}
 
 -- a later round is of a later ballot
 round_later : (a b : Ballot) → a.round < b.round → below a b ≡ true

@@ -2,13 +2,13 @@
 use Rattle.std.proofs.Common.{ℕ, eqb, List, [], ◌∷◌, map, refl}
 use Rattle.sc_base.specs.Definitions.{Each}
 use Rattle.sc_node_table.specs.Values.{Base, Seat}
-use Rattle.sc_words.proofs.PaxosProofs.Lemmas.{Each-among, Each-append, find_found}
+use Rattle.sc_words.proofs.PaxosProofs.PaxosLemmas.{Each-among, Each-append, find_found}
 use Rattle.sc_scenario.specs.declared.scenario.scenarios.Asks.{Asks as Requests}
 use Rattle.sc_scenario.specs.declared.scenario.scenarios.Scenario.{Scenario}
-use Rattle.sc_node_table.specs.Definitions.{numbers_from}
-use Rattle.sc_meaning.specs.sound.Definitions.{Player, births, as_nodes, node_seat, client_seat, client_seats, route_of}
-use Rattle.sc_live_journals.proofs.RowsProofs.Lemmas.{births_alone, nodes_born}
-use Rattle.sc_live_journals.specs.groups.Definitions.{IsWellPlayer, ScenariosAreWellBorn}
+use Rattle.sc_node_table.specs.NodeDefinitions.{numbers_from}
+use Rattle.sc_meaning.specs.sound.SoundDefinitions.{Player, births, as_nodes, node_seat, client_seat, client_seats, route_of}
+use Rattle.sc_live_journals.proofs.RowsProofs.RowLemmas.{births_alone, nodes_born}
+use Rattle.sc_live_journals.specs.groups.GroupDefinitions.{IsWellPlayer, ScenariosAreWellBorn}
 
 -- a seat whose player is born well
 abbrev IsWellSeat : Seat Player → Type 0

@@ -1,12 +1,12 @@
 -- What holds at the births, and is kept by each row of a journal whose rows come in time, holds after each of its prefixes.
 use Rattle.std.proofs.Common.{◌≡◌, ℕ, List, [], ◌∷◌, ◌++◌, sym, ◌∙◌, ap, subst, append_assoc, append-nil}
 use Rattle.sc_node_table.specs.Values.{OrderLine, Mail, Seat, Event, Row}
-use Rattle.sc_live_orderly.specs.Definitions.{IsCalmEvent, AreInTime}
-use Rattle.sc_live_orderly.proofs.Lemmas.{by_time, last_in_time}
-use Rattle.sc_meaning.specs.sound.Definitions.{Player}
-use Rattle.sc_live_steps.specs.calm.Definitions.{players, Rows}
-use Rattle.sc_live_journals.specs.rows.Definitions.{with_event, IsSeat}
-use Rattle.sc_live_journals.specs.groups.Definitions.{IsRowOf}
+use Rattle.sc_live_orderly.specs.OrderlyDefinitions.{IsCalmEvent, AreInTime}
+use Rattle.sc_live_orderly.proofs.OrderlyLemmas.{by_time, last_in_time}
+use Rattle.sc_meaning.specs.sound.SoundDefinitions.{Player}
+use Rattle.sc_live_steps.specs.calm.CalmDefinitions.{players, Rows}
+use Rattle.sc_live_journals.specs.rows.RowDefinitions.{with_event, IsSeat}
+use Rattle.sc_live_journals.specs.groups.GroupDefinitions.{IsRowOf}
 
 -- the first rows of a journal in time come in time
 pub prefix_in_time : (words : ℕ → ℕ → ℕ × ℕ) (births : List (Seat Player)) (journal : Rows) → AreInTime (players words births) journal → (rows more : Rows) → journal ≡ rows ++ more → AreInTime (players words births) rows

@@ -4,18 +4,18 @@ use Rattle.std.proofs.lemmas.Bool.{cases_Bool, or_left, or_right}
 use Rattle.sc_node_table.specs.Values.{Base, Seat}
 use Rattle.sc_base.specs.Definitions.{is_majority, IsRoster, is_member}
 use Rattle.sc_actor.specs.Definitions.{is_quiet}
-use Rattle.sc_live_orderly.specs.Definitions.{is_born, AreInTime}
-use Rattle.sc_words.specs.paxos.Definitions.{below}
-use Rattle.sc_node_table.specs.Definitions.{ReplicaState, next, first_set, may_offer, settled}
-use Rattle.sc_meaning.specs.sound.Definitions.{Player}
-use Rattle.sc_live_steps.specs.calm.Definitions.{players, MayVote, Rows}
-use Rattle.sc_live_steps.specs.following.Definitions.{Course, Progress, Sets, members_at, IsOpen, SlotLeaders, hinted, AreAt, IsLeadOf}
-use Rattle.sc_live_steps.proofs.CalmStepsProofs.Lemmas.{unbound_new}
-use Rattle.sc_live_journals.specs.rows.Definitions.{IsEvenAt, view_at, next_in, promise_in, progress_at, marks_at}
-use Rattle.sc_live_journals.proofs.RowsProofs.Lemmas.{quiet_rests, same_some}
-use Rattle.sc_live_journals.specs.groups.Definitions.{Ends, hint_in, hints_at, IsWellLed, IsLedQuietly, QuietGroupsAreLed}
+use Rattle.sc_live_orderly.specs.OrderlyDefinitions.{is_born, AreInTime}
+use Rattle.sc_words.specs.paxos.PaxosDefinitions.{below}
+use Rattle.sc_node_table.specs.NodeDefinitions.{ReplicaState, next, first_set, may_offer, settled}
+use Rattle.sc_meaning.specs.sound.SoundDefinitions.{Player}
+use Rattle.sc_live_steps.specs.calm.CalmDefinitions.{players, MayVote, Rows}
+use Rattle.sc_live_steps.specs.following.FollowingDefinitions.{Course, Progress, Sets, members_at, IsOpen, SlotLeaders, hinted, AreAt, IsLeadOf}
+use Rattle.sc_live_steps.proofs.CalmStepsProofs.CalmStepLemmas.{unbound_new}
+use Rattle.sc_live_journals.specs.rows.RowDefinitions.{IsEvenAt, view_at, next_in, promise_in, progress_at, marks_at}
+use Rattle.sc_live_journals.proofs.RowsProofs.RowLemmas.{quiet_rests, same_some}
+use Rattle.sc_live_journals.specs.groups.GroupDefinitions.{Ends, hint_in, hints_at, IsWellLed, IsLedQuietly, QuietGroupsAreLed}
 use Rattle.sc_base.proofs.Lemmas.{and_both as both}
-use Rattle.sc_live_steps.proofs.FollowingProofs.Lemmas.{decided as all_decide}
+use Rattle.sc_live_steps.proofs.FollowingProofs.FollowingLemmas.{decided as all_decide}
 use Rattle.sc_live_journals.proofs.RowsProofs.EvenGroups.{none_pending}
 
 -- the members of the first open slot

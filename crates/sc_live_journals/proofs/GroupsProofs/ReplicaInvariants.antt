@@ -4,16 +4,16 @@ use Rattle.std.proofs.lemmas.Bool.{eqb-true}
 use Rattle.sc_base.specs.Definitions.{Each}
 use Rattle.sc_node_table.specs.Values.{Draw, Base, Node, Client, Seat}
 use Rattle.sc_actor.specs.Definitions.{value}
-use Rattle.sc_words.proofs.PaxosProofs.Lemmas.{Each-among, Each-append, find_found}
+use Rattle.sc_words.proofs.PaxosProofs.PaxosLemmas.{Each-among, Each-append, find_found}
 use Rattle.sc_scenario.specs.declared.scenario.scenarios.Asks.{Asks as Requests}
 use Rattle.sc_scenario.specs.declared.scenario.scenarios.Scenario.{Scenario}
-use Rattle.sc_node_table.specs.Definitions.{replica_of, ReplicaState, numbers_from}
-use Rattle.sc_meaning.specs.sound.Definitions.{Player, player_table, births, as_nodes, node_seat, client_seat, client_seats, route_of}
-use Rattle.sc_live_journals.specs.rows.Definitions.{replicas_of, replica_in}
-use Rattle.sc_live_journals.specs.groups.Definitions.{IsKeptPlayer, ScenariosAreKeptBorn, ReplicasAreKept, KeptLeadersRest, IsSlotKept, IsTopKept}
+use Rattle.sc_node_table.specs.NodeDefinitions.{replica_of, ReplicaState, numbers_from}
+use Rattle.sc_meaning.specs.sound.SoundDefinitions.{Player, player_table, births, as_nodes, node_seat, client_seat, client_seats, route_of}
+use Rattle.sc_live_journals.specs.rows.RowDefinitions.{replicas_of, replica_in}
+use Rattle.sc_live_journals.specs.groups.GroupDefinitions.{IsKeptPlayer, ScenariosAreKeptBorn, ReplicasAreKept, KeptLeadersRest, IsSlotKept, IsTopKept}
 use Rattle.sc_live_journals.proofs.GroupsProofs.LeadersAtRest.{quiet_leaders_rest}
 use Rattle.sc_live_journals.proofs.GroupsProofs.SlotNodes.{nodes_born as slots_born, Plays as SlotPlays, replay_well as slots_replay}
-use Rattle.sc_law_walks.proofs.Lemmas.{FoundOne, found_one}
+use Rattle.sc_law_walks.proofs.WalkLemmas.{FoundOne, found_one}
 use Rattle.sc_live_journals.proofs.GroupsProofs.OwnGreatestBallots.{nodes_born as tops_born, Plays as TopPlays, Found as TopFound, found_well as top_found, replay_well as tops_replay}
 
 -- ---- at birth

@@ -5,15 +5,15 @@ use Rattle.std.proofs.lemmas.Bool.{cases_eq}
 use Rattle.sc_base.specs.Definitions.{Among, Each}
 use Rattle.sc_node_table.specs.Values.{Ballot, Draw, Base, OrderLine, Mail, Seat, Event}
 use Rattle.sc_actor.specs.Definitions.{mails, row_of}
-use Rattle.sc_live_orderly.specs.Definitions.{rest}
-use Rattle.sc_node_table.specs.Definitions.{ReplicaState, Place}
-use Rattle.sc_meaning.specs.sound.Definitions.{Player, player_table}
-use Rattle.sc_live_steps.specs.calm.Definitions.{players, Rows}
-use Rattle.sc_live_steps.specs.following.Definitions.{Dated, dated_for, marks_in, IsNoPrepare, AreLow, IsAskedLow, IsDatedRow, Mark, Course, Progress, Sets, IsFollowing, SlotLeaders, GoesBy, IsOrderly, IsRow, IsIdle, Takes, Leads, Elects, IsOffered, marks_for}
-use Rattle.sc_live_steps.proofs.FollowingProofs.Lemmas.{slots_are_kept, prepares_are_known, hints_are_kept, idle-keeps, own_is_kept}
-use Rattle.sc_live_journals.specs.rows.Definitions.{view_at, progress_at, marks_at, taken_mark, begun_course, led_course, elected_course, with_event, IsKind, IsReplicasRow}
-use Rattle.sc_live_journals.proofs.RowsProofs.Lemmas.{rows_keep, same_some, rows_are, view_others}
-use Rattle.sc_live_journals.specs.groups.Definitions.{Ends, hint_in, hints_at, dated_at, IsWellLed, IsStage, LeavesWell, LeadsWell, ElectsWell, RowsKeepLed}
+use Rattle.sc_live_orderly.specs.OrderlyDefinitions.{rest}
+use Rattle.sc_node_table.specs.NodeDefinitions.{ReplicaState, Place}
+use Rattle.sc_meaning.specs.sound.SoundDefinitions.{Player, player_table}
+use Rattle.sc_live_steps.specs.calm.CalmDefinitions.{players, Rows}
+use Rattle.sc_live_steps.specs.following.FollowingDefinitions.{Dated, dated_for, marks_in, IsNoPrepare, AreLow, IsAskedLow, IsDatedRow, Mark, Course, Progress, Sets, IsFollowing, SlotLeaders, GoesBy, IsOrderly, IsRow, IsIdle, Takes, Leads, Elects, IsOffered, marks_for}
+use Rattle.sc_live_steps.proofs.FollowingProofs.FollowingLemmas.{slots_are_kept, prepares_are_known, hints_are_kept, idle-keeps, own_is_kept}
+use Rattle.sc_live_journals.specs.rows.RowDefinitions.{view_at, progress_at, marks_at, taken_mark, begun_course, led_course, elected_course, with_event, IsKind, IsReplicasRow}
+use Rattle.sc_live_journals.proofs.RowsProofs.RowLemmas.{rows_keep, same_some, rows_are, view_others}
+use Rattle.sc_live_journals.specs.groups.GroupDefinitions.{Ends, hint_in, hints_at, dated_at, IsWellLed, IsStage, LeavesWell, LeadsWell, ElectsWell, RowsKeepLed}
 use Rattle.sc_live_journals.proofs.GroupsProofs.DatedMarks.{taken_dated, taken_same, with_slot, with_none, rows_dated}
 pub use Rattle.sc_live_steps.proofs.FollowingProofs.AskedSlots.{marks_all}
 

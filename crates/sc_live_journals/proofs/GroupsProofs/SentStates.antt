@@ -5,17 +5,17 @@ use Rattle.std.specs.List.{filter, list_any}
 use Rattle.std.proofs.lemmas.Bool.{cond_both, eq-eqb}
 use Rattle.sc_base.specs.Definitions.{Among, Each, Drawer, IsRoster, is_member}
 use Rattle.sc_node_table.specs.Values.{Ballot, Draw, Command, Base, Core, OrderLine, AnswerBody, Mail, MailBody, Prepare, Promise, Accept, Accepted, Learn, Install, Must, Gap, Report}
-use Rattle.sc_group_table.specs.machine.Definitions.{base_of, applied}
+use Rattle.sc_group_table.specs.machine.MachineDefinitions.{base_of, applied}
 use Rattle.sc_words.specs.declared.paxos.answers.Must.TheVariants.{Value, Free as Open}
-use Rattle.sc_words.specs.paxos.Definitions.{must, promise_counted, without_flight_at}
-use Rattle.sc_words.proofs.PaxosProofs.Lemmas.{Each-append}
+use Rattle.sc_words.specs.paxos.PaxosDefinitions.{must, promise_counted, without_flight_at}
+use Rattle.sc_words.proofs.PaxosProofs.PaxosLemmas.{Each-append}
 use Rattle.sc_node_table.specs.declared.ReplicaInput.TheVariants as Given
-use Rattle.sc_node_table.specs.Definitions.{entered, learnt_to, welcomed, landed, left, looked, executed_one, next_child, next_ready, ending, executed_ready, executed, install_to, welcomed_all, sent, sent_all, sent_others, answered, Found, is_act, waits, turned_down, next_queued, from_backlog, from_acts, from_queues, found_by, found_for, offered, pumped_from, pumped, ReplicaState, Place, Executed, childless, listed, name_of, next, members, settled, may_offer, taken_at, under_way, is_idle, last_slot, mailed, stepped, at_slot, without_slot, before_of, spoken, leads, promise_row}
-use Rattle.sc_law_walks.specs.Definitions.{IfThere}
-use Rattle.sc_law_walks.proofs.Lemmas.{idle_ready}
-use Rattle.sc_live_steps.specs.following.Definitions.{Mark, Installs, mark_of, marks_of, Course, Progress, Sets, IsLed, IsNext, AreNext, IsLeadOf, IsAside, DecidesNext, marks_for}
-use Rattle.sc_live_steps.proofs.FollowingProofs.Lemmas.{aside_is, order_is, entered_keeps, landed_told, ends, entries_lead, with_state, with_both, stays_led, ready_of, among-left, among-right, same_mark, vote_row, turned_kept, spoken_kept, ended_kept, announced_kept}
-use Rattle.sc_live_journals.specs.groups.Definitions.{IsStateFrom}
+use Rattle.sc_node_table.specs.NodeDefinitions.{entered, learnt_to, welcomed, landed, left, looked, executed_one, next_child, next_ready, ending, executed_ready, executed, install_to, welcomed_all, sent, sent_all, sent_others, answered, Found, is_act, waits, turned_down, next_queued, from_backlog, from_acts, from_queues, found_by, found_for, offered, pumped_from, pumped, ReplicaState, Place, Executed, childless, listed, name_of, next, members, settled, may_offer, taken_at, under_way, is_idle, last_slot, mailed, stepped, at_slot, without_slot, before_of, spoken, leads, promise_row}
+use Rattle.sc_law_walks.specs.WalkDefinitions.{IfThere}
+use Rattle.sc_law_walks.proofs.WalkLemmas.{idle_ready}
+use Rattle.sc_live_steps.specs.following.FollowingDefinitions.{Mark, Installs, mark_of, marks_of, Course, Progress, Sets, IsLed, IsNext, AreNext, IsLeadOf, IsAside, DecidesNext, marks_for}
+use Rattle.sc_live_steps.proofs.FollowingProofs.FollowingLemmas.{aside_is, order_is, entered_keeps, landed_told, ends, entries_lead, with_state, with_both, stays_led, ready_of, among-left, among-right, same_mark, vote_row, turned_kept, spoken_kept, ended_kept, announced_kept}
+use Rattle.sc_live_journals.specs.groups.GroupDefinitions.{IsStateFrom}
 pub use Rattle.sc_words.proofs.PaxosProofs.ListLemmas.{Each-from as each_among}
 
 -- a mail's mark is among those for its receiver

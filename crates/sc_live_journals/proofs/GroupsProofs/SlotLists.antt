@@ -3,13 +3,13 @@ use Rattle.std.proofs.Common.{◌≡◌, ℕ, ◌+◌, ◌<◌, ◌≤◌, eqb, 
 use Rattle.std.proofs.lemmas.Bool.{eqb-true, eqb-false, ltb-true, ltb-false, ne_eqb}
 use Rattle.sc_base.specs.Definitions.{Each}
 use Rattle.sc_node_table.specs.Values.{Command, Flight}
-use Rattle.sc_words.specs.paxos.Definitions.{flight_at, without_flight, with_voters}
-use Rattle.sc_words.proofs.PaxosProofs.Lemmas.{Each-append, Each-weaker}
-use Rattle.sc_node_table.specs.Definitions.{at_slot, with_slot, without_slot}
-use Rattle.sc_law_walks.proofs.Lemmas.{either_way}
-use Rattle.sc_live_steps.specs.following.Definitions.{AreApart}
-use Rattle.sc_live_steps.proofs.FollowingProofs.Lemmas.{apart_without, apart_polled, apart_pushed}
-use Rattle.sc_live_journals.specs.groups.Definitions.{FlyFrom, AreRising, WaitFrom}
+use Rattle.sc_words.specs.paxos.PaxosDefinitions.{flight_at, without_flight, with_voters}
+use Rattle.sc_words.proofs.PaxosProofs.PaxosLemmas.{Each-append, Each-weaker}
+use Rattle.sc_node_table.specs.NodeDefinitions.{at_slot, with_slot, without_slot}
+use Rattle.sc_law_walks.proofs.WalkLemmas.{either_way}
+use Rattle.sc_live_steps.specs.following.FollowingDefinitions.{AreApart}
+use Rattle.sc_live_steps.proofs.FollowingProofs.FollowingLemmas.{apart_without, apart_polled, apart_pushed}
+use Rattle.sc_live_journals.specs.groups.GroupDefinitions.{FlyFrom, AreRising, WaitFrom}
 use Rattle.sc_law_groups.proofs.GroupProofs.WithoutOne.{Each-without_flight as each_without}
 
 -- where none is at this slot, all are later

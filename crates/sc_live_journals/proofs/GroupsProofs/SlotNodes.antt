@@ -2,10 +2,10 @@
 use Rattle.std.proofs.Common.{ℕ, List, [], ◌∷◌, map}
 use Rattle.sc_base.specs.Definitions.{Each, is_member}
 use Rattle.sc_node_table.specs.Values.{Base, Node, Client}
-use Rattle.sc_node_table.specs.Definitions.{born_replicas, born_replica, slots_ahead}
-use Rattle.sc_meaning.specs.sound.Definitions.{Player, player_table}
-use Rattle.sc_law_walks.proofs.Lemmas.{either_way, EachReplica, ReplicaRows, node_step, StepsHold, replay_keeps}
-use Rattle.sc_live_journals.specs.groups.Definitions.{IsSlotKept, NodesAreBornSlotted}
+use Rattle.sc_node_table.specs.NodeDefinitions.{born_replicas, born_replica, slots_ahead}
+use Rattle.sc_meaning.specs.sound.SoundDefinitions.{Player, player_table}
+use Rattle.sc_law_walks.proofs.WalkLemmas.{either_way, EachReplica, ReplicaRows, node_step, StepsHold, replay_keeps}
+use Rattle.sc_live_journals.specs.groups.GroupDefinitions.{IsSlotKept, NodesAreBornSlotted}
 use Rattle.sc_live_journals.proofs.GroupsProofs.SlotRows.{born_well, made_well, mailed_well, order_well, tick_well}
 use Rattle.sc_live_journals.proofs.RowsProofs.Players.{RowsKeep}
 

@@ -6,17 +6,17 @@ use Rattle.std.proofs.lemmas.Bool.{cond_both, and_parts}
 use Rattle.sc_node_table.specs.Values.{Ballot, Command, Noop, Call, Effect, Route, OrderResult, AnswerBody, Mail, Must, Gap, Flight}
 use Rattle.sc_mail.specs.declared.bodies.AnswerBody.TheVariants as Says
 use Rattle.sc_base.specs.Definitions.{is_member, least_of}
-use Rattle.sc_group_table.specs.machine.Definitions.{applied}
+use Rattle.sc_group_table.specs.machine.MachineDefinitions.{applied}
 use Rattle.sc_words.specs.declared.paxos.answers.Must.TheVariants.{Value, Free as Open}
-use Rattle.sc_words.specs.paxos.Definitions.{below, must, flight_at, new_leader, without_flight}
-use Rattle.sc_node_table.specs.Definitions.{has_act, with_act, act_queued, elected, ended, stopped, saw, entered, answer_of, answered_or_put_back, order_result, effect_reported, announced, learnt_to, welcomed, landed, left_gone, left, is_among, looked_for, looked, executed_one, has_room, next_ready, next_child, ending, executed_ready, all_ready, executed, install_to, asked_to_promise, welcomed_all, Found, is_act, from_backlog, from_acts, from_queues, found_by, found_for, offered, pumped_from, pumped, put_back, ReplicaState, Place, Executed, childless, flying, next, members, settled, may_offer, first_set, taken_at, under_way, is_idle, last_slot, forgotten, at_slot, without_slot, before_of, spoken}
+use Rattle.sc_words.specs.paxos.PaxosDefinitions.{below, must, flight_at, new_leader, without_flight}
+use Rattle.sc_node_table.specs.NodeDefinitions.{has_act, with_act, act_queued, elected, ended, stopped, saw, entered, answer_of, answered_or_put_back, order_result, effect_reported, announced, learnt_to, welcomed, landed, left_gone, left, is_among, looked_for, looked, executed_one, has_room, next_ready, next_child, ending, executed_ready, all_ready, executed, install_to, asked_to_promise, welcomed_all, Found, is_act, from_backlog, from_acts, from_queues, found_by, found_for, offered, pumped_from, pumped, put_back, ReplicaState, Place, Executed, childless, flying, next, members, settled, may_offer, first_set, taken_at, under_way, is_idle, last_slot, forgotten, at_slot, without_slot, before_of, spoken}
 use Rattle.sc_node_table.specs.declared.Before.{Before}
-use Rattle.sc_law_walks.proofs.Lemmas.{entered_next, welcomed_place, landed_place, either_way}
-use Rattle.sc_live_journals.specs.groups.Definitions.{HasFrom, IsSlotKept}
+use Rattle.sc_law_walks.proofs.WalkLemmas.{entered_next, welcomed_place, landed_place, either_way}
+use Rattle.sc_live_journals.specs.groups.GroupDefinitions.{HasFrom, IsSlotKept}
 use Rattle.sc_live_journals.proofs.GroupsProofs.SlotLists.{fly_past, fly_pushed, wait_past}
 use Rattle.sc_live_journals.proofs.GroupsProofs.LeadersAtRest.{none_mapped, none_first}
 use Rattle.sc_node_table.proofs.Lemmas.{one-shorter}
-use Rattle.sc_live_steps.proofs.FollowingProofs.Lemmas.{none_there as none_is}
+use Rattle.sc_live_steps.proofs.FollowingProofs.FollowingLemmas.{none_there as none_is}
 use Rattle.std.proofs.lemmas.List.{nil_from_length}
 
 -- what is ready is not executed where nothing runs, or nothing is ready

@@ -9,13 +9,13 @@ use Rattle.sc_words.specs.declared.commands.votes.Vote.TheVariants as Vows
 use Rattle.sc_mail.specs.declared.bodies.AnswerBody.TheVariants as Says
 use Rattle.sc_words.specs.declared.paxos.answers.PrepareAnswer.TheVariants as Prepared
 use Rattle.sc_words.specs.declared.paxos.answers.AcceptAnswer.TheVariants as Asked
-use Rattle.sc_words.specs.paxos.Definitions.{prepared, accepted as accepted_by, AcceptorState, LeaderState, promise_counted, flight_at, without_flight_at, entry_at, vote_at, voters_after, kept_voters, with_voters}
-use Rattle.sc_node_table.specs.Definitions.{with_act, has_act, act_queued, stopped, saw, executed, has_room, named, jumped, ordered_command, untaken, queued_or_refused, ordered_row, wished_line, with_command, with_line, wishing, pumped, queued_number, without_request, patience, one_tick_more, waited_in, reminded, ReplicaState, Place, Executed, childless, next, members, settled, is_idle, set_at, last_slot, forgotten, born_replica, installed_replica, refused_at, queued, requested, request_row, learn_row, ask_row, looked_up, took_over, install_row, made_by, asked_again, last_entry_sent, tick_row, mailed, slots_ahead, at_slot, with_slot, noted_outcome, standing_vote, sent_elsewhere, offered_by, offer_row, watched_by, watch_row, awaits_vote, awaits_watch, vote_queued, vote_met, vote_row, watch_queued, watch_met, watched_row, elsewhere_row, is_bound, outcome_row, hinted, promise_to, prepare_row, accepted_to, took, accept_row, leads, promise_row, readied, vote_tallied, voted, accepted_row, nack_row}
-use Rattle.sc_law_walks.proofs.Lemmas.{promised_place, asked_place, either_way, leads_on, ended_off}
-use Rattle.sc_live_journals.specs.groups.Definitions.{FlyFrom, WaitFrom, HasFrom, IsSlotKept}
+use Rattle.sc_words.specs.paxos.PaxosDefinitions.{prepared, accepted as accepted_by, AcceptorState, LeaderState, promise_counted, flight_at, without_flight_at, entry_at, vote_at, voters_after, kept_voters, with_voters}
+use Rattle.sc_node_table.specs.NodeDefinitions.{with_act, has_act, act_queued, stopped, saw, executed, has_room, named, jumped, ordered_command, untaken, queued_or_refused, ordered_row, wished_line, with_command, with_line, wishing, pumped, queued_number, without_request, patience, one_tick_more, waited_in, reminded, ReplicaState, Place, Executed, childless, next, members, settled, is_idle, set_at, last_slot, forgotten, born_replica, installed_replica, refused_at, queued, requested, request_row, learn_row, ask_row, looked_up, took_over, install_row, made_by, asked_again, last_entry_sent, tick_row, mailed, slots_ahead, at_slot, with_slot, noted_outcome, standing_vote, sent_elsewhere, offered_by, offer_row, watched_by, watch_row, awaits_vote, awaits_watch, vote_queued, vote_met, vote_row, watch_queued, watch_met, watched_row, elsewhere_row, is_bound, outcome_row, hinted, promise_to, prepare_row, accepted_to, took, accept_row, leads, promise_row, readied, vote_tallied, voted, accepted_row, nack_row}
+use Rattle.sc_law_walks.proofs.WalkLemmas.{promised_place, asked_place, either_way, leads_on, ended_off}
+use Rattle.sc_live_journals.specs.groups.GroupDefinitions.{FlyFrom, WaitFrom, HasFrom, IsSlotKept}
 use Rattle.sc_live_journals.proofs.GroupsProofs.SlotLists.{fly_without, fly_polled, flies_from, wait_in, in_other}
 use Rattle.sc_live_journals.proofs.GroupsProofs.SlotParts.{K, KAfter, off_done, empty_done, pumps, acts_kept, ends, self_election, sees, sends, looks, executed_well}
-use Rattle.sc_law_walks.proofs.Lemmas.{promise_flights}
+use Rattle.sc_law_walks.proofs.WalkLemmas.{promise_flights}
 
 no_room : (b c : Bool) (o : Option Command) → c ≡ false → cond (b && c) o None ≡ None
 no_room true true o e = absurd (true≢false e)

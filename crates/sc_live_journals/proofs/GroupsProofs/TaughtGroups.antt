@@ -4,14 +4,14 @@ use Rattle.std.proofs.Common.{◌≡◌, ℕ, true, List, [], Option, None, refl
 use Rattle.sc_node_table.specs.Values.{Ballot, Base, OrderLine, Seat, Event}
 use Rattle.sc_base.specs.Definitions.{is_member}
 use Rattle.sc_actor.specs.Definitions.{mails, row_of}
-use Rattle.sc_node_table.specs.Definitions.{first_ballot}
-use Rattle.sc_meaning.specs.sound.Definitions.{Player, player_table, births, as_nodes}
-use Rattle.sc_live_steps.specs.calm.Definitions.{players, Rows}
-use Rattle.sc_live_steps.specs.following.Definitions.{Mark, Course, Progress, Sets, members_at, IsFollowing, SlotLeaders, IsRow, IsIdle, begun, marks_for}
-use Rattle.sc_live_steps.proofs.FollowingProofs.Lemmas.{begins, taught_is_kept}
-use Rattle.sc_live_journals.specs.rows.Definitions.{next_in, promise_in, progress_at, marks_at, taken_mark, begun_course, with_event}
-use Rattle.sc_live_journals.proofs.RowsProofs.Lemmas.{born_facts, next_born, promise_born, rows_are}
-use Rattle.sc_live_journals.specs.groups.Definitions.{BeginsSo, IsGroupRow, RowPasses, RowRests, RowTakes, RowMakes, RowLeads, RowElects, Ends, IsStage, AreTaughtAt, IsTaughtOn, RowsKeepTaught, ScenariosBeginTaught, ChildrenBeginTaught, GroupsAreTaughtThrough}
+use Rattle.sc_node_table.specs.NodeDefinitions.{first_ballot}
+use Rattle.sc_meaning.specs.sound.SoundDefinitions.{Player, player_table, births, as_nodes}
+use Rattle.sc_live_steps.specs.calm.CalmDefinitions.{players, Rows}
+use Rattle.sc_live_steps.specs.following.FollowingDefinitions.{Mark, Course, Progress, Sets, members_at, IsFollowing, SlotLeaders, IsRow, IsIdle, begun, marks_for}
+use Rattle.sc_live_steps.proofs.FollowingProofs.FollowingLemmas.{begins, taught_is_kept}
+use Rattle.sc_live_journals.specs.rows.RowDefinitions.{next_in, promise_in, progress_at, marks_at, taken_mark, begun_course, with_event}
+use Rattle.sc_live_journals.proofs.RowsProofs.RowLemmas.{born_facts, next_born, promise_born, rows_are}
+use Rattle.sc_live_journals.specs.groups.GroupDefinitions.{BeginsSo, IsGroupRow, RowPasses, RowRests, RowTakes, RowMakes, RowLeads, RowElects, Ends, IsStage, AreTaughtAt, IsTaughtOn, RowsKeepTaught, ScenariosBeginTaught, ChildrenBeginTaught, GroupsAreTaughtThrough}
 use Rattle.sc_live_journals.proofs.GroupsProofs.WellLedBeginnings.{first_slots, scenarios_begin_led, children_begin_led}
 use Rattle.sc_live_journals.proofs.GroupsProofs.JournalEvents.{events_go_on}
 

@@ -3,17 +3,17 @@ use Rattle.std.proofs.Common.{◌≡◌, ℕ, zero, suc, ◌+◌, ◌<◌, ◌�
 use Rattle.std.proofs.lemmas.Bool.{cases_Bool, cond-true, cond-false, cond_both, eqb-true, eq-eqb}
 use Rattle.sc_base.specs.Definitions.{Among, is_member}
 use Rattle.sc_node_table.specs.Values.{Ballot, Base, Seat}
-use Rattle.sc_live_orderly.specs.Definitions.{rest}
+use Rattle.sc_live_orderly.specs.OrderlyDefinitions.{rest}
 use Rattle.sc_scenario.specs.scenario.Definitions.{IsBounded}
 use Rattle.sc_scenario.specs.declared.scenario.scenarios.Scenario.{Scenario}
-use Rattle.sc_node_table.specs.Definitions.{ReplicaState, first_ballot, born_replica, slots_ahead}
-use Rattle.sc_meaning.specs.sound.Definitions.{Player, births, as_nodes}
-use Rattle.sc_live_steps.specs.calm.Definitions.{players, Rows}
-use Rattle.sc_live_steps.specs.following.Definitions.{AreLow, Mark, Progress, Sets, members_at, IsFollowing, SlotLeaders, IsLeadOf, IsOrderly, IsRow, IsIdle, begun}
-use Rattle.sc_live_steps.proofs.FollowingProofs.Lemmas.{leaders_begin, nothing, hints_are_kept, begins, idle-keeps, own_is_kept}
-use Rattle.sc_live_journals.specs.rows.Definitions.{view_at, next_in, promise_in, progress_at, marks_at, begun_course, IsLedBy, IsCourseOf}
-use Rattle.sc_live_journals.proofs.RowsProofs.Lemmas.{none_some, born_leads, born_facts, own_replica, view_born, next_born, promise_born}
-use Rattle.sc_live_journals.specs.groups.Definitions.{BeginsSo, ScenariosBeginLed, ChildrenBeginLed, Ends, hint_in, hints_at, dated_at, IsWellLed}
+use Rattle.sc_node_table.specs.NodeDefinitions.{ReplicaState, first_ballot, born_replica, slots_ahead}
+use Rattle.sc_meaning.specs.sound.SoundDefinitions.{Player, births, as_nodes}
+use Rattle.sc_live_steps.specs.calm.CalmDefinitions.{players, Rows}
+use Rattle.sc_live_steps.specs.following.FollowingDefinitions.{AreLow, Mark, Progress, Sets, members_at, IsFollowing, SlotLeaders, IsLeadOf, IsOrderly, IsRow, IsIdle, begun}
+use Rattle.sc_live_steps.proofs.FollowingProofs.FollowingLemmas.{leaders_begin, nothing, hints_are_kept, begins, idle-keeps, own_is_kept}
+use Rattle.sc_live_journals.specs.rows.RowDefinitions.{view_at, next_in, promise_in, progress_at, marks_at, begun_course, IsLedBy, IsCourseOf}
+use Rattle.sc_live_journals.proofs.RowsProofs.RowLemmas.{none_some, born_leads, born_facts, own_replica, view_born, next_born, promise_born}
+use Rattle.sc_live_journals.specs.groups.GroupDefinitions.{BeginsSo, ScenariosBeginLed, ChildrenBeginLed, Ends, hint_in, hints_at, dated_at, IsWellLed}
 use Rattle.sc_live_journals.proofs.GroupsProofs.Rows.{marks_all}
 
 -- the first open slots have the members with which the group begins

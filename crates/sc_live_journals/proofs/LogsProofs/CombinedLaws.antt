@@ -1,9 +1,9 @@
 -- Laws that follow from lemmas of this part of the crate and of those that it stands on.
 use Rattle.sc_live_journals.proofs.LogsProofs.LawsOfLogs.{slots_have_rosters as slots_have_rosters_by, replicas_are_logged as replicas_are_logged_by, commands_come_next as commands_come_next_by, states_are_logged as states_are_logged_by, members_are_nodes as members_are_nodes_by}
 use Rattle.sc_scenario.proofs.ScenarioProofs.Lemmas.{valid_scenarios_are_bounded}
-use Rattle.sc_law_groups.proofs.WholeProofs.Lemmas.{valid_scenarios_begin_well}
-use Rattle.sc_law_entries.proofs.NamesProofs.Lemmas.{orders_are_allowed_allowed, orders_are_allowed_wishes, orders_are_allowed_positions, names_have_one_owner_others}
-use Rattle.sc_live_journals.specs.logs.Definitions.{SlotsHaveRosters, ReplicasAreLogged, CommandsComeNext, StatesAreLogged, MembersAreNodes}
+use Rattle.sc_law_groups.proofs.WholeProofs.WholeLemmas.{valid_scenarios_begin_well}
+use Rattle.sc_law_entries.proofs.NamesProofs.NameLemmas.{orders_are_allowed_allowed, orders_are_allowed_wishes, orders_are_allowed_positions, names_have_one_owner_others}
+use Rattle.sc_live_journals.specs.logs.LogDefinitions.{SlotsHaveRosters, ReplicasAreLogged, CommandsComeNext, StatesAreLogged, MembersAreNodes}
 
 -- By the whole log of a group in a journal each slot has one to nine members, ascending, and those that the group began with where no entry may change them.
 pub slots_have_rosters : SlotsHaveRosters

@@ -4,12 +4,12 @@ use Rattle.std.proofs.lemmas.Bool.{eqb-true, ltb-true, cond_both}
 use Rattle.sc_base.specs.Definitions.{Among, Each, same_ballot, is_majority}
 use Rattle.sc_node_table.specs.Values.{Ballot, Command, Base, Counted, Chosen, NotYet, Flight}
 use Rattle.sc_base.proofs.Lemmas.{ballot_is}
-use Rattle.sc_words.specs.paxos.Definitions.{LeaderState, flight_at, kept_voters, voters_after, vote_at, counted}
-use Rattle.sc_words.proofs.PaxosProofs.Lemmas.{Each-among, Each-weaker, find_found}
-use Rattle.sc_paxos_law.specs.Definitions.{Offered, Accepted, needed, members_of, IsLog, IsLawfulHistory}
+use Rattle.sc_words.specs.paxos.PaxosDefinitions.{LeaderState, flight_at, kept_voters, voters_after, vote_at, counted}
+use Rattle.sc_words.proofs.PaxosProofs.PaxosLemmas.{Each-among, Each-weaker, find_found}
+use Rattle.sc_paxos_law.specs.PaxosLawDefinitions.{Offered, Accepted, needed, members_of, IsLog, IsLawfulHistory}
 use Rattle.sc_paxos_law.proofs.Lemmas.{was_offered, one_offer}
-use Rattle.sc_meaning.specs.sound.Definitions.{Ahead}
-use Rattle.sc_law_groups.proofs.GroupProofs.Lemmas.{IsLearnt, Steps, rule, first, IsFlying, each_after}
+use Rattle.sc_meaning.specs.sound.SoundDefinitions.{Ahead}
+use Rattle.sc_law_groups.proofs.GroupProofs.GroupLemmas.{IsLearnt, Steps, rule, first, IsFlying, each_after}
 pub use Rattle.sc_law_groups.proofs.GroupProofs.Counting.{each_with_slot}
 
 -- ---- kept voters

@@ -5,21 +5,21 @@ use Rattle.sc_node_table.specs.Values.{Command, Base, Route, OrderLine, Mail, Ma
 use Rattle.sc_actor.specs.declared.rows.Event.TheVariants.{Told}
 use Rattle.sc_actor.specs.Definitions.{IsStep}
 use Rattle.sc_actor.proofs.Lemmas.{lawful-induction}
-use Rattle.sc_group_table.specs.machine.Definitions.{group_of, state_after}
-use Rattle.sc_meaning.proofs.EntriesProofs.Lemmas.{births_are_children}
-use Rattle.sc_node_table.specs.Definitions.{names_after_tick, waited_in, ReplicaState}
-use Rattle.sc_words.proofs.PaxosProofs.Lemmas.{Each-among, Each-append, Each-from_All}
+use Rattle.sc_group_table.specs.machine.MachineDefinitions.{group_of, state_after}
+use Rattle.sc_meaning.proofs.EntriesProofs.EntryLemmas.{births_are_children}
+use Rattle.sc_node_table.specs.NodeDefinitions.{names_after_tick, waited_in, ReplicaState}
+use Rattle.sc_words.proofs.PaxosProofs.PaxosLemmas.{Each-among, Each-append, Each-from_All}
 use Rattle.sc_paxos_law.proofs.Lemmas.{Among-right}
 use Rattle.sc_scenario.specs.scenario.Definitions.{IsBounded, IsBoundedLine, IsUpTo}
 use Rattle.sc_scenario.specs.declared.scenario.scenarios.Scenario.{Scenario}
-use Rattle.sc_meaning.specs.sound.Definitions.{groups_at, decided_log, decided_state, Ahead, Lawful, schedule, system_of}
-use Rattle.sc_law_entries.specs.ring.Definitions.{Sources}
-use Rattle.sc_law_entries.specs.logs.Definitions.{Rows, added_by, AreFound, DecidesInTurn}
-use Rattle.sc_law_entries.proofs.LogsProofs.Lemmas.{groups_are_found, groups_are_old_or_new, deciding_rows_stay, in_turn_parts}
-use Rattle.sc_law_entries.proofs.NamesProofs.Lemmas.{Each-drop}
-use Rattle.sc_law_groups.proofs.GroupProofs.Lemmas.{at_start, first_of, h_of, Kept, IsLater, Moved, push, decided_made, entry_offered, each_got, GivesAllowedOrder, told_induction, HasPlayers, MayGiveOrder, KnowsOffspring, moved, MayTick}
-use Rattle.sc_law_groups.specs.whole.Definitions.{BeginsWell, OrdersAreAllowed}
-use Rattle.sc_law_groups.proofs.WholeProofs.Lemmas.{newborn_is_new, StepsKeep, IsOldOrNew, goes_on_from, grown, members_stay_rosters, Holds}
+use Rattle.sc_meaning.specs.sound.SoundDefinitions.{groups_at, decided_log, decided_state, Ahead, Lawful, schedule, system_of}
+use Rattle.sc_law_entries.specs.ring.RingDefinitions.{Sources}
+use Rattle.sc_law_entries.specs.logs.LogDefinitions.{Rows, added_by, AreFound, DecidesInTurn}
+use Rattle.sc_law_entries.proofs.LogsProofs.LogLemmas.{groups_are_found, groups_are_old_or_new, deciding_rows_stay, in_turn_parts}
+use Rattle.sc_law_entries.proofs.NamesProofs.NameLemmas.{Each-drop}
+use Rattle.sc_law_groups.proofs.GroupProofs.GroupLemmas.{at_start, first_of, h_of, Kept, IsLater, Moved, push, decided_made, entry_offered, each_got, GivesAllowedOrder, told_induction, HasPlayers, MayGiveOrder, KnowsOffspring, moved, MayTick}
+use Rattle.sc_law_groups.specs.whole.WholeDefinitions.{BeginsWell, OrdersAreAllowed}
+use Rattle.sc_law_groups.proofs.WholeProofs.WholeLemmas.{newborn_is_new, StepsKeep, IsOldOrNew, goes_on_from, grown, members_stay_rosters, Holds}
 use Rattle.sc_live_journals.proofs.LogsProofs.JournalPrefixes.{prefix}
 use Rattle.sc_live_journals.proofs.LogsProofs.NodesInGroups.{BringsNodes, HasNodes, SaysNodes, log_nodes}
 use Rattle.sc_live_journals.proofs.LogsProofs.NamedNodes.{says_nodes}

@@ -5,18 +5,18 @@ use Rattle.std.specs.Option.{option_map}
 use Rattle.std.proofs.lemmas.Bool.{cond_both}
 use Rattle.sc_base.specs.Definitions.{Among, Each, same_draw}
 use Rattle.sc_node_table.specs.Values.{Draw, Body, Command, Split, RecordWatch, Base, Lock, Free, Coordinating, Promised, Watching, Route, Order, OrderLine, OrderRefusal, Past}
-use Rattle.sc_words.specs.commands.Definitions.{is_alone}
+use Rattle.sc_words.specs.commands.CommandDefinitions.{is_alone}
 use Rattle.sc_words.specs.declared.commands.bodies.Body.TheVariants as By
 use Rattle.sc_words.specs.declared.commands.orders.Order.TheVariants as An
 use Rattle.sc_words.specs.declared.commands.votes.Past.TheVariants as Cast
-use Rattle.sc_group_table.specs.machine.Definitions.{ordered_child, released_child, answered_child, watched_child, child_by, Group, applied, refusal_of, can_split, staying, child_of, has_named}
-use Rattle.sc_meaning.specs.entries.Definitions.{birth_of}
-use Rattle.sc_meaning.proofs.EntriesProofs.Lemmas.{births_are_children}
-use Rattle.sc_node_table.specs.Definitions.{ordered_command, is_at_rest, policy_line, wished_line, ReplicaState}
+use Rattle.sc_group_table.specs.machine.MachineDefinitions.{ordered_child, released_child, answered_child, watched_child, child_by, Group, applied, refusal_of, can_split, staying, child_of, has_named}
+use Rattle.sc_meaning.specs.entries.EntryDefinitions.{birth_of}
+use Rattle.sc_meaning.proofs.EntriesProofs.EntryLemmas.{births_are_children}
+use Rattle.sc_node_table.specs.NodeDefinitions.{ordered_command, is_at_rest, policy_line, wished_line, ReplicaState}
 use Rattle.sc_group_table.specs.declared.policy.bodies.Body0.{Body0}
 use Rattle.sc_group_table.specs.declared.policy.bodies.Body0.TheVariants as Wants
-use Rattle.sc_group_table.specs.policy.Definitions.{wished, order_of, wished_order}
-use Rattle.sc_words.proofs.PaxosProofs.Lemmas.{Each-from_All}
+use Rattle.sc_group_table.specs.policy.PolicyDefinitions.{wished, order_of, wished_order}
+use Rattle.sc_words.proofs.PaxosProofs.PaxosLemmas.{Each-from_All}
 use Rattle.sc_paxos_law.proofs.Lemmas.{Among-either}
 use Rattle.sc_scenario.specs.scenario.Definitions.{group_at, base_at, bases_up_to, IsUpTo, IsBounded, IsBoundedGroup, IsBoundedLine, IsBoundedOrder}
 use Rattle.sc_scenario.specs.declared.scenario.drafts.GroupLine.{GroupLine}
@@ -24,9 +24,9 @@ use Rattle.sc_scenario.specs.declared.scenario.scenarios.Asks.{Asks}
 use Rattle.sc_scenario.specs.declared.scenario.scenarios.Scenario.{Scenario}
 use Rattle.sc_scenario.specs.declared.scenario.scenarios.SchedLine.{SchedLine}
 use Rattle.sc_scenario.specs.declared.scenario.scenarios.SchedLine.TheVariants as scheduled
-use Rattle.sc_meaning.specs.sound.Definitions.{children_of, line_of}
-use Rattle.sc_law_entries.proofs.NamesProofs.Lemmas.{Each-drop}
-use Rattle.sc_law_groups.proofs.GroupProofs.Lemmas.{OrdersOnly}
+use Rattle.sc_meaning.specs.sound.SoundDefinitions.{children_of, line_of}
+use Rattle.sc_law_entries.proofs.NamesProofs.NameLemmas.{Each-drop}
+use Rattle.sc_law_groups.proofs.GroupProofs.GroupLemmas.{OrdersOnly}
 use Rattle.sc_live_journals.proofs.LogsProofs.NodesInGroups.{BringsNodes, HasNodes, nodes_stay_nodes}
 use Rattle.sc_law_groups.proofs.WholeProofs.FreshChildren.{listed}
 

@@ -1,27 +1,27 @@
 -- What of a journal's groups the laws of journals prove, after each of its first rows.
-use Rattle.sc_client_table.specs.table.Definitions.{Client as ClientState}
+use Rattle.sc_client_table.specs.table.TableDefinitions.{Client as ClientState}
 use Rattle.std.proofs.Common.{◌≡◌, Some, ℕ, ◌≤◌, eqb, List, [], ◌∷◌, ◌++◌, length, map, take, inl, inr, refl, sym, ◌∙◌, ap, subst, arith, append_assoc, append-nil}
 use Rattle.sc_base.specs.Definitions.{Among, Each, same_draw, IsRoster}
 use Rattle.sc_node_table.specs.Values.{MailBody, Ballot, Draw, Command, Base, Route, OrderLine, Mail, Node, Client, Seat, Row, Flight}
 use Rattle.sc_base.proofs.Lemmas.{draw_is}
 use Rattle.sc_actor.specs.Definitions.{numbered, mails, value}
 use Rattle.sc_actor.proofs.Lemmas.{mails-append, lawful-prefix}
-use Rattle.sc_words.specs.paxos.Definitions.{kept_voters}
-use Rattle.sc_words.proofs.PaxosProofs.Lemmas.{Each-among, Each-weaker, find_found}
+use Rattle.sc_words.specs.paxos.PaxosDefinitions.{kept_voters}
+use Rattle.sc_words.proofs.PaxosProofs.PaxosLemmas.{Each-among, Each-weaker, find_found}
 use Rattle.sc_paxos_law.proofs.Lemmas.{Among-left, Among-right, Among-either, from_map, later_logs}
-use Rattle.sc_paxos_law.specs.Definitions.{members_of, IsLog}
+use Rattle.sc_paxos_law.specs.PaxosLawDefinitions.{members_of, IsLog}
 use Rattle.sc_scenario.specs.declared.scenario.scenarios.Scenario.{Scenario}
-use Rattle.sc_node_table.specs.Definitions.{NodeState, ReplicaState, name_of, next, numbers_from, slots_ahead}
-use Rattle.sc_meaning.specs.sound.Definitions.{groups_at, decided_log, Ahead, Player, Lawful, births, node_seat, client_seat, player_table, system_of, schedule, accepts_at}
-use Rattle.sc_law_entries.specs.ring.Definitions.{Sources}
-use Rattle.sc_law_entries.specs.logs.Definitions.{Rows, AreFound, StayRecorded, DecideInTurn}
-use Rattle.sc_law_entries.proofs.LogsProofs.Lemmas.{groups_are_found, deciding_rows_stay}
-use Rattle.sc_law_groups.specs.group.Definitions.{proposer_steps, asked_in, promises_at, steps}
-use Rattle.sc_law_groups.proofs.GroupProofs.Lemmas.{number_among, IsTrue, h_of, Part, grown_learnt, IsLearnt, Holds as Held, held, Steps, rule, IsFlying, IsReplica, AreSets, next_after, IsOneOf, steps-push, prefix_is, among_numbers}
-use Rattle.sc_law_groups.specs.whole.Definitions.{BeginsWell, OrdersAreAllowed, MayQueue, IsHeardAt}
-use Rattle.sc_law_groups.proofs.WholeProofs.Lemmas.{holds, Holds, fewer_orders}
-use Rattle.sc_live_steps.specs.following.Definitions.{AreAt}
-use Rattle.sc_live_journals.specs.logs.Definitions.{HasReplica}
+use Rattle.sc_node_table.specs.NodeDefinitions.{NodeState, ReplicaState, name_of, next, numbers_from, slots_ahead}
+use Rattle.sc_meaning.specs.sound.SoundDefinitions.{groups_at, decided_log, Ahead, Player, Lawful, births, node_seat, client_seat, player_table, system_of, schedule, accepts_at}
+use Rattle.sc_law_entries.specs.ring.RingDefinitions.{Sources}
+use Rattle.sc_law_entries.specs.logs.LogDefinitions.{Rows, AreFound, StayRecorded, DecideInTurn}
+use Rattle.sc_law_entries.proofs.LogsProofs.LogLemmas.{groups_are_found, deciding_rows_stay}
+use Rattle.sc_law_groups.specs.group.GroupDefinitions.{proposer_steps, asked_in, promises_at, steps}
+use Rattle.sc_law_groups.proofs.GroupProofs.GroupLemmas.{number_among, IsTrue, h_of, Part, grown_learnt, IsLearnt, Holds as Held, held, Steps, rule, IsFlying, IsReplica, AreSets, next_after, IsOneOf, steps-push, prefix_is, among_numbers}
+use Rattle.sc_law_groups.specs.whole.WholeDefinitions.{BeginsWell, OrdersAreAllowed, MayQueue, IsHeardAt}
+use Rattle.sc_law_groups.proofs.WholeProofs.WholeLemmas.{holds, Holds, fewer_orders}
+use Rattle.sc_live_steps.specs.following.FollowingDefinitions.{AreAt}
+use Rattle.sc_live_journals.specs.logs.LogDefinitions.{HasReplica}
 use Rattle.sc_live_journals.proofs.LogsProofs.ReplicasAlongLogs.{IsAlong, are_at}
 
 -- ---- the steps of more rows

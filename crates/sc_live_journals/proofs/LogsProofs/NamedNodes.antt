@@ -8,13 +8,13 @@ use Rattle.sc_node_table.specs.Values.{Draw, Body, Offer, Watch, Command, Split,
 use Rattle.sc_words.specs.declared.commands.bodies.Body.TheVariants as At
 use Rattle.sc_words.specs.declared.commands.votes.Past.TheVariants as Cast
 use Rattle.sc_words.specs.declared.commands.votes.Vote.TheVariants as Says
-use Rattle.sc_words.specs.commands.Definitions.{is_changed, decided_in, cast_in}
-use Rattle.sc_group_table.specs.machine.Definitions.{Group, group_of, state_after, applied, frozen_of}
+use Rattle.sc_words.specs.commands.CommandDefinitions.{is_changed, decided_in, cast_in}
+use Rattle.sc_group_table.specs.machine.MachineDefinitions.{Group, group_of, state_after, applied, frozen_of}
 use Rattle.sc_node_table.specs.declared.Before.{Before}
-use Rattle.sc_node_table.specs.Definitions.{sent_all, question, asked_first, asked_link, asked_node, reminders, before_of, asked_on, vote_sent, watch_sent, aborted_to, aborted_watcher, given_up_by, vote_answered, released_to, watch_answered_by, went_on, noted_outcome, voted_to, watched_to, next_asked, asked_next}
-use Rattle.sc_words.proofs.PaxosProofs.Lemmas.{Each-among, Each-append, find_found}
-use Rattle.sc_meaning.specs.sound.Definitions.{Ahead}
-use Rattle.sc_law_groups.proofs.GroupProofs.Lemmas.{Steps, birth, IsSaid, AreSaid, Meets, Speaks}
+use Rattle.sc_node_table.specs.NodeDefinitions.{sent_all, question, asked_first, asked_link, asked_node, reminders, before_of, asked_on, vote_sent, watch_sent, aborted_to, aborted_watcher, given_up_by, vote_answered, released_to, watch_answered_by, went_on, noted_outcome, voted_to, watched_to, next_asked, asked_next}
+use Rattle.sc_words.proofs.PaxosProofs.PaxosLemmas.{Each-among, Each-append, find_found}
+use Rattle.sc_meaning.specs.sound.SoundDefinitions.{Ahead}
+use Rattle.sc_law_groups.proofs.GroupProofs.GroupLemmas.{Steps, birth, IsSaid, AreSaid, Meets, Speaks}
 use Rattle.sc_live_journals.proofs.LogsProofs.NodesInGroups.{AreNodes, MovesNode, BringsNodes, HasNodes, SaysNodes, IfMoves, nodes_stay_nodes, decision_moves, log_nodes}
 
 module _ (Home : ℕ → Type 0) where

@@ -3,10 +3,10 @@ use Rattle.std.proofs.Common.{◌≡◌, ℕ, ◌≤◌, nat_le, true, List, Opt
 use Rattle.std.proofs.lemmas.Bool.{and_from, le-leb}
 use Rattle.sc_base.specs.Definitions.{most_nodes}
 use Rattle.sc_node_table.specs.Values.{Draw, Core, Lock, Free, Coordinating, Promised, Watching, Heard, Outcome, Migrated, Abort}
-use Rattle.sc_node_table.specs.Definitions.{is_node}
-use Rattle.sc_words.proofs.PaxosProofs.Lemmas.{Each-weaker}
+use Rattle.sc_node_table.specs.NodeDefinitions.{is_node}
+use Rattle.sc_words.proofs.PaxosProofs.PaxosLemmas.{Each-weaker}
 use Rattle.sc_scenario.specs.scenario.Definitions.{IsUpTo}
-use Rattle.sc_live_journals.specs.logs.Definitions.{AreNodes, MovesNode, HeardNodes, LockNodes, HasNodes}
+use Rattle.sc_live_journals.specs.logs.LogDefinitions.{AreNodes, MovesNode, HeardNodes, LockNodes, HasNodes}
 use Rattle.sc_live_journals.proofs.LogsProofs.NodesInGroups as so
 
 -- a node of a scenario is one

@@ -5,14 +5,14 @@ use Rattle.sc_base.specs.Definitions.{Each, is_member, with_member, with_any, wi
 use Rattle.sc_node_table.specs.Values.{Draw, Command, Noop, Call, Join, Leave, Split, Begin, Prepared, RecordVote, GiveUp, Finish, Watched, RecordWatch, Lock, Free, Coordinating, Promised, Watching, Effect, Frozen, Heard, No, Outcome, Abort, Merged, Moved, Migrated, Divided, Vote, Core, MailBody, TxVote, TxOutcome, Base}
 use Rattle.sc_words.specs.declared.commands.effects.Effect.TheVariants as Was
 use Rattle.sc_words.specs.declared.commands.votes.Vote.TheVariants as Says
-use Rattle.sc_words.specs.commands.Definitions.{decided_in}
-use Rattle.sc_law_walks.proofs.Lemmas.{ChangesNothing, MachineWalk, machine_step}
-use Rattle.sc_group_table.specs.machine.Definitions.{left_members, left_core, merged_core, closing_core, giving_group, migrated_group, vote_of, watch_vote_of, state_after, Group, group_of, applied, staying, taking_group, can_migrate, bound_by}
-use Rattle.sc_words.proofs.PaxosProofs.Lemmas.{Each-among, Each-append, Each-filter}
+use Rattle.sc_words.specs.commands.CommandDefinitions.{decided_in}
+use Rattle.sc_law_walks.proofs.WalkLemmas.{ChangesNothing, MachineWalk, machine_step}
+use Rattle.sc_group_table.specs.machine.MachineDefinitions.{left_members, left_core, merged_core, closing_core, giving_group, migrated_group, vote_of, watch_vote_of, state_after, Group, group_of, applied, staying, taking_group, can_migrate, bound_by}
+use Rattle.sc_words.proofs.PaxosProofs.PaxosLemmas.{Each-among, Each-append, Each-filter}
 use Rattle.sc_paxos_law.proofs.Lemmas.{member-among}
-use Rattle.sc_meaning.specs.sound.Definitions.{decided_log, Ahead}
-use Rattle.sc_law_entries.specs.logs.Definitions.{Rows}
-use Rattle.sc_live_journals.specs.logs.Definitions.{logged_sets}
+use Rattle.sc_meaning.specs.sound.SoundDefinitions.{decided_log, Ahead}
+use Rattle.sc_law_entries.specs.logs.LogDefinitions.{Rows}
+use Rattle.sc_live_journals.specs.logs.LogDefinitions.{logged_sets}
 
 module _ (Home : ℕ → Type 0) where
   -- each of these is a node

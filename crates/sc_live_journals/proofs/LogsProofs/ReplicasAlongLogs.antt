@@ -4,21 +4,21 @@ use Rattle.std.proofs.lemmas.Bool.{and_parts, cond_both}
 use Rattle.std.proofs.lemmas.List.{length_push, take-take}
 use Rattle.sc_base.specs.Definitions.{Among, Each, IsRoster}
 use Rattle.sc_node_table.specs.Values.{Command, Base, Mail}
-use Rattle.sc_group_table.specs.machine.Definitions.{Group, group_of, applied, state_after}
+use Rattle.sc_group_table.specs.machine.MachineDefinitions.{Group, group_of, applied, state_after}
 use Rattle.sc_group_table.proofs.MachineProofs.Lemmas.{state_push}
-use Rattle.sc_words.specs.paxos.Definitions.{without_flight_at}
-use Rattle.sc_words.proofs.PaxosProofs.Lemmas.{Each-among}
-use Rattle.sc_paxos_law.specs.Definitions.{needed, members_of, IsLog, IsLawfulHistory}
+use Rattle.sc_words.specs.paxos.PaxosDefinitions.{without_flight_at}
+use Rattle.sc_words.proofs.PaxosProofs.PaxosLemmas.{Each-among}
+use Rattle.sc_paxos_law.specs.PaxosLawDefinitions.{needed, members_of, IsLog, IsLawfulHistory}
 use Rattle.sc_paxos_law.proofs.Lemmas.{earlier, longer_log}
-use Rattle.sc_node_table.specs.Definitions.{ended, entered, learnt_to, welcomed, landed, left, looked, executed_one, has_room, next_ready, ReplicaState, Place, name_of, next, members, slots_ahead, at_slot, without_slot, before_of, spoken}
-use Rattle.sc_meaning.specs.sound.Definitions.{Ahead}
-use Rattle.sc_law_entries.proofs.HistoryProofs.Lemmas.{state_same}
-use Rattle.sc_law_walks.specs.Definitions.{IfThere}
-use Rattle.sc_law_walks.proofs.Lemmas.{entered_next, entered_group}
-use Rattle.sc_live_steps.specs.following.Definitions.{Sets, members_at, IsNext, AreNext, AreEntries, AreAt}
-use Rattle.sc_live_steps.proofs.FollowingProofs.Lemmas.{told_state, landed_is, entered_keeps, ends, announced_keeps, spoken_same, are_next as are_later, entered_sets}
-use Rattle.sc_law_groups.proofs.GroupProofs.Lemmas.{IsLearnt, by_own_log, Steps, rule, first, birth, AreSets, Each-without_slot, slot_among, rest_length}
-use Rattle.sc_law_groups.proofs.WholeProofs.Lemmas.{members_stay_rosters}
+use Rattle.sc_node_table.specs.NodeDefinitions.{ended, entered, learnt_to, welcomed, landed, left, looked, executed_one, has_room, next_ready, ReplicaState, Place, name_of, next, members, slots_ahead, at_slot, without_slot, before_of, spoken}
+use Rattle.sc_meaning.specs.sound.SoundDefinitions.{Ahead}
+use Rattle.sc_law_entries.proofs.HistoryProofs.HistoryLemmas.{state_same}
+use Rattle.sc_law_walks.specs.WalkDefinitions.{IfThere}
+use Rattle.sc_law_walks.proofs.WalkLemmas.{entered_next, entered_group}
+use Rattle.sc_live_steps.specs.following.FollowingDefinitions.{Sets, members_at, IsNext, AreNext, AreEntries, AreAt}
+use Rattle.sc_live_steps.proofs.FollowingProofs.FollowingLemmas.{told_state, landed_is, entered_keeps, ends, announced_keeps, spoken_same, are_next as are_later, entered_sets}
+use Rattle.sc_law_groups.proofs.GroupProofs.GroupLemmas.{IsLearnt, by_own_log, Steps, rule, first, birth, AreSets, Each-without_slot, slot_among, rest_length}
+use Rattle.sc_law_groups.proofs.WholeProofs.WholeLemmas.{members_stay_rosters}
 
 -- a ready command that is executed next is ready at the next slot, and the replica runs
 pub next_ready_is : (r : ReplicaState) (c : Command) → next_ready r ≡ Some c → Among (next r, c) r.ready × (r.running ≡ true)

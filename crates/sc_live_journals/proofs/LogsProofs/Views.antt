@@ -4,11 +4,11 @@ use Rattle.std.proofs.lemmas.Bool.{eqb-true}
 use Rattle.std.specs.List.{find}
 use Rattle.sc_node_table.specs.Values.{Draw, Node, Client, Seat}
 use Rattle.sc_actor.specs.Definitions.{value}
-use Rattle.sc_words.proofs.PaxosProofs.Lemmas.{find_found}
-use Rattle.sc_node_table.specs.Definitions.{NodeState, replica_of, ReplicaState}
-use Rattle.sc_meaning.specs.sound.Definitions.{Player, births, player_table}
-use Rattle.sc_live_journals.specs.rows.Definitions.{replicas_of, replica_in}
-use Rattle.sc_live_journals.specs.logs.Definitions.{HasReplica, ViewsAreReplicas}
+use Rattle.sc_words.proofs.PaxosProofs.PaxosLemmas.{find_found}
+use Rattle.sc_node_table.specs.NodeDefinitions.{NodeState, replica_of, ReplicaState}
+use Rattle.sc_meaning.specs.sound.SoundDefinitions.{Player, births, player_table}
+use Rattle.sc_live_journals.specs.rows.RowDefinitions.{replicas_of, replica_in}
+use Rattle.sc_live_journals.specs.logs.LogDefinitions.{HasReplica, ViewsAreReplicas}
 
 -- of a player that has one, and is a node then
 in_player : (name : Draw) (player : Player) (r : ReplicaState) → replica_of name (replicas_of player) ≡ Some r → (node : NodeState) × (player ≡ Node node) × (replica_of name node.replicas ≡ Some r)

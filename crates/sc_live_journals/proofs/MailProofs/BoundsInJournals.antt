@@ -2,9 +2,9 @@
 use Rattle.std.proofs.Common.{ℕ, ◌+◌, ◌≤◌, List, refl, sym, subst, inl, inr, arith}
 use Rattle.sc_base.specs.Definitions.{Each}
 use Rattle.sc_node_table.specs.Values.{Command, Mail, MailBody, Prepare, Promise, Accept, Accepted, Nack, Learn, Ask, Install, Seat, Flight, Report}
-use Rattle.sc_words.proofs.PaxosProofs.Lemmas.{Each-weaker}
-use Rattle.sc_meaning.specs.sound.Definitions.{Player, births, as_nodes}
-use Rattle.sc_live_journals.specs.mail.Definitions.{most_after, IsFewReport, SaysFew, JournalsHaveFew, SlotsAreLeft, JournalsKeepIdle}
+use Rattle.sc_words.proofs.PaxosProofs.PaxosLemmas.{Each-weaker}
+use Rattle.sc_meaning.specs.sound.SoundDefinitions.{Player, births, as_nodes}
+use Rattle.sc_live_journals.specs.mail.MailDefinitions.{most_after, IsFewReport, SaysFew, JournalsHaveFew, SlotsAreLeft, JournalsKeepIdle}
 use Rattle.sc_live_journals.proofs.MailProofs.BoundsInLists.{FlyTo, WaitTo}
 use Rattle.sc_live_journals.proofs.MailProofs.BoundsInRows.{Early, Late, few_walk, few_births}
 use Rattle.sc_live_journals.proofs.MailProofs.WalkedJournals.{Speaks, Law, journals_hold, view_kept}

@@ -3,10 +3,10 @@ use Rattle.std.proofs.Common.{◌≡◌, ℕ, ◌≤◌, nat_lt, eqb, Bool, true
 use Rattle.std.proofs.lemmas.Bool.{eqb-true}
 use Rattle.sc_base.specs.Definitions.{Each, is_majority, same_ballot}
 use Rattle.sc_node_table.specs.Values.{Command, Ballot, Counted, Chosen, NotYet, Flight, Report}
-use Rattle.sc_words.specs.paxos.Definitions.{with_report, LeaderState, flight_at, without_flight, without_flight_at, counted, vote_at, with_voters, voters_after, kept_voters}
-use Rattle.sc_words.proofs.PaxosProofs.Lemmas.{Each-append, Each-filter}
-use Rattle.sc_node_table.specs.Definitions.{at_slot, with_slot, without_slot}
-use Rattle.sc_law_walks.proofs.Lemmas.{either_way}
+use Rattle.sc_words.specs.paxos.PaxosDefinitions.{with_report, LeaderState, flight_at, without_flight, without_flight_at, counted, vote_at, with_voters, voters_after, kept_voters}
+use Rattle.sc_words.proofs.PaxosProofs.PaxosLemmas.{Each-append, Each-filter}
+use Rattle.sc_node_table.specs.NodeDefinitions.{at_slot, with_slot, without_slot}
+use Rattle.sc_law_walks.proofs.WalkLemmas.{either_way}
 
 -- flights and entries at slots not above `most`
 abbrev pub FlyTo : ℕ → List (Flight Command) → Type 0

@@ -3,12 +3,12 @@ use Rattle.std.proofs.Common.{◌≡◌, ℕ, ◌+◌, ◌≤◌, nat_le, nat_lt
 use Rattle.std.proofs.lemmas.List.{length_push}
 use Rattle.sc_base.specs.Definitions.{Each, same_ballot, is_member}
 use Rattle.sc_node_table.specs.Values.{Ballot, Command, Base, Flight, Report}
-use Rattle.sc_words.specs.paxos.Definitions.{reports_from, LeaderState, promise_counted, LogState, installed, log_cut, next_of}
-use Rattle.sc_words.proofs.PaxosProofs.Lemmas.{Each-append, Each-filter, Each-weaker}
-use Rattle.sc_node_table.specs.Definitions.{floor_of, at_slot}
-use Rattle.sc_law_walks.proofs.Lemmas.{entry_low, entry_is, floor_under, cut_next, either_way}
-use Rattle.sc_live_journals.proofs.RowsProofs.Lemmas.{floor_most}
-use Rattle.sc_live_journals.specs.mail.Definitions.{most_after, IsFewReport, SaysFew}
+use Rattle.sc_words.specs.paxos.PaxosDefinitions.{reports_from, LeaderState, promise_counted, LogState, installed, log_cut, next_of}
+use Rattle.sc_words.proofs.PaxosProofs.PaxosLemmas.{Each-append, Each-filter, Each-weaker}
+use Rattle.sc_node_table.specs.NodeDefinitions.{floor_of, at_slot}
+use Rattle.sc_law_walks.proofs.WalkLemmas.{entry_low, entry_is, floor_under, cut_next, either_way}
+use Rattle.sc_live_journals.proofs.RowsProofs.RowLemmas.{floor_most}
+use Rattle.sc_live_journals.specs.mail.MailDefinitions.{most_after, IsFewReport, SaysFew}
 use Rattle.sc_live_journals.proofs.MailProofs.BoundsInLists.{FlyTo, WaitTo, flights_less, votes_few, entries_less, entries_more, found_low, reports_more}
 use Rattle.sc_live_journals.proofs.MailProofs.Walks.{PartWalk, PartBirths, Part, next_in, cut_part, entered_part, jumped_part, elected_part, born_part}
 

@@ -3,10 +3,10 @@ use Rattle.std.proofs.Common.{◌≡◌, ℕ, ◌+◌, nat_le, cond, [], ◌∷�
 use Rattle.sc_base.specs.Definitions.{Each}
 use Rattle.sc_node_table.specs.Values.{Draw, Op, OrderLine, Input, Got, AnswerBody, Mail, MailBody, Answer}
 use Rattle.sc_actor.specs.declared.rows.Input.TheVariants.{Tick, Go, Told}
-use Rattle.sc_client_table.specs.lookup.Definitions.{target_in, preferring, passed_on, learnt_from_not_mine, learnt_from_gone}
+use Rattle.sc_client_table.specs.lookup.LookupDefinitions.{target_in, preferring, passed_on, learnt_from_not_mine, learnt_from_gone}
 use Rattle.sc_mail.specs.declared.bodies.AnswerBody.TheVariants as Says
-use Rattle.sc_client_table.specs.table.Definitions.{Client, waiting_request, ClientStep, request_of, asked_of, sent_to, sent_where, chosen_for, request_sent, started, client_ticked, waits_for, was_asked, redirected, answer_taken, got, table}
-use Rattle.sc_law_walks.proofs.Lemmas.{either_way}
+use Rattle.sc_client_table.specs.table.TableDefinitions.{Client, waiting_request, ClientStep, request_of, asked_of, sent_to, sent_where, chosen_for, request_sent, started, client_ticked, waits_for, was_asked, redirected, answer_taken, got, table}
+use Rattle.sc_law_walks.proofs.WalkLemmas.{either_way}
 
 -- a request of a client
 abbrev pub IsRequestOf : ℕ → Mail → Type 0

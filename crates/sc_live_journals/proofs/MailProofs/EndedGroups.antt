@@ -1,9 +1,9 @@
 -- A group that is gone and free stays so, whatever its replica does, but where it takes a state.
 use Rattle.std.proofs.Common.{cond, Option, Some, None, sym, subst}
 use Rattle.sc_node_table.specs.Values.{Draw, Command, Noop, Call, Join, Leave, Split, Begin, Prepared, RecordVote, GiveUp, Finish, Watched, RecordWatch, Lock, Route, Effect, NoEffect, OrderRefusal, No}
-use Rattle.sc_group_table.specs.machine.Definitions.{finished, Group, called, ordered_by, applied, locked_in, ordered, has_named, vote_recorded, watch_recorded, aborted, is_coordinating, no_of, offer_no, watch_no, has_voted, voted_on}
-use Rattle.sc_law_walks.proofs.Lemmas.{either_way}
-use Rattle.sc_live_journals.specs.mail.Definitions.{IsOver, EntriesLeaveOver}
+use Rattle.sc_group_table.specs.machine.MachineDefinitions.{finished, Group, called, ordered_by, applied, locked_in, ordered, has_named, vote_recorded, watch_recorded, aborted, is_coordinating, no_of, offer_no, watch_no, has_voted, voted_on}
+use Rattle.sc_law_walks.proofs.WalkLemmas.{either_way}
+use Rattle.sc_live_journals.specs.mail.MailDefinitions.{IsOver, EntriesLeaveOver}
 
 -- ---- an entry
 

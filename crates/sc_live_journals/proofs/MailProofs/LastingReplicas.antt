@@ -8,17 +8,17 @@ use Rattle.sc_base.proofs.Lemmas.{draw_is, same_name}
 use Rattle.sc_actor.specs.declared.rows.Event.TheVariants.{Told as ToldEvent}
 use Rattle.sc_actor.specs.declared.rows.Input.TheVariants.{Tick, Go as GoInput, Told as ToldInput}
 use Rattle.sc_actor.specs.Definitions.{mails, numbered, value, acted, input_of, row_of}
-use Rattle.sc_live_orderly.specs.Definitions.{IsCalmEvent, AreInTime}
-use Rattle.sc_live_orderly.proofs.Lemmas.{last_in_time, in_time_before}
+use Rattle.sc_live_orderly.specs.OrderlyDefinitions.{IsCalmEvent, AreInTime}
+use Rattle.sc_live_orderly.proofs.OrderlyLemmas.{last_in_time, in_time_before}
 use Rattle.sc_scenario.specs.declared.scenario.scenarios.Scenario.{Scenario}
-use Rattle.sc_node_table.specs.Definitions.{NodeState, replica_of, with_replica, with_made, unknown, may_come, group_of_mail, taken_by, routed, group_of_order, ordered_of, ordered_row, ReplicaState, Place, Executed, name_of, last_slot, mailed, made_by, slots_ahead}
-use Rattle.sc_meaning.specs.sound.Definitions.{Player, player_table, births, as_nodes}
-use Rattle.sc_law_walks.proofs.Lemmas.{either_way}
-use Rattle.sc_live_steps.specs.calm.Definitions.{players, Rows}
-use Rattle.sc_live_steps.proofs.CalmStepsProofs.Lemmas.{put_found, put_others, children_found}
-use Rattle.sc_live_journals.specs.rows.Definitions.{replicas_of, view_at, IsSeat, with_event}
-use Rattle.sc_live_journals.proofs.RowsProofs.Lemmas.{names_stay, found_name, view_others, view_was, view_is, new_others}
-use Rattle.sc_live_journals.specs.mail.Definitions.{IsPlainlyKept, HasGrown, IsLater, ReplicasLast}
+use Rattle.sc_node_table.specs.NodeDefinitions.{NodeState, replica_of, with_replica, with_made, unknown, may_come, group_of_mail, taken_by, routed, group_of_order, ordered_of, ordered_row, ReplicaState, Place, Executed, name_of, last_slot, mailed, made_by, slots_ahead}
+use Rattle.sc_meaning.specs.sound.SoundDefinitions.{Player, player_table, births, as_nodes}
+use Rattle.sc_law_walks.proofs.WalkLemmas.{either_way}
+use Rattle.sc_live_steps.specs.calm.CalmDefinitions.{players, Rows}
+use Rattle.sc_live_steps.proofs.CalmStepsProofs.CalmStepLemmas.{put_found, put_others, children_found}
+use Rattle.sc_live_journals.specs.rows.RowDefinitions.{replicas_of, view_at, IsSeat, with_event}
+use Rattle.sc_live_journals.proofs.RowsProofs.RowLemmas.{names_stay, found_name, view_others, view_was, view_is, new_others}
+use Rattle.sc_live_journals.specs.mail.MailDefinitions.{IsPlainlyKept, HasGrown, IsLater, ReplicasLast}
 use Rattle.sc_live_journals.proofs.MailProofs.BoundsInJournals.{journals_idle}
 use Rattle.sc_live_journals.proofs.MailProofs.RisingReplicas.{mailed_grown, ordered_grown, same_grown, grown_on}
 

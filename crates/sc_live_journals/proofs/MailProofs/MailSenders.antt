@@ -4,16 +4,16 @@ use Rattle.std.proofs.lemmas.Bool.{le-leb}
 use Rattle.sc_base.specs.Definitions.{Each, most_nodes}
 use Rattle.sc_node_table.specs.Values.{Base, Mail, MailBody, Request, Node, Client, Seat}
 use Rattle.sc_actor.specs.Definitions.{mails, value}
-use Rattle.sc_words.proofs.PaxosProofs.Lemmas.{Each-among, Each-append, Each-weaker, find_found, find_nothing}
+use Rattle.sc_words.proofs.PaxosProofs.PaxosLemmas.{Each-among, Each-append, Each-weaker, find_found, find_nothing}
 use Rattle.sc_scenario.specs.declared.scenario.scenarios.Asks.{Asks as Requests}
 use Rattle.sc_scenario.specs.declared.scenario.scenarios.Scenario.{Scenario}
-use Rattle.sc_node_table.specs.Definitions.{may_come, is_node, numbers_from}
-use Rattle.sc_client_table.specs.table.Definitions.{Client as ClientState}
-use Rattle.sc_meaning.specs.sound.Definitions.{Player, player_table, node_seat, client_seat, client_seats, route_of, births, as_nodes}
-use Rattle.sc_live_steps.specs.calm.Definitions.{players, Rows}
-use Rattle.sc_live_orderly.specs.Definitions.{AreInTime}
-use Rattle.sc_live_journals.specs.rows.Definitions.{IsSeat}
-use Rattle.sc_live_journals.specs.mail.Definitions.{IsNodesBody, IsClientsBody, IsPlayers, IsPosted, MailIsPosted, MailMayCome, DesksAreNotBorn}
+use Rattle.sc_node_table.specs.NodeDefinitions.{may_come, is_node, numbers_from}
+use Rattle.sc_client_table.specs.table.TableDefinitions.{Client as ClientState}
+use Rattle.sc_meaning.specs.sound.SoundDefinitions.{Player, player_table, node_seat, client_seat, client_seats, route_of, births, as_nodes}
+use Rattle.sc_live_steps.specs.calm.CalmDefinitions.{players, Rows}
+use Rattle.sc_live_orderly.specs.OrderlyDefinitions.{AreInTime}
+use Rattle.sc_live_journals.specs.rows.RowDefinitions.{IsSeat}
+use Rattle.sc_live_journals.specs.mail.MailDefinitions.{IsNodesBody, IsClientsBody, IsPlayers, IsPosted, MailIsPosted, MailMayCome, DesksAreNotBorn}
 use Rattle.sc_live_journals.proofs.MailProofs.WalkedJournals.{Speaks, Law, Plays, journals_hold}
 use Rattle.sc_live_journals.proofs.MailProofs.PartWalks.{hears_all}
 use Rattle.sc_live_journals.proofs.MailProofs.Walks.{PartWalk}

@@ -3,17 +3,17 @@ use Rattle.std.proofs.Common.{◌≡◌, ℕ, ◌+◌, ◌≤◌, cond, List, So
 use Rattle.sc_base.specs.Definitions.{Each, Drawer, is_member}
 use Rattle.sc_node_table.specs.Values.{Ballot, Draw, Command, Base, Lock, Free, Coordinating, Promised, Watching, Mail, MailBody, OrderLine, Prepare, Install, Input}
 use Rattle.std.proofs.lemmas.Bool.{cond_both}
-use Rattle.sc_group_table.specs.machine.Definitions.{applied}
-use Rattle.sc_words.specs.paxos.Definitions.{below}
+use Rattle.sc_group_table.specs.machine.MachineDefinitions.{applied}
+use Rattle.sc_words.specs.paxos.PaxosDefinitions.{below}
 use Rattle.sc_law_walks.proofs.Walks.{ended_replica}
-use Rattle.sc_node_table.specs.Definitions.{entered, named, jumped, forgotten, ReplicaState, Place, Executed, name_of, next, waits_in, installed_replica, mailed, ordered_row, looked, looked_up, members, NodeState, node_table}
-use Rattle.sc_words.proofs.PaxosProofs.Lemmas.{Each-weaker}
-use Rattle.sc_law_walks.specs.Definitions.{IsKept}
-use Rattle.sc_law_walks.proofs.Lemmas.{Facts, States, Mails, Walk, Births, Sends as SendsBy, AreSaid as AreSaidBy, Hears as Heard, hears_all as heard_all, back_any, either_way}
+use Rattle.sc_node_table.specs.NodeDefinitions.{entered, named, jumped, forgotten, ReplicaState, Place, Executed, name_of, next, waits_in, installed_replica, mailed, ordered_row, looked, looked_up, members, NodeState, node_table}
+use Rattle.sc_words.proofs.PaxosProofs.PaxosLemmas.{Each-weaker}
+use Rattle.sc_law_walks.specs.WalkDefinitions.{IsKept}
+use Rattle.sc_law_walks.proofs.WalkLemmas.{Facts, States, Mails, Walk, Births, Sends as SendsBy, AreSaid as AreSaidBy, Hears as Heard, hears_all as heard_all, back_any, either_way}
 use Rattle.sc_law_walks.proofs.WalkParts as row_parts
 use Rattle.sc_law_walks.proofs.WalkRows as rows
 use Rattle.sc_law_walks.proofs.WalkNodes as nodes
-use Rattle.sc_live_journals.specs.mail.Definitions.{IsPlainlyKept}
+use Rattle.sc_live_journals.specs.mail.MailDefinitions.{IsPlainlyKept}
 use Rattle.sc_live_journals.proofs.MailProofs.Walks.{PartWalk, PartBirths, Part, part, elected_part}
 
 -- no transaction begins to wait but by a tick

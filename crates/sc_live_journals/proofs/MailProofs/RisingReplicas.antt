@@ -2,10 +2,10 @@
 use Rattle.std.proofs.Common.{ℕ, ◌+◌, ◌≤◌, [], inl, arith}
 use Rattle.sc_node_table.specs.Values.{Ballot, Command, OrderLine, MailBody}
 use Rattle.sc_base.specs.Definitions.{Drawer}
-use Rattle.sc_words.specs.paxos.Definitions.{IsAtLeast}
-use Rattle.sc_words.proofs.PaxosProofs.Lemmas.{below_from, at_least_trans, at_least_itself, at_least_from_below}
-use Rattle.sc_node_table.specs.Definitions.{ordered_row, ReplicaState, next, mailed}
-use Rattle.sc_live_journals.specs.mail.Definitions.{IsPlainlyKept, HasGrown}
+use Rattle.sc_words.specs.paxos.PaxosDefinitions.{IsAtLeast}
+use Rattle.sc_words.proofs.PaxosProofs.PaxosLemmas.{below_from, at_least_trans, at_least_itself, at_least_from_below}
+use Rattle.sc_node_table.specs.NodeDefinitions.{ordered_row, ReplicaState, next, mailed}
+use Rattle.sc_live_journals.specs.mail.MailDefinitions.{IsPlainlyKept, HasGrown}
 use Rattle.sc_live_journals.proofs.MailProofs.BoundsInRows.{entered_up, installed_up}
 use Rattle.sc_live_journals.proofs.MailProofs.PartWalks.{takes_mail, orders, hears_all}
 use Rattle.sc_live_journals.proofs.MailProofs.Walks.{PartWalk, Part, next_in, entered_part, elected_part}

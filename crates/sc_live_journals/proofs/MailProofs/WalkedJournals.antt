@@ -9,18 +9,18 @@ use Rattle.sc_actor.specs.declared.rows.Event.TheVariants.{Told as ToldEvent}
 use Rattle.sc_actor.specs.declared.rows.Input.TheVariants.{Go as GoInput, Told as ToldInput}
 use Rattle.sc_actor.specs.Definitions.{mails, numbered, value, acted, input_of, row_of}
 use Rattle.sc_actor.proofs.Lemmas.{value-snoc, mails-snoc}
-use Rattle.sc_live_orderly.specs.Definitions.{IsCalmEvent, AreInTime}
-use Rattle.sc_live_orderly.proofs.Lemmas.{by_time, last_in_time}
-use Rattle.sc_client_table.specs.table.Definitions.{Client as ClientState, table}
-use Rattle.sc_words.proofs.PaxosProofs.Lemmas.{Each-among, Each-append, Each-weaker, find_found}
-use Rattle.sc_node_table.specs.Definitions.{NodeState, born_replicas, node_table, replica_of, ReplicaState, name_of, born_replica, slots_ahead, numbers_from}
+use Rattle.sc_live_orderly.specs.OrderlyDefinitions.{IsCalmEvent, AreInTime}
+use Rattle.sc_live_orderly.proofs.OrderlyLemmas.{by_time, last_in_time}
+use Rattle.sc_client_table.specs.table.TableDefinitions.{Client as ClientState, table}
+use Rattle.sc_words.proofs.PaxosProofs.PaxosLemmas.{Each-among, Each-append, Each-weaker, find_found}
+use Rattle.sc_node_table.specs.NodeDefinitions.{NodeState, born_replicas, node_table, replica_of, ReplicaState, name_of, born_replica, slots_ahead, numbers_from}
 use Rattle.sc_scenario.specs.declared.scenario.scenarios.Asks.{Asks as Requests}
 use Rattle.sc_scenario.specs.declared.scenario.scenarios.Scenario.{Scenario}
-use Rattle.sc_meaning.specs.sound.Definitions.{Player, player_table, node_seat, client_seat, client_seats, route_of, births, as_nodes}
-use Rattle.sc_live_steps.specs.calm.Definitions.{players, Rows}
-use Rattle.sc_live_journals.specs.rows.Definitions.{replicas_of, replica_in, view_at, IsSeat}
-use Rattle.sc_law_walks.proofs.Lemmas.{either_way}
-use Rattle.sc_live_journals.specs.mail.Definitions.{IsPlainlyKept}
+use Rattle.sc_meaning.specs.sound.SoundDefinitions.{Player, player_table, node_seat, client_seat, client_seats, route_of, births, as_nodes}
+use Rattle.sc_live_steps.specs.calm.CalmDefinitions.{players, Rows}
+use Rattle.sc_live_journals.specs.rows.RowDefinitions.{replicas_of, replica_in, view_at, IsSeat}
+use Rattle.sc_law_walks.proofs.WalkLemmas.{either_way}
+use Rattle.sc_live_journals.specs.mail.MailDefinitions.{IsPlainlyKept}
 use Rattle.sc_live_journals.proofs.MailProofs.Clients.{IsRequestOf, clients_ask}
 use Rattle.sc_live_journals.proofs.MailProofs.PartWalks.{Given, Starts, Stands, input_step, Sends, EarlyAt, LateAt, Hears}
 use Rattle.sc_live_journals.proofs.MailProofs.Walks.{PartWalk, PartBirths, Part, part, born_part}

@@ -2,10 +2,10 @@
 use Rattle.std.proofs.Common.{◌≡◌, ℕ, ◌+◌, ◌-◌, ◌<◌, ◌≤◌, true, List, [], Option, Some}
 use Rattle.sc_base.specs.Definitions.{Each, client_actor}
 use Rattle.sc_node_table.specs.Values.{Ballot, Draw, Offer, Watch, Command, Base, OrderResult, Outcome, Past, Vote, AnswerBody, MailBody, Answer, Prepare, Promise, Accept, Accepted, Nack, Learn, Ask, Install, TxPrepare, TxVote, TxOutcome, TxElsewhere, TxWatch, TxWatched, Told, Report}
-use Rattle.sc_group_table.specs.machine.Definitions.{Group, group_of, base_of, applied}
-use Rattle.sc_words.specs.paxos.Definitions.{AcceptorState, born_acceptor, reports_from, after_promise, after_accept, after_cut, below, LeaderState, first_leader, new_leader, promise_counted, with_flight_at, without_flight_at, LogState, empty_log, installed, entry_at, log_cut, next_of, counted}
-use Rattle.sc_node_table.specs.Definitions.{with_entry, named, ReplicaState, first_ballot, floor_of, slots_ahead, at_slot, with_slot, without_slot}
-use Rattle.sc_law_walks.proofs.Lemmas.{IsReported as Reported}
+use Rattle.sc_group_table.specs.machine.MachineDefinitions.{Group, group_of, base_of, applied}
+use Rattle.sc_words.specs.paxos.PaxosDefinitions.{AcceptorState, born_acceptor, reports_from, after_promise, after_accept, after_cut, below, LeaderState, first_leader, new_leader, promise_counted, with_flight_at, without_flight_at, LogState, empty_log, installed, entry_at, log_cut, next_of, counted}
+use Rattle.sc_node_table.specs.NodeDefinitions.{with_entry, named, ReplicaState, first_ballot, floor_of, slots_ahead, at_slot, with_slot, without_slot}
+use Rattle.sc_law_walks.proofs.WalkLemmas.{IsReported as Reported}
 
 -- what of a replica such a law speaks of: all but what waits, whether it runs and whom it takes for the leader
 pub record Part : Type 0 where

@@ -3,19 +3,19 @@ use Rattle.std.proofs.Common.{◌≡◌, ℕ, suc, ◌+◌, true, false, List, [
 use Rattle.std.specs.Option.{option_map}
 use Rattle.sc_node_table.specs.Values.{Draw, Command, Learn, Deliver, Flight}
 use Rattle.sc_base.specs.Definitions.{IsRoster, is_member, least_of}
-use Rattle.sc_words.specs.paxos.Definitions.{LeaderState, flight_at}
-use Rattle.sc_node_table.specs.Definitions.{entered, group_of_mail, ReplicaState, Place, name_of, next, members, either, mailed, at_slot}
-use Rattle.sc_group_table.specs.machine.Definitions.{Group}
-use Rattle.sc_live_steps.specs.following.Definitions.{IsLed, Teaches, mark_of, Course, Progress, Sets, members_at, IsLeadOf, AreAt, ElectsBy, next_ballot}
-use Rattle.sc_live_steps.proofs.FollowingProofs.Lemmas.{tables_elect, least_in, same_mark}
-use Rattle.sc_live_journals.specs.rows.Definitions.{IsPast, IsNextLead, ElectionsKeepFollowing, next_in, promise_in, progress_at, elected_course, with_event}
+use Rattle.sc_words.specs.paxos.PaxosDefinitions.{LeaderState, flight_at}
+use Rattle.sc_node_table.specs.NodeDefinitions.{entered, group_of_mail, ReplicaState, Place, name_of, next, members, either, mailed, at_slot}
+use Rattle.sc_group_table.specs.machine.MachineDefinitions.{Group}
+use Rattle.sc_live_steps.specs.following.FollowingDefinitions.{IsLed, Teaches, mark_of, Course, Progress, Sets, members_at, IsLeadOf, AreAt, ElectsBy, next_ballot}
+use Rattle.sc_live_steps.proofs.FollowingProofs.FollowingLemmas.{tables_elect, least_in, same_mark}
+use Rattle.sc_live_journals.specs.rows.RowDefinitions.{IsPast, IsNextLead, ElectionsKeepFollowing, next_in, promise_in, progress_at, elected_course, with_event}
 use Rattle.sc_live_journals.proofs.RowsProofs.ScenarioGroups.{none_some, none_flies}
 use Rattle.sc_live_journals.proofs.RowsProofs.FollowingRows.{rows_keep}
 use Rattle.sc_live_journals.proofs.RowsProofs.LearntEntries.{learnt_entries_executed}
 use Rattle.sc_live_journals.proofs.RowsProofs.MailRows.{named, row_to, fit, taken, apart_off}
 use Rattle.sc_live_journals.proofs.RowsProofs.ReplicaSteps.{steps_elect}
 pub use Rattle.sc_live_steps.proofs.CalmStepsProofs.CountedPotential.{entered_me}
-pub use Rattle.sc_law_walks.proofs.Lemmas.{entered_name}
+pub use Rattle.sc_law_walks.proofs.WalkLemmas.{entered_name}
 
 true_false : true ≡ false → ⊥
 true_false e = cc

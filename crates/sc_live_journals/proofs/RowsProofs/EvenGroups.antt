@@ -4,13 +4,13 @@ use Rattle.std.proofs.lemmas.Bool.{cases_Bool}
 use Rattle.sc_node_table.specs.Values.{Base, Seat}
 use Rattle.sc_base.specs.Definitions.{IsRoster}
 use Rattle.sc_actor.specs.Definitions.{is_quiet}
-use Rattle.sc_live_orderly.specs.Definitions.{is_born, AreInTime}
-use Rattle.sc_live_orderly.proofs.Lemmas.{in_time_tidy, quiet-empty}
-use Rattle.sc_meaning.specs.sound.Definitions.{Player}
-use Rattle.sc_live_steps.specs.calm.Definitions.{players, Rows}
-use Rattle.sc_live_steps.specs.following.Definitions.{marks_of, Course, Sets, IsEven, IsEvenLed}
-use Rattle.sc_live_steps.proofs.FollowingProofs.Lemmas.{quiet-even}
-use Rattle.sc_live_journals.specs.rows.Definitions.{IsEvenAt, QuietGroupsRest, progress_at, marks_at, IsLedBy, IsFollowedAt}
+use Rattle.sc_live_orderly.specs.OrderlyDefinitions.{is_born, AreInTime}
+use Rattle.sc_live_orderly.proofs.OrderlyLemmas.{in_time_tidy, quiet-empty}
+use Rattle.sc_meaning.specs.sound.SoundDefinitions.{Player}
+use Rattle.sc_live_steps.specs.calm.CalmDefinitions.{players, Rows}
+use Rattle.sc_live_steps.specs.following.FollowingDefinitions.{marks_of, Course, Sets, IsEven, IsEvenLed}
+use Rattle.sc_live_steps.proofs.FollowingProofs.FollowingLemmas.{quiet-even}
+use Rattle.sc_live_journals.specs.rows.RowDefinitions.{IsEvenAt, QuietGroupsRest, progress_at, marks_at, IsLedBy, IsFollowedAt}
 
 -- in a quiet journal no mail of the group is pending for anybody
 pub none_pending : (words : ℕ → ℕ → ℕ × ℕ) (births : List (Seat Player)) (rows : Rows) (base : Base) → AreInTime (players words births) rows → is_quiet (players words births) rows ≡ true

@@ -4,13 +4,13 @@ use Rattle.std.proofs.lemmas.Bool.{cases_eq}
 use Rattle.sc_node_table.specs.Values.{Ballot, Draw, Base, OrderLine, Seat, Event}
 use Rattle.sc_base.specs.Definitions.{IsRoster}
 use Rattle.sc_actor.specs.Definitions.{mails, row_of}
-use Rattle.sc_live_orderly.specs.Definitions.{AreInTime}
-use Rattle.sc_node_table.specs.Definitions.{ReplicaState, Place, next}
-use Rattle.sc_meaning.specs.sound.Definitions.{Player, player_table}
-use Rattle.sc_live_steps.specs.calm.Definitions.{players, Rows}
-use Rattle.sc_live_steps.specs.following.Definitions.{Course, Progress, Sets, IsLeadOf, IsRow, IsIdle, Takes, Elects, marks_for}
-use Rattle.sc_live_steps.proofs.FollowingProofs.Lemmas.{self_election-keeps, idle-keeps, takes-keeps, leads-keeps}
-use Rattle.sc_live_journals.specs.rows.Definitions.{view_at, next_in, promise_in, progress_at, marks_at, taken_mark, IsLedBy, IsCourseOf, IsFollowedAt, LeavesLead, RowsKeepFollowing, led_course, elected_course, LedBy, with_event, IsKind, IsReplicasRow}
+use Rattle.sc_live_orderly.specs.OrderlyDefinitions.{AreInTime}
+use Rattle.sc_node_table.specs.NodeDefinitions.{ReplicaState, Place, next}
+use Rattle.sc_meaning.specs.sound.SoundDefinitions.{Player, player_table}
+use Rattle.sc_live_steps.specs.calm.CalmDefinitions.{players, Rows}
+use Rattle.sc_live_steps.specs.following.FollowingDefinitions.{Course, Progress, Sets, IsLeadOf, IsRow, IsIdle, Takes, Elects, marks_for}
+use Rattle.sc_live_steps.proofs.FollowingProofs.FollowingLemmas.{self_election-keeps, idle-keeps, takes-keeps, leads-keeps}
+use Rattle.sc_live_journals.specs.rows.RowDefinitions.{view_at, next_in, promise_in, progress_at, marks_at, taken_mark, IsLedBy, IsCourseOf, IsFollowedAt, LeavesLead, RowsKeepFollowing, led_course, elected_course, LedBy, with_event, IsKind, IsReplicasRow}
 use Rattle.sc_live_journals.proofs.RowsProofs.LeadersInGroups.{leads_too}
 use Rattle.sc_live_journals.proofs.RowsProofs.RowMarks.{rows_are}
 use Rattle.sc_live_journals.proofs.RowsProofs.ReplicaViews.{view_others}

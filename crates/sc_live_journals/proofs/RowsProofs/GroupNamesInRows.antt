@@ -2,8 +2,8 @@
 use Rattle.std.proofs.Common.{◌≡◌, ℕ, List, refl}
 use Rattle.sc_base.specs.Definitions.{Drawer}
 use Rattle.sc_node_table.specs.Values.{Draw, Base, OrderLine, MailBody, Request, Prepare, Promise, Accept, Accepted, Nack, Learn, Ask, Install}
-use Rattle.sc_node_table.specs.Definitions.{ordered_row, mailed, made_by, Place, name_of}
-use Rattle.sc_live_steps.specs.following.Definitions.{Asks, Votes, Teaches, Installs, Prepares, Promises}
+use Rattle.sc_node_table.specs.NodeDefinitions.{ordered_row, mailed, made_by, Place, name_of}
+use Rattle.sc_live_steps.specs.following.FollowingDefinitions.{Asks, Votes, Teaches, Installs, Prepares, Promises}
 use Rattle.sc_live_journals.proofs.RowsProofs.SilentMail.{AreQuiet, IsQuietBody, IsQuietMail, own_quiet}
 use Rattle.sc_live_journals.proofs.RowsProofs.OwnGroupMail as own
 

@@ -4,11 +4,11 @@ use Rattle.std.proofs.lemmas.Bool.{cond-true, eq-eqb}
 use Rattle.sc_base.specs.Definitions.{Among}
 use Rattle.sc_node_table.specs.Values.{Base, OrderLine, Seat, Event}
 use Rattle.sc_actor.specs.Definitions.{mails, row_of}
-use Rattle.sc_node_table.specs.Definitions.{ReplicaState, Place, name_of, next}
-use Rattle.sc_meaning.specs.sound.Definitions.{Player, player_table}
-use Rattle.sc_live_steps.specs.calm.Definitions.{Rows}
-use Rattle.sc_live_steps.specs.following.Definitions.{IsLed, Mark, Asks, Course, Progress, Sets, IsLeadOf, progress_by, LeadsInto, IsOffered, Leads, marks_for}
-use Rattle.sc_live_journals.specs.rows.Definitions.{next_in, promise_in, progress_at, taken_mark, led_course, LedBy, StepsLead, with_event, IsReplicasRow}
+use Rattle.sc_node_table.specs.NodeDefinitions.{ReplicaState, Place, name_of, next}
+use Rattle.sc_meaning.specs.sound.SoundDefinitions.{Player, player_table}
+use Rattle.sc_live_steps.specs.calm.CalmDefinitions.{Rows}
+use Rattle.sc_live_steps.specs.following.FollowingDefinitions.{IsLed, Mark, Asks, Course, Progress, Sets, IsLeadOf, progress_by, LeadsInto, IsOffered, Leads, marks_for}
+use Rattle.sc_live_journals.specs.rows.RowDefinitions.{next_in, promise_in, progress_at, taken_mark, led_course, LedBy, StepsLead, with_event, IsReplicasRow}
 
 -- one leads where it does so in another progress with the same course, in which it is and has promised the same
 pub leads_too : (at : Sets) (one two : Progress) (r : ReplicaState) → one.course ≡ two.course → two.next r.me ≡ next r → two.promise r.me ≡ r.acceptor.promised → IsLeadOf at one r → IsLeadOf at two r

@@ -4,12 +4,12 @@ use Rattle.std.proofs.lemmas.Bool.{cond-true, cond-false, eq-eqb, le-ltb}
 use Rattle.sc_node_table.specs.Values.{Command, Noop, Effect, Route, OrderResult, AnswerBody, Ask, Learn}
 use Rattle.sc_mail.specs.declared.bodies.AnswerBody.TheVariants as Says
 use Rattle.sc_base.specs.Definitions.{is_member, least_of}
-use Rattle.sc_group_table.specs.machine.Definitions.{applied}
+use Rattle.sc_group_table.specs.machine.MachineDefinitions.{applied}
 use Rattle.sc_node_table.specs.declared.Before.{Before}
-use Rattle.sc_node_table.specs.Definitions.{elected, ended, stopped, entered, order_result, effect_reported, announced, learnt_to, welcomed, landed, left_gone, left, is_among, looked_for, looked, executed_one, has_room, next_ready, executed, sent, offered, pumped, put_back, ReplicaState, Place, Executed, childless, name_of, next, members, last_slot, forgotten, learn_row, mailed, at_slot, without_slot, before_of, spoken}
-use Rattle.sc_law_walks.proofs.Lemmas.{executed_place, landed_place, either_way}
-use Rattle.sc_live_journals.specs.rows.Definitions.{IsPast, LearntEntriesAreExecuted}
-use Rattle.sc_law_walks.proofs.Lemmas.{pumped_freely}
+use Rattle.sc_node_table.specs.NodeDefinitions.{elected, ended, stopped, entered, order_result, effect_reported, announced, learnt_to, welcomed, landed, left_gone, left, is_among, looked_for, looked, executed_one, has_room, next_ready, executed, sent, offered, pumped, put_back, ReplicaState, Place, Executed, childless, name_of, next, members, last_slot, forgotten, learn_row, mailed, at_slot, without_slot, before_of, spoken}
+use Rattle.sc_law_walks.proofs.WalkLemmas.{executed_place, landed_place, either_way}
+use Rattle.sc_live_journals.specs.rows.RowDefinitions.{IsPast, LearntEntriesAreExecuted}
+use Rattle.sc_law_walks.proofs.WalkLemmas.{pumped_freely}
 
 module _ (command : Command) (r : ReplicaState) where
   abbrev Past : Place → Type 0

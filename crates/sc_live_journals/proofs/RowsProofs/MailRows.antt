@@ -5,16 +5,16 @@ use Rattle.sc_base.specs.Definitions.{Each}
 use Rattle.sc_node_table.specs.Values.{Ballot, Draw, Base, OrderLine, Mail, MailBody, Prepare, Promise, Accept, Accepted, Learn, Ask, Install, Seat, Deliver}
 use Rattle.sc_actor.specs.declared.rows.Event.TheVariants.{Told}
 use Rattle.sc_actor.specs.Definitions.{mails, row_of}
-use Rattle.sc_live_orderly.specs.Definitions.{AreInTime}
-use Rattle.sc_words.specs.paxos.Definitions.{below}
+use Rattle.sc_live_orderly.specs.OrderlyDefinitions.{AreInTime}
+use Rattle.sc_words.specs.paxos.PaxosDefinitions.{below}
 use Rattle.sc_node_table.specs.declared.ReplicaInput.TheVariants as Given
-use Rattle.sc_node_table.specs.Definitions.{NodeState, replica_of, group_of_mail, group_of_order, ordered_row, ReplicaState, Place, listed, name_of, next, mailed, stepped}
-use Rattle.sc_law_walks.specs.Definitions.{GoesOn}
-use Rattle.sc_meaning.specs.sound.Definitions.{Player, player_table}
-use Rattle.sc_live_steps.specs.calm.Definitions.{players, Rows}
-use Rattle.sc_live_steps.specs.following.Definitions.{Mark, mark_of, next_by, promise_by, reached, IsFit, AreFit, Course, Progress, Sets, IsKnown, IsLeadOf, LeadsInto, IsAside, IsRow, marks_for}
-use Rattle.sc_live_steps.proofs.FollowingProofs.Lemmas.{rows_lead, reached-least}
-use Rattle.sc_live_journals.specs.rows.Definitions.{view_at, next_in, promise_in, progress_at, marks_at, mark_in, taken_mark, IsLedBy, FollowsOn, IsScene, TakesMail, HoldsReplica, WaitsStill, led_course, with_event, IsReplicasRow}
+use Rattle.sc_node_table.specs.NodeDefinitions.{NodeState, replica_of, group_of_mail, group_of_order, ordered_row, ReplicaState, Place, listed, name_of, next, mailed, stepped}
+use Rattle.sc_law_walks.specs.WalkDefinitions.{GoesOn}
+use Rattle.sc_meaning.specs.sound.SoundDefinitions.{Player, player_table}
+use Rattle.sc_live_steps.specs.calm.CalmDefinitions.{players, Rows}
+use Rattle.sc_live_steps.specs.following.FollowingDefinitions.{Mark, mark_of, next_by, promise_by, reached, IsFit, AreFit, Course, Progress, Sets, IsKnown, IsLeadOf, LeadsInto, IsAside, IsRow, marks_for}
+use Rattle.sc_live_steps.proofs.FollowingProofs.FollowingLemmas.{rows_lead, reached-least}
+use Rattle.sc_live_journals.specs.rows.RowDefinitions.{view_at, next_in, promise_in, progress_at, marks_at, mark_in, taken_mark, IsLedBy, FollowsOn, IsScene, TakesMail, HoldsReplica, WaitsStill, led_course, with_event, IsReplicasRow}
 use Rattle.sc_live_journals.proofs.RowsProofs.FollowingRows.{rows_keep}
 use Rattle.sc_live_journals.proofs.RowsProofs.LeadersInGroups.{steps_lead}
 use Rattle.sc_live_journals.proofs.RowsProofs.RowMarks.{rows_are}

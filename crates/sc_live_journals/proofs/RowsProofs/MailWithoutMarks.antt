@@ -4,13 +4,13 @@ use Rattle.std.specs.List.{filter}
 use Rattle.std.proofs.lemmas.Bool.{cond_both}
 use Rattle.sc_base.specs.Definitions.{Each}
 use Rattle.sc_node_table.specs.Values.{Draw, OrderLine, Mail, MailBody, Request, Prepare, Accept, Learn, TxPrepare, TxWatch, Input}
-use Rattle.sc_client_table.specs.table.Definitions.{Client, table}
-use Rattle.sc_node_table.specs.Definitions.{absent, ordered_row, name_of, mailed}
-use Rattle.sc_live_steps.specs.following.Definitions.{Mark, mark_of, marks_of, marks_for}
-use Rattle.sc_live_steps.proofs.CalmStepsProofs.Lemmas.{apart}
-use Rattle.sc_words.proofs.PaxosProofs.Lemmas.{Each-weaker}
+use Rattle.sc_client_table.specs.table.TableDefinitions.{Client, table}
+use Rattle.sc_node_table.specs.NodeDefinitions.{absent, ordered_row, name_of, mailed}
+use Rattle.sc_live_steps.specs.following.FollowingDefinitions.{Mark, mark_of, marks_of, marks_for}
+use Rattle.sc_live_steps.proofs.CalmStepsProofs.CalmStepLemmas.{apart}
+use Rattle.sc_words.proofs.PaxosProofs.PaxosLemmas.{Each-weaker}
 use Rattle.sc_live_journals.proofs.MailProofs.Clients.{IsRequestOf, clients_ask}
-use Rattle.sc_live_journals.specs.rows.Definitions.{NamesStay, OthersHearNothing}
+use Rattle.sc_live_journals.specs.rows.RowDefinitions.{NamesStay, OthersHearNothing}
 use Rattle.sc_live_journals.proofs.RowsProofs.SilentMail.{narrow, AreQuiet}
 use Rattle.sc_live_journals.proofs.RowsProofs.GroupNamesInRows.{mailed_keeps, order_keeps, made_keeps}
 

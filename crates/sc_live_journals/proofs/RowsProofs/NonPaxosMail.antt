@@ -2,12 +2,12 @@
 use Rattle.std.proofs.Common.{◌≡◌, ℕ, suc, ◌&&◌, Bool, true, false, cond, List, [], Some, refl, sym, ap, subst, arith}
 use Rattle.sc_base.specs.Definitions.{Drawer}
 use Rattle.sc_node_table.specs.Values.{Ballot, Draw, Command, OrderLine, Mail, MailBody, Request, Answer, Nack, TxPrepare, TxVote, TxOutcome, TxElsewhere, TxWatch, TxWatched, Told}
-use Rattle.sc_words.specs.paxos.Definitions.{below}
-use Rattle.sc_node_table.specs.Definitions.{stopped, saw, ordered_row, ReplicaState, Place, next, mailed, nack_row}
-use Rattle.sc_law_walks.specs.Definitions.{GoesOn}
-use Rattle.sc_law_walks.proofs.Lemmas.{Talk}
-use Rattle.sc_live_steps.specs.following.Definitions.{IsAside}
-use Rattle.sc_live_journals.specs.rows.Definitions.{IsUnmoved, AsidesStayStill}
+use Rattle.sc_words.specs.paxos.PaxosDefinitions.{below}
+use Rattle.sc_node_table.specs.NodeDefinitions.{stopped, saw, ordered_row, ReplicaState, Place, next, mailed, nack_row}
+use Rattle.sc_law_walks.specs.WalkDefinitions.{GoesOn}
+use Rattle.sc_law_walks.proofs.WalkLemmas.{Talk}
+use Rattle.sc_live_steps.specs.following.FollowingDefinitions.{IsAside}
+use Rattle.sc_live_journals.specs.rows.RowDefinitions.{IsUnmoved, AsidesStayStill}
 use Rattle.sc_live_journals.proofs.RowsProofs.StillReplicas as beside
 use Rattle.sc_live_journals.proofs.RowsProofs.MailWithoutMarks.{quiet_marks}
 use Rattle.sc_live_journals.proofs.RowsProofs.SilentMail.{AreQuiet, quiet_talk}

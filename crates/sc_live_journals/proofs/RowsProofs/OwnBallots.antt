@@ -3,24 +3,24 @@ use Rattle.std.proofs.Common.{◌≡◌, ℕ, eqb, refl, true≢false, List, [],
 use Rattle.std.proofs.lemmas.Bool.{eqb-true}
 use Rattle.sc_base.specs.Definitions.{Each, is_member}
 use Rattle.sc_node_table.specs.Values.{Draw, Base, Command, OrderLine, Mail, MailBody, Prepare, Accept, Node, Client, Seat, Event, Row, Input, Got}
-use Rattle.sc_node_table.specs.Definitions.{entered, jumped, forgotten, ReplicaState, installed_replica, born_replica, slots_ahead, numbers_from, node_table, born_replicas}
-use Rattle.sc_words.specs.paxos.Definitions.{LeaderState, promise_counted, counted}
-use Rattle.sc_law_walks.specs.Definitions.{IsKept}
-use Rattle.sc_law_walks.proofs.Lemmas.{either_way, Facts, States, Mails, Walk, Births, Sends, Hears, hears_all, creation, back_any, GivenAny, any_step, Ticks, promise_ballot, counted_ballot}
-use Rattle.sc_live_journals.specs.rows.Definitions.{IsOwnAsking, IsOwnMail, AreOwn, RunsAlone, PlaysAlone, BallotsAreOwn, BirthsPlayAlone}
+use Rattle.sc_node_table.specs.NodeDefinitions.{entered, jumped, forgotten, ReplicaState, installed_replica, born_replica, slots_ahead, numbers_from, node_table, born_replicas}
+use Rattle.sc_words.specs.paxos.PaxosDefinitions.{LeaderState, promise_counted, counted}
+use Rattle.sc_law_walks.specs.WalkDefinitions.{IsKept}
+use Rattle.sc_law_walks.proofs.WalkLemmas.{either_way, Facts, States, Mails, Walk, Births, Sends, Hears, hears_all, creation, back_any, GivenAny, any_step, Ticks, promise_ballot, counted_ballot}
+use Rattle.sc_live_journals.specs.rows.RowDefinitions.{IsOwnAsking, IsOwnMail, AreOwn, RunsAlone, PlaysAlone, BallotsAreOwn, BirthsPlayAlone}
 use Rattle.sc_actor.specs.declared.rows.Input.TheVariants.{Tick, Go as GoInput, Told as ToldInput}
 use Rattle.sc_actor.specs.Definitions.{mails, value, acted, input_of, row_of}
 use Rattle.sc_actor.proofs.Lemmas.{value-snoc, mails-snoc}
-use Rattle.sc_live_orderly.specs.Definitions.{IsCalmEvent, AreInTime}
-use Rattle.sc_live_orderly.proofs.Lemmas.{by_time, last_in_time}
-use Rattle.sc_client_table.specs.table.Definitions.{table}
-use Rattle.sc_words.proofs.PaxosProofs.Lemmas.{Each-among, Each-append, Each-weaker, find_found}
+use Rattle.sc_live_orderly.specs.OrderlyDefinitions.{IsCalmEvent, AreInTime}
+use Rattle.sc_live_orderly.proofs.OrderlyLemmas.{by_time, last_in_time}
+use Rattle.sc_client_table.specs.table.TableDefinitions.{table}
+use Rattle.sc_words.proofs.PaxosProofs.PaxosLemmas.{Each-among, Each-append, Each-weaker, find_found}
 use Rattle.sc_scenario.specs.declared.scenario.scenarios.Asks.{Asks as Requests}
 use Rattle.sc_scenario.specs.declared.scenario.scenarios.Scenario.{Scenario}
-use Rattle.sc_meaning.specs.sound.Definitions.{Player, player_table, node_seat, client_seat, client_seats, route_of, as_nodes}
-use Rattle.sc_live_steps.specs.calm.Definitions.{players, Rows}
-use Rattle.sc_live_steps.specs.following.Definitions.{Asks, Prepares, mark_of}
-use Rattle.sc_live_steps.proofs.FollowingProofs.Lemmas.{same_mark}
+use Rattle.sc_meaning.specs.sound.SoundDefinitions.{Player, player_table, node_seat, client_seat, client_seats, route_of, as_nodes}
+use Rattle.sc_live_steps.specs.calm.CalmDefinitions.{players, Rows}
+use Rattle.sc_live_steps.specs.following.FollowingDefinitions.{Asks, Prepares, mark_of}
+use Rattle.sc_live_steps.proofs.FollowingProofs.FollowingLemmas.{same_mark}
 use Rattle.sc_live_journals.proofs.RowsProofs.MailWithoutMarks.{client_none}
 
 -- ---- what a row leaves

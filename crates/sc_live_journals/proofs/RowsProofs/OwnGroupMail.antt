@@ -2,12 +2,12 @@
 use Rattle.std.proofs.Common.{◌≡◌, ℕ, ◌+◌, ◌-◌, Bool, true, false, List, [], ◌∷◌, Option, Some, None, refl, sym, ◌∙◌, subst}
 use Rattle.sc_base.specs.Definitions.{Drawer, Each, client_actor}
 use Rattle.sc_node_table.specs.Values.{Ballot, Draw, Command, Noop, Base, AnswerBody, OrderLine, Mail, MailBody, Refused, Request, Answer, Prepare, Promise, Accept, Accepted, Nack, Learn, Ask, Install, TxPrepare, TxVote, TxOutcome, TxElsewhere, TxWatch, TxWatched, Told}
-use Rattle.sc_group_table.specs.machine.Definitions.{base_of, applied}
-use Rattle.sc_words.specs.paxos.Definitions.{AcceptorState, below, may_promise, may_accept}
-use Rattle.sc_words.proofs.PaxosProofs.Lemmas.{Each-append}
-use Rattle.sc_law_entries.proofs.HistoryProofs.Lemmas.{applied_same}
-use Rattle.sc_node_table.specs.Definitions.{open_nodes, ended, entered, jumped, forgotten, offered, put_back, sent, answered_all, under_way, before_of, order_number, ordered_row, mailed, made_by, ReplicaState, Place, name_of, next}
-use Rattle.sc_law_walks.proofs.Lemmas.{either_way, Talk, Parties, parties, beside_talk, TableFacts, TableStates, TableSays, TableWalk, all_heard, TableEntry, entry_holds}
+use Rattle.sc_group_table.specs.machine.MachineDefinitions.{base_of, applied}
+use Rattle.sc_words.specs.paxos.PaxosDefinitions.{AcceptorState, below, may_promise, may_accept}
+use Rattle.sc_words.proofs.PaxosProofs.PaxosLemmas.{Each-append}
+use Rattle.sc_law_entries.proofs.HistoryProofs.HistoryLemmas.{applied_same}
+use Rattle.sc_node_table.specs.NodeDefinitions.{open_nodes, ended, entered, jumped, forgotten, offered, put_back, sent, answered_all, under_way, before_of, order_number, ordered_row, mailed, made_by, ReplicaState, Place, name_of, next}
+use Rattle.sc_law_walks.proofs.WalkLemmas.{either_way, Talk, Parties, parties, beside_talk, TableFacts, TableStates, TableSays, TableWalk, all_heard, TableEntry, entry_holds}
 use Rattle.sc_law_walks.proofs.Talks.{all_sent, desk_reported, client_reported, one_answered, all_answered, all_dismissed, spoken_said, vote_reported, watch_reported, outcome_said, next_one_asked}
 use Rattle.sc_law_walks.proofs.TableRows as rows
 

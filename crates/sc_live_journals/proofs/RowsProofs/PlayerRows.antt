@@ -9,15 +9,15 @@ use Rattle.sc_words.specs.declared.commands.orders.OrderRefusal.TheVariants.{Not
 use Rattle.sc_actor.specs.declared.rows.Event.TheVariants.{Told}
 use Rattle.sc_actor.specs.declared.rows.Input.TheVariants.{Go as GoInput, Told as ToldInput}
 use Rattle.sc_actor.specs.Definitions.{mails, numbered, value, acted, input_of}
-use Rattle.sc_client_table.specs.table.Definitions.{Client as ClientState}
-use Rattle.sc_words.proofs.PaxosProofs.Lemmas.{find_found}
-use Rattle.sc_node_table.specs.Definitions.{result_sent, NodeState, replica_of, with_replica, with_new, group_of_mail, with_made, unknown, may_come, taken_by, routed, on_mail, group_of_order, ordered_of, on_order, absent, with_children, ordered_row, ReplicaState, Place, Executed, name_of, last_slot, mailed, made_by, slots_ahead}
-use Rattle.sc_law_walks.proofs.Lemmas.{either_way}
-use Rattle.sc_meaning.specs.sound.Definitions.{Player, player_table}
-use Rattle.sc_live_steps.specs.calm.Definitions.{Rows}
-use Rattle.sc_live_steps.proofs.CalmStepsProofs.Lemmas.{apart, put_found, put_others, children_found}
-use Rattle.sc_live_steps.specs.following.Definitions.{Mark, Asks, Votes, Teaches, Installs, Prepares, Promises, mark_of, named_mark, marks_for}
-use Rattle.sc_live_journals.specs.rows.Definitions.{replicas_of, next_in, promise_in, mark_in, taken_mark, IsSeat, IsIdleIn, LeavesAlone, IsBornOr, LeavesOrCreates, made_children, AreAsBegun, OthersRowsAreIdle, IsReplicasRow, IsWholeState, RowsAreReplicas}
+use Rattle.sc_client_table.specs.table.TableDefinitions.{Client as ClientState}
+use Rattle.sc_words.proofs.PaxosProofs.PaxosLemmas.{find_found}
+use Rattle.sc_node_table.specs.NodeDefinitions.{result_sent, NodeState, replica_of, with_replica, with_new, group_of_mail, with_made, unknown, may_come, taken_by, routed, on_mail, group_of_order, ordered_of, on_order, absent, with_children, ordered_row, ReplicaState, Place, Executed, name_of, last_slot, mailed, made_by, slots_ahead}
+use Rattle.sc_law_walks.proofs.WalkLemmas.{either_way}
+use Rattle.sc_meaning.specs.sound.SoundDefinitions.{Player, player_table}
+use Rattle.sc_live_steps.specs.calm.CalmDefinitions.{Rows}
+use Rattle.sc_live_steps.proofs.CalmStepsProofs.CalmStepLemmas.{apart, put_found, put_others, children_found}
+use Rattle.sc_live_steps.specs.following.FollowingDefinitions.{Mark, Asks, Votes, Teaches, Installs, Prepares, Promises, mark_of, named_mark, marks_for}
+use Rattle.sc_live_journals.specs.rows.RowDefinitions.{replicas_of, next_in, promise_in, mark_in, taken_mark, IsSeat, IsIdleIn, LeavesAlone, IsBornOr, LeavesOrCreates, made_children, AreAsBegun, OthersRowsAreIdle, IsReplicasRow, IsWholeState, RowsAreReplicas}
 use Rattle.sc_live_journals.proofs.RowsProofs.MailWithoutMarks.{names_stay, others_hear_nothing, none_marked}
 use Rattle.sc_live_journals.proofs.RowsProofs.ReplicaViews.{view_was, view_is, sent_is, new_others, new_is, Same, same_both, all_born, all_or}
 

@@ -4,12 +4,12 @@ use Rattle.sc_base.specs.Definitions.{Each, is_member}
 use Rattle.sc_node_table.specs.Values.{Draw, Base, Mail, OrderLine, Input, Got, Row, Seat, Node, Client}
 use Rattle.sc_actor.specs.declared.rows.Input.TheVariants.{Tick, Go, Told}
 use Rattle.sc_actor.specs.Definitions.{replay, value}
-use Rattle.sc_words.proofs.PaxosProofs.Lemmas.{Each-weaker}
-use Rattle.sc_node_table.specs.Definitions.{NodeState, node_table, replica_of, born_replicas, born_replica, ReplicaState, slots_ahead}
-use Rattle.sc_meaning.specs.sound.Definitions.{Player, player_table}
-use Rattle.sc_law_walks.specs.Definitions.{IsKept}
-use Rattle.sc_law_walks.proofs.Lemmas.{StateBirths, either_way, StateParts, state_walk, state_births, state_ticks, state_hears, GivenAny, any_step, creation, StepsHold, replay_keeps}
-use Rattle.sc_law_walks.proofs.Lemmas.{FoundOne, found_one}
+use Rattle.sc_words.proofs.PaxosProofs.PaxosLemmas.{Each-weaker}
+use Rattle.sc_node_table.specs.NodeDefinitions.{NodeState, node_table, replica_of, born_replicas, born_replica, ReplicaState, slots_ahead}
+use Rattle.sc_meaning.specs.sound.SoundDefinitions.{Player, player_table}
+use Rattle.sc_law_walks.specs.WalkDefinitions.{IsKept}
+use Rattle.sc_law_walks.proofs.WalkLemmas.{StateBirths, either_way, StateParts, state_walk, state_births, state_ticks, state_hears, GivenAny, any_step, creation, StepsHold, replay_keeps}
+use Rattle.sc_law_walks.proofs.WalkLemmas.{FoundOne, found_one}
 
 -- any rows keep what holds of a player
 abbrev pub RowsKeep : (Player → Type 0) → Type 0

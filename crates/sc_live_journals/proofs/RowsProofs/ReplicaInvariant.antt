@@ -2,13 +2,13 @@
 use Rattle.std.proofs.Common.{◌≡◌, ℕ, ◌+◌, ◌<◌, ◌≤◌, cond, false, true≢false, List, [], Option, Some, refl, sym, ◌∙◌, ap, arith}
 use Rattle.sc_base.specs.Definitions.{Each}
 use Rattle.sc_node_table.specs.Values.{Ballot, Draw, Command, Base}
-use Rattle.sc_words.specs.paxos.Definitions.{below, installed}
-use Rattle.sc_node_table.specs.Definitions.{entered, jumped, forgotten, ReplicaState, replica_of, next, floor_of, without_slot, installed_replica}
-use Rattle.sc_meaning.specs.sound.Definitions.{Player}
-use Rattle.sc_law_walks.specs.Definitions.{IsKept}
-use Rattle.sc_law_walks.proofs.Lemmas.{entered_next, cut_next, either_way, StateParts, ended_replica, StateBirths}
-use Rattle.sc_live_steps.proofs.FollowingProofs.Lemmas.{entered_floor, floor_low}
-use Rattle.sc_live_journals.specs.rows.Definitions.{IsWellKept, NodesAreBornWellKept}
+use Rattle.sc_words.specs.paxos.PaxosDefinitions.{below, installed}
+use Rattle.sc_node_table.specs.NodeDefinitions.{entered, jumped, forgotten, ReplicaState, replica_of, next, floor_of, without_slot, installed_replica}
+use Rattle.sc_meaning.specs.sound.SoundDefinitions.{Player}
+use Rattle.sc_law_walks.specs.WalkDefinitions.{IsKept}
+use Rattle.sc_law_walks.proofs.WalkLemmas.{entered_next, cut_next, either_way, StateParts, ended_replica, StateBirths}
+use Rattle.sc_live_steps.proofs.FollowingProofs.FollowingLemmas.{entered_floor, floor_low}
+use Rattle.sc_live_journals.specs.rows.RowDefinitions.{IsWellKept, NodesAreBornWellKept}
 use Rattle.sc_live_journals.proofs.RowsProofs.Players as players
 use Rattle.sc_live_steps.proofs.FollowingProofs.MailTables.{jumped_floor}
 

@@ -4,11 +4,11 @@ use Rattle.std.specs.List.{filter}
 use Rattle.std.proofs.lemmas.Bool.{cases_Bool, cases_lt, cond_both, cond-true, cond-false, eqb-true, and_parts, or_left, or_right, leb-true, both_ways}
 use Rattle.sc_base.specs.Definitions.{most_nodes, is_member}
 use Rattle.sc_node_table.specs.Values.{Ballot, Command, Promise, Accepted, Report}
-use Rattle.sc_words.specs.paxos.Definitions.{promise_counted}
-use Rattle.sc_node_table.specs.Definitions.{is_in_some, nodes_to, open_nodes, pumped, ReplicaState, Place, Executed, childless, name_of, next, set_at, mailed, numbers_from, leads, promise_row, voted, accepted_row}
-use Rattle.sc_live_steps.specs.following.Definitions.{Mark, Votes, Teaches, Installs, Prepares, Promises, next_by, promise_by, Course, Sets, IsOpen, answered, AreAt, marks_for, StepsBy, next_ballot}
-use Rattle.sc_live_steps.proofs.FollowingProofs.Lemmas.{states, among_numbers as in_numbers}
-use Rattle.sc_live_journals.specs.rows.Definitions.{next_in, promise_in, StepsTake, StatesTake, UncountedPass, IsToLead, StepsElect, StillIdle}
+use Rattle.sc_words.specs.paxos.PaxosDefinitions.{promise_counted}
+use Rattle.sc_node_table.specs.NodeDefinitions.{is_in_some, nodes_to, open_nodes, pumped, ReplicaState, Place, Executed, childless, name_of, next, set_at, mailed, numbers_from, leads, promise_row, voted, accepted_row}
+use Rattle.sc_live_steps.specs.following.FollowingDefinitions.{Mark, Votes, Teaches, Installs, Prepares, Promises, next_by, promise_by, Course, Sets, IsOpen, answered, AreAt, marks_for, StepsBy, next_ballot}
+use Rattle.sc_live_steps.proofs.FollowingProofs.FollowingLemmas.{states, among_numbers as in_numbers}
+use Rattle.sc_live_journals.specs.rows.RowDefinitions.{next_in, promise_in, StepsTake, StatesTake, UncountedPass, IsToLead, StepsElect, StillIdle}
 
 -- ---- a node that takes a mail
 

@@ -7,12 +7,12 @@ use Rattle.sc_node_table.specs.Values.{Draw, Base, OrderLine, Mail, Seat, Event,
 use Rattle.sc_base.proofs.Lemmas.{draw_is, same_name}
 use Rattle.sc_actor.specs.Definitions.{mails, value, acted, input_of, row_of}
 use Rattle.sc_actor.proofs.Lemmas.{find-who, value-snoc}
-use Rattle.sc_node_table.specs.Definitions.{NodeState, replica_of, is_before, with_new, with_born, with_children, ReplicaState, name_of, born_replica, slots_ahead}
-use Rattle.sc_meaning.specs.sound.Definitions.{Player, player_table}
-use Rattle.sc_live_steps.specs.calm.Definitions.{Rows}
-use Rattle.sc_live_steps.proofs.CalmStepsProofs.Lemmas.{apart}
-use Rattle.sc_law_walks.proofs.Lemmas.{either_way}
-use Rattle.sc_live_journals.specs.rows.Definitions.{replicas_of, replica_in, view_at, next_in, promise_in, IsSeat, with_event, IsBornOr, AreAsBegun}
+use Rattle.sc_node_table.specs.NodeDefinitions.{NodeState, replica_of, is_before, with_new, with_born, with_children, ReplicaState, name_of, born_replica, slots_ahead}
+use Rattle.sc_meaning.specs.sound.SoundDefinitions.{Player, player_table}
+use Rattle.sc_live_steps.specs.calm.CalmDefinitions.{Rows}
+use Rattle.sc_live_steps.proofs.CalmStepsProofs.CalmStepLemmas.{apart}
+use Rattle.sc_law_walks.proofs.WalkLemmas.{either_way}
+use Rattle.sc_live_journals.specs.rows.RowDefinitions.{replicas_of, replica_in, view_at, next_in, promise_in, IsSeat, with_event, IsBornOr, AreAsBegun}
 pub use Rattle.sc_live_steps.proofs.CalmStepsProofs.UntakenPotential.{new_is}
 
 -- ---- journals

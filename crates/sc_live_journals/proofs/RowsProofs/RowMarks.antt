@@ -4,13 +4,13 @@ use Rattle.std.proofs.lemmas.Bool.{ne_eqb, eq-eqb}
 use Rattle.sc_node_table.specs.Values.{Draw, Base, OrderLine, Mail, Seat, Event, Deliver, Tick, Go, Row}
 use Rattle.sc_actor.specs.declared.rows.Event.TheVariants.{Told}
 use Rattle.sc_actor.specs.Definitions.{mails, numbered, is_delivery, System, row_of}
-use Rattle.sc_live_orderly.specs.Definitions.{IsTidy, IsCalmRow, IsCalmEvent, rest, mail_for, taken}
-use Rattle.sc_live_orderly.proofs.Lemmas.{in_time_before, in_time_tidy, last_in_time, takes_first, is_born-from, rest-calm}
-use Rattle.sc_node_table.specs.Definitions.{listed}
-use Rattle.sc_meaning.specs.sound.Definitions.{Player, player_table}
-use Rattle.sc_live_steps.specs.calm.Definitions.{players, Rows}
-use Rattle.sc_live_steps.specs.following.Definitions.{Mark, mark_of, marks_of}
-use Rattle.sc_live_journals.specs.rows.Definitions.{next_in, promise_in, mark_in, taken_mark, IsSeat, RowsAreOfGroups}
+use Rattle.sc_live_orderly.specs.OrderlyDefinitions.{IsTidy, IsCalmRow, IsCalmEvent, rest, mail_for, taken}
+use Rattle.sc_live_orderly.proofs.OrderlyLemmas.{in_time_before, in_time_tidy, last_in_time, takes_first, is_born-from, rest-calm}
+use Rattle.sc_node_table.specs.NodeDefinitions.{listed}
+use Rattle.sc_meaning.specs.sound.SoundDefinitions.{Player, player_table}
+use Rattle.sc_live_steps.specs.calm.CalmDefinitions.{players, Rows}
+use Rattle.sc_live_steps.specs.following.FollowingDefinitions.{Mark, mark_of, marks_of}
+use Rattle.sc_live_journals.specs.rows.RowDefinitions.{next_in, promise_in, mark_in, taken_mark, IsSeat, RowsAreOfGroups}
 use Rattle.sc_live_journals.proofs.RowsProofs.ReplicaViews.{view_others}
 
 -- a mail with this mark for the group

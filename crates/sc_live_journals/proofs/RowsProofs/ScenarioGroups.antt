@@ -7,18 +7,18 @@ use Rattle.std.proofs.lemmas.Bool.{cases_Bool, cases_eq, cond_both, cond-true, c
 use Rattle.sc_base.specs.Definitions.{Among, same_draw, IsRoster, is_member}
 use Rattle.sc_node_table.specs.Values.{Draw, Base, Command, Flight}
 use Rattle.sc_base.proofs.Lemmas.{draw_is, same_name}
-use Rattle.sc_words.specs.paxos.Definitions.{flight_at, kept_voters}
-use Rattle.sc_words.proofs.PaxosProofs.Lemmas.{Each-among, Each-from_All}
-use Rattle.sc_node_table.specs.Definitions.{born_replicas, replica_of, ReplicaState, next, first_ballot, born_replica, slots_ahead, numbers_from, at_slot}
+use Rattle.sc_words.specs.paxos.PaxosDefinitions.{flight_at, kept_voters}
+use Rattle.sc_words.proofs.PaxosProofs.PaxosLemmas.{Each-among, Each-from_All}
+use Rattle.sc_node_table.specs.NodeDefinitions.{born_replicas, replica_of, ReplicaState, next, first_ballot, born_replica, slots_ahead, numbers_from, at_slot}
 use Rattle.sc_scenario.specs.scenario.Definitions.{base_at, group_at, IsBounded, IsBoundedGroup, IsUpTo}
 use Rattle.sc_scenario.specs.declared.scenario.scenarios.Asks.{Asks}
 use Rattle.sc_scenario.specs.declared.scenario.scenarios.Scenario.{Scenario}
-use Rattle.sc_meaning.specs.sound.Definitions.{node_seat, client_seat, client_seats, route_of, births, as_nodes}
-use Rattle.sc_live_steps.specs.following.Definitions.{IsLed, Sets, Course, Progress, begun, voters_of, IsLeadOf, AreAt}
-use Rattle.sc_live_steps.proofs.FollowingProofs.Lemmas.{least_in}
-use Rattle.sc_live_journals.specs.rows.Definitions.{replica_in, view_at, next_in, promise_in, progress_at, begun_course}
+use Rattle.sc_meaning.specs.sound.SoundDefinitions.{node_seat, client_seat, client_seats, route_of, births, as_nodes}
+use Rattle.sc_live_steps.specs.following.FollowingDefinitions.{IsLed, Sets, Course, Progress, begun, voters_of, IsLeadOf, AreAt}
+use Rattle.sc_live_steps.proofs.FollowingProofs.FollowingLemmas.{least_in}
+use Rattle.sc_live_journals.specs.rows.RowDefinitions.{replica_in, view_at, next_in, promise_in, progress_at, begun_course}
 use Rattle.sc_paxos_law.proofs.Among.{member-among as among_member}
-use Rattle.sc_law_groups.proofs.WholeProofs.Lemmas.{group_place}
+use Rattle.sc_law_groups.proofs.WholeProofs.WholeLemmas.{group_place}
 
 -- ---- the first member at its birth
 

@@ -2,10 +2,10 @@
 use Rattle.std.proofs.Common.{◌≡◌, ℕ, false, cond, List, [], ◌∷◌, Option, Some, None, refl, ◌∙◌, ap}
 use Rattle.sc_base.specs.Definitions.{Each, client_actor, same_draw}
 use Rattle.sc_node_table.specs.Values.{Draw, Mail, MailBody, Request, Answer, Prepare, Promise, Accept, Accepted, Nack, Learn, Ask, Install, TxPrepare, TxVote, TxOutcome, TxElsewhere, TxWatch, TxWatched, Told}
-use Rattle.sc_words.proofs.PaxosProofs.Lemmas.{Each-append}
-use Rattle.sc_node_table.specs.Definitions.{sent}
-use Rattle.sc_law_walks.proofs.Lemmas.{Talk}
-use Rattle.sc_live_steps.specs.following.Definitions.{Mark, Teaches, named_mark, mark_of}
+use Rattle.sc_words.proofs.PaxosProofs.PaxosLemmas.{Each-append}
+use Rattle.sc_node_table.specs.NodeDefinitions.{sent}
+use Rattle.sc_law_walks.proofs.WalkLemmas.{Talk}
+use Rattle.sc_live_steps.specs.following.FollowingDefinitions.{Mark, Teaches, named_mark, mark_of}
 
 -- the mark of a mail of the group with this name, where a refusal, a request and what asks for entries leave one too: all mail of the group but that of a transaction
 abbrev pub wide_mark : Draw → ℕ → MailBody → Option Mark

@@ -2,8 +2,8 @@
 use Rattle.std.proofs.Common.{◌≡◌, ℕ, nat_le, false, List, [], ◌∷◌, ◌++◌, Option, Some, None, sym, subst}
 use Rattle.sc_base.specs.Definitions.{Drawer, next_name}
 use Rattle.sc_node_table.specs.Values.{Op, Command, Call, OrderLine, OrderRefusal, Refused, AnswerBody, Mail, MailBody, Request, Answer, TxPrepare, TxVote, TxOutcome, TxElsewhere, TxWatch, TxWatched, Told}
-use Rattle.sc_node_table.specs.Definitions.{has_act, with_act, act_queued, ordered_command, untaken, queued_or_refused, ordered_row, pumped, queued_number, without_request, ReplicaState, Place, name_of, refused_at, queued, requested, request_row, mailed}
-use Rattle.sc_law_walks.proofs.Lemmas.{Talk, Parties, parties, TransactionParts, idle_pump, either_way}
+use Rattle.sc_node_table.specs.NodeDefinitions.{has_act, with_act, act_queued, ordered_command, untaken, queued_or_refused, ordered_row, pumped, queued_number, without_request, ReplicaState, Place, name_of, refused_at, queued, requested, request_row, mailed}
+use Rattle.sc_law_walks.proofs.WalkLemmas.{Talk, Parties, parties, TransactionParts, idle_pump, either_way}
 use Rattle.sc_law_walks.proofs.TransactionRows.{offer_keeps, watch_keeps, vote_keeps, watched_keeps, elsewhere_keeps, outcome_keeps}
 use Rattle.sc_law_walks.proofs.Talks.{vote_reported, watch_reported, outcome_said, next_one_asked}
 

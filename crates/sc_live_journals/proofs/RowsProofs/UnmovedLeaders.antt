@@ -5,14 +5,14 @@ use Rattle.sc_node_table.specs.Values.{Ballot, Draw, Command, Base, OrderLine, P
 use Rattle.sc_base.specs.Definitions.{IsRoster, is_member}
 use Rattle.sc_words.specs.declared.paxos.answers.AcceptAnswer.TheVariants as Asked
 use Rattle.sc_words.specs.declared.paxos.answers.PrepareAnswer.TheVariants as Prepared
-use Rattle.sc_words.specs.paxos.Definitions.{accepted as accepted_by, AcceptorState, below, prepared}
-use Rattle.sc_node_table.specs.Definitions.{saw, stopped, install_to, ReplicaState, Place, name_of, next, first_ballot, born_replica, mailed, slots_ahead, hinted, promise_to, promised, prepare_row, accepted_to, took, accept_row}
-use Rattle.sc_law_walks.specs.Definitions.{GoesOn}
-use Rattle.sc_law_walks.proofs.Lemmas.{either_way}
-use Rattle.sc_meaning.specs.sound.Definitions.{Player}
-use Rattle.sc_live_steps.specs.calm.Definitions.{Rows}
-use Rattle.sc_live_steps.specs.following.Definitions.{IsLed, Course, Progress, Sets, IsLeadOf}
-use Rattle.sc_live_journals.specs.rows.Definitions.{view_at, next_in, promise_in, progress_at, begun_course, IsLedBy, IsFollowedAt, LeavesLead, LeadsStay, with_event, IsReplicasRow}
+use Rattle.sc_words.specs.paxos.PaxosDefinitions.{accepted as accepted_by, AcceptorState, below, prepared}
+use Rattle.sc_node_table.specs.NodeDefinitions.{saw, stopped, install_to, ReplicaState, Place, name_of, next, first_ballot, born_replica, mailed, slots_ahead, hinted, promise_to, promised, prepare_row, accepted_to, took, accept_row}
+use Rattle.sc_law_walks.specs.WalkDefinitions.{GoesOn}
+use Rattle.sc_law_walks.proofs.WalkLemmas.{either_way}
+use Rattle.sc_meaning.specs.sound.SoundDefinitions.{Player}
+use Rattle.sc_live_steps.specs.calm.CalmDefinitions.{Rows}
+use Rattle.sc_live_steps.specs.following.FollowingDefinitions.{IsLed, Course, Progress, Sets, IsLeadOf}
+use Rattle.sc_live_journals.specs.rows.RowDefinitions.{view_at, next_in, promise_in, progress_at, begun_course, IsLedBy, IsFollowedAt, LeavesLead, LeadsStay, with_event, IsReplicasRow}
 use Rattle.sc_live_journals.proofs.RowsProofs.ScenarioGroups.{born_leads}
 use Rattle.sc_live_journals.proofs.RowsProofs.FollowingRows.{same_some, stays_led}
 

@@ -3,13 +3,13 @@ use Rattle.std.proofs.Common.{◌≡◌, ℕ, zero, suc, ◌+◌, ◌-◌, ◌<�
 use Rattle.std.proofs.lemmas.Bool.{cond-false, eqb-true, lt-ltb, le-ltb}
 use Rattle.sc_node_table.specs.Values.{Ballot, Draw, Command, Base, Mail, Ask, Accepted, Promise, Nack, Learn, Install, Report, Counted, NotYet}
 use Rattle.sc_base.specs.Definitions.{same_ballot}
-use Rattle.sc_law_walks.proofs.Lemmas.{either_way}
-use Rattle.sc_group_table.specs.machine.Definitions.{base_of}
-use Rattle.sc_node_table.specs.Definitions.{executed, install_to, sent, pumped, ReplicaState, Place, Executed, childless, name_of, next, set_at, last_slot, mailed, ask_row, ask_answered, taught, most_taught, learn_row, install_row, took_over, accepted_row, promise_row, leads, voted, vote_tallied}
-use Rattle.sc_words.specs.paxos.Definitions.{LeaderState, flight_at, promise_counted, entry_at, counted, vote_at}
-use Rattle.sc_live_steps.specs.orders.Definitions.{works, errands_for, Works}
-use Rattle.sc_live_steps.proofs.OrderStepsProofs.Lemmas.{errands-none, tables-rest}
-use Rattle.sc_live_journals.specs.scenes.Definitions.{AskedKeep}
+use Rattle.sc_law_walks.proofs.WalkLemmas.{either_way}
+use Rattle.sc_group_table.specs.machine.MachineDefinitions.{base_of}
+use Rattle.sc_node_table.specs.NodeDefinitions.{executed, install_to, sent, pumped, ReplicaState, Place, Executed, childless, name_of, next, set_at, last_slot, mailed, ask_row, ask_answered, taught, most_taught, learn_row, install_row, took_over, accepted_row, promise_row, leads, voted, vote_tallied}
+use Rattle.sc_words.specs.paxos.PaxosDefinitions.{LeaderState, flight_at, promise_counted, entry_at, counted, vote_at}
+use Rattle.sc_live_steps.specs.orders.OrderDefinitions.{works, errands_for, Works}
+use Rattle.sc_live_steps.proofs.OrderStepsProofs.OrderStepLemmas.{errands-none, tables-rest}
+use Rattle.sc_live_journals.specs.scenes.SceneDefinitions.{AskedKeep}
 use Rattle.sc_live_journals.proofs.ScenesProofs.OrderRows.{lead_rests, aside_rests}
 
 -- a row leaves the replica, and sends no errand

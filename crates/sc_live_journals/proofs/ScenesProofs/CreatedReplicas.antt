@@ -5,13 +5,13 @@ use Rattle.std.proofs.lemmas.Bool.{cond-true, cond-false, eq-eqb, le-ltb, or_fro
 use Rattle.sc_node_table.specs.Values.{Draw, Base, OrderLine, Mail, Install, Node, Seat, Event, Deliver, Got}
 use Rattle.sc_base.specs.Definitions.{is_member}
 use Rattle.sc_actor.specs.Definitions.{acted, input_of, mails}
-use Rattle.sc_node_table.specs.Definitions.{NodeState, with_made, unknown, group_of_mail, may_come, routed, taken_by, on_mail, ReplicaState, Place, name_of, last_slot, installed_replica, forgotten, looked, named, made_by, looked_up, slots_ahead}
-use Rattle.sc_meaning.specs.sound.Definitions.{Player, player_table}
-use Rattle.sc_live_steps.specs.calm.Definitions.{Rows}
-use Rattle.sc_live_steps.specs.orders.Definitions.{errand_by, errands_for}
-use Rattle.sc_live_journals.specs.rows.Definitions.{view_at, with_event, IsWholeState}
-use Rattle.sc_live_journals.proofs.RowsProofs.Lemmas.{names_stay, rows_replicas, new_others}
-use Rattle.sc_live_journals.specs.scenes.Definitions.{errand_in, errand_taken, LeadsAlone, NoneRuns, Stays, KeepsStage, ComesToNone, MayJoin, StatesKeep}
+use Rattle.sc_node_table.specs.NodeDefinitions.{NodeState, with_made, unknown, group_of_mail, may_come, routed, taken_by, on_mail, ReplicaState, Place, name_of, last_slot, installed_replica, forgotten, looked, named, made_by, looked_up, slots_ahead}
+use Rattle.sc_meaning.specs.sound.SoundDefinitions.{Player, player_table}
+use Rattle.sc_live_steps.specs.calm.CalmDefinitions.{Rows}
+use Rattle.sc_live_steps.specs.orders.OrderDefinitions.{errand_by, errands_for}
+use Rattle.sc_live_journals.specs.rows.RowDefinitions.{view_at, with_event, IsWholeState}
+use Rattle.sc_live_journals.proofs.RowsProofs.RowLemmas.{names_stay, rows_replicas, new_others}
+use Rattle.sc_live_journals.specs.scenes.SceneDefinitions.{errand_in, errand_taken, LeadsAlone, NoneRuns, Stays, KeepsStage, ComesToNone, MayJoin, StatesKeep}
 use Rattle.sc_live_journals.specs.scenes.CreatedReplicas.{Led, Unled}
 use Rattle.sc_live_journals.proofs.ScenesProofs.RowKinds.{others_same, asides_are}
 use Rattle.sc_live_journals.proofs.ScenesProofs.OrderRows.{rests_by}

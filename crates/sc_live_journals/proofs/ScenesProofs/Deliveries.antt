@@ -1,9 +1,9 @@
 -- A delivery leaves the groups that an order has not touched as they were; so does the order, and so all deliveries behind it.
-use Rattle.sc_client_table.specs.table.Definitions.{Client as ClientState}
+use Rattle.sc_client_table.specs.table.TableDefinitions.{Client as ClientState}
 use Rattle.sc_base.specs.Definitions.{Each}
-use Rattle.sc_live_steps.specs.orders.Definitions.{Elsewhere, Errand, Deal, Asks, Stage, Still, IsAt, errand_by, ByTaking}
-use Rattle.sc_live_journals.proofs.RowsProofs.Lemmas.{mailed_keeps, order_keeps, view_was, names_stay, found_name, none_some}
-use Rattle.sc_live_journals.specs.scenes.Definitions.{IsErrandFor, is_running, lead_of, scene_at, IsTaking, GoesBy, ComesTo, StageAfter, BesideFinds, FindsReplica, AtLeader, AtAnother, IsFresh, IsThere, AreThere, IsNowhere, AreUntouched, IsDelivered, after_all, AreDelivered, IsGivenInQuiet, FreshGroupsStay}
+use Rattle.sc_live_steps.specs.orders.OrderDefinitions.{Elsewhere, Errand, Deal, Asks, Stage, Still, IsAt, errand_by, ByTaking}
+use Rattle.sc_live_journals.proofs.RowsProofs.RowLemmas.{mailed_keeps, order_keeps, view_was, names_stay, found_name, none_some}
+use Rattle.sc_live_journals.specs.scenes.SceneDefinitions.{IsErrandFor, is_running, lead_of, scene_at, IsTaking, GoesBy, ComesTo, StageAfter, BesideFinds, FindsReplica, AtLeader, AtAnother, IsFresh, IsThere, AreThere, IsNowhere, AreUntouched, IsDelivered, after_all, AreDelivered, IsGivenInQuiet, FreshGroupsStay}
 use Rattle.sc_live_journals.proofs.ScenesProofs.UntouchedGroups.{quiet_errands, absent_errand, got_nothing}
 use Rattle.std.proofs.Common.{◌≡◌, ◌⊎◌, ℕ, true, List, [], ◌∷◌, Option, Some, None, inl, inr, refl, sym, ◌∙◌, ap, subst}
 use Rattle.std.specs.Option.{option_map}
@@ -13,15 +13,15 @@ use Rattle.sc_words.specs.declared.commands.orders.OrderRefusal.TheVariants.{Not
 use Rattle.sc_actor.specs.declared.rows.Event.TheVariants.{Told}
 use Rattle.sc_actor.specs.declared.rows.Input.TheVariants.{Told as ToldInput}
 use Rattle.sc_actor.specs.Definitions.{mails, numbered, value, System, row_of, numbers_of}
-use Rattle.sc_live_orderly.specs.Definitions.{IsCalmRow, is_born}
-use Rattle.sc_live_orderly.proofs.Lemmas.{in_time_before, in_time_tidy, last_in_time, TakesFirst, quiet-empty, is_born-from, takes_first}
-use Rattle.sc_node_table.specs.Definitions.{NodeState, replica_of, with_replica, with_children, group_of_mail, may_come, unknown, routed, on_mail, absent, group_of_order, ordered_of, result_sent, ordered_row, ReplicaState, Place, Executed, name_of, mailed}
-use Rattle.sc_law_walks.proofs.Lemmas.{either_way, takes_by}
-use Rattle.sc_meaning.specs.sound.Definitions.{Player, player_table}
-use Rattle.sc_live_steps.specs.calm.Definitions.{players, Rows}
-use Rattle.sc_live_steps.proofs.CalmStepsProofs.Lemmas.{put_others}
-use Rattle.sc_live_steps.proofs.OrderStepsProofs.Lemmas.{cases-draw}
-use Rattle.sc_live_journals.specs.rows.Definitions.{view_at, with_event}
+use Rattle.sc_live_orderly.specs.OrderlyDefinitions.{IsCalmRow, is_born}
+use Rattle.sc_live_orderly.proofs.OrderlyLemmas.{in_time_before, in_time_tidy, last_in_time, TakesFirst, quiet-empty, is_born-from, takes_first}
+use Rattle.sc_node_table.specs.NodeDefinitions.{NodeState, replica_of, with_replica, with_children, group_of_mail, may_come, unknown, routed, on_mail, absent, group_of_order, ordered_of, result_sent, ordered_row, ReplicaState, Place, Executed, name_of, mailed}
+use Rattle.sc_law_walks.proofs.WalkLemmas.{either_way, takes_by}
+use Rattle.sc_meaning.specs.sound.SoundDefinitions.{Player, player_table}
+use Rattle.sc_live_steps.specs.calm.CalmDefinitions.{players, Rows}
+use Rattle.sc_live_steps.proofs.CalmStepsProofs.CalmStepLemmas.{put_others}
+use Rattle.sc_live_steps.proofs.OrderStepsProofs.OrderStepLemmas.{cases-draw}
+use Rattle.sc_live_journals.specs.rows.RowDefinitions.{view_at, with_event}
 use Rattle.sc_live_journals.proofs.ScenesProofs.NewestLeaders.{lead_runs}
 use Rattle.sc_live_journals.proofs.ScenesProofs.RowPremises.{IsQuestion, leader_asked, found_step}
 use Rattle.sc_live_journals.proofs.ScenesProofs.OrderRows.{taken_on, row_of_comes}

@@ -4,16 +4,16 @@ use Rattle.std.specs.Option.{option_map}
 use Rattle.sc_base.specs.Definitions.{Among}
 use Rattle.sc_node_table.specs.Values.{Draw, OrderLine, Mail, Node, Seat, Event, Deliver}
 use Rattle.sc_actor.specs.Definitions.{mails, numbers_of, row_of}
-use Rattle.sc_live_orderly.proofs.Lemmas.{last_in_time}
-use Rattle.sc_node_table.specs.Definitions.{NodeState, ReplicaState, Place, listed}
-use Rattle.sc_meaning.specs.sound.Definitions.{Player, player_table}
+use Rattle.sc_live_orderly.proofs.OrderlyLemmas.{last_in_time}
+use Rattle.sc_node_table.specs.NodeDefinitions.{NodeState, ReplicaState, Place, listed}
+use Rattle.sc_meaning.specs.sound.SoundDefinitions.{Player, player_table}
 use Rattle.sc_live_steps.proofs.OrderStepsProofs.PartyChanges.{no-errand}
-use Rattle.sc_live_steps.specs.calm.Definitions.{players, Rows}
-use Rattle.sc_live_steps.specs.orders.Definitions.{Turn, is_watch, Errand, Question, Elsewhere, Reply, Result, Here, Scene, Leg, Mailed, Filed, closing, Stage, Still, Ordered, Asks, SentOn, Weighs, Replied, Recorded, Closes, ClosesBoth, parties_of, IsAt, IsUnderWay, errand_by}
-use Rattle.sc_live_steps.proofs.OrderStepsProofs.Lemmas.{tokens, tagged, found, among-right}
-use Rattle.sc_live_journals.specs.rows.Definitions.{view_at}
-use Rattle.sc_live_journals.proofs.RowsProofs.Lemmas.{view_was, none_some as no_some}
-use Rattle.sc_live_journals.specs.scenes.Definitions.{Expects, leader_sought, AnswersReachLeaders, KeepsStage, IsBeside, Led, Unled, ComesBeside, ComesToNone, scene_at, is_running, errand_in, taken_errand, IsTaking, IsOfGroup}
+use Rattle.sc_live_steps.specs.calm.CalmDefinitions.{players, Rows}
+use Rattle.sc_live_steps.specs.orders.OrderDefinitions.{Turn, is_watch, Errand, Question, Elsewhere, Reply, Result, Here, Scene, Leg, Mailed, Filed, closing, Stage, Still, Ordered, Asks, SentOn, Weighs, Replied, Recorded, Closes, ClosesBoth, parties_of, IsAt, IsUnderWay, errand_by}
+use Rattle.sc_live_steps.proofs.OrderStepsProofs.OrderStepLemmas.{tokens, tagged, found, among-right}
+use Rattle.sc_live_journals.specs.rows.RowDefinitions.{view_at}
+use Rattle.sc_live_journals.proofs.RowsProofs.RowLemmas.{view_was, none_some as no_some}
+use Rattle.sc_live_journals.specs.scenes.SceneDefinitions.{Expects, leader_sought, AnswersReachLeaders, KeepsStage, IsBeside, Led, Unled, ComesBeside, ComesToNone, scene_at, is_running, errand_in, taken_errand, IsTaking, IsOfGroup}
 use Rattle.sc_live_journals.proofs.ScenesProofs.OrderRows.{after, row_of_comes}
 use Rattle.sc_live_journals.proofs.ScenesProofs.UntakenMail.{takes_one}
 use Rattle.sc_live_journals.proofs.ScenesProofs.NewestLeaders.{lead_runs}

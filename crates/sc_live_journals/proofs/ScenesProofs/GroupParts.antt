@@ -2,9 +2,9 @@
 use Rattle.std.proofs.Common.{◌≡◌, ℕ, ◌≤◌, true, false, true≢false, List, [], Option, Some, None, inl, inr, refl, sym, ◌∙◌, ap, subst}
 use Rattle.std.proofs.lemmas.Bool.{cases_eq}
 use Rattle.sc_base.specs.Definitions.{Among}
-use Rattle.sc_node_table.specs.Definitions.{ReplicaState, next}
-use Rattle.sc_live_steps.specs.orders.Definitions.{Bond, Unbound, bond_of, works}
-use Rattle.sc_live_journals.specs.scenes.Definitions.{is_running, lead_of, newest_of, bond_there, works_of, bond_by, work_at}
+use Rattle.sc_node_table.specs.NodeDefinitions.{ReplicaState, next}
+use Rattle.sc_live_steps.specs.orders.OrderDefinitions.{Bond, Unbound, bond_of, works}
+use Rattle.sc_live_journals.specs.scenes.SceneDefinitions.{is_running, lead_of, newest_of, bond_there, works_of, bond_by, work_at}
 use Rattle.sc_live_journals.proofs.ScenesProofs.NewestLeaders.{lead_runs, none_runs, lead_same, newest_same, IsNewest, newest_is}
 
 abbrev pub Nodes : Type 0

@@ -2,9 +2,9 @@
 use Rattle.std.proofs.Common.{◌≡◌, ℕ, ◌≤◌, nat_le, true, false, true≢false, cond, List, [], ◌∷◌, Option, Some, None, inl, inr, refl, sym, ◌∙◌, ap, subst, arith}
 use Rattle.std.proofs.lemmas.Bool.{cases_Bool, cond-true, cond-false, cond_both, leb-true, leb-false}
 use Rattle.sc_base.specs.Definitions.{Among, Each}
-use Rattle.sc_node_table.specs.Definitions.{ReplicaState, next}
-use Rattle.sc_words.proofs.PaxosProofs.Lemmas.{find_found, find_nothing}
-use Rattle.sc_live_journals.specs.scenes.Definitions.{is_running, lead_of, later, newest_of}
+use Rattle.sc_node_table.specs.NodeDefinitions.{ReplicaState, next}
+use Rattle.sc_words.proofs.PaxosProofs.PaxosLemmas.{find_found, find_nothing}
+use Rattle.sc_live_journals.specs.scenes.SceneDefinitions.{is_running, lead_of, later, newest_of}
 
 -- ---- who leads
 

@@ -3,14 +3,14 @@ use Rattle.std.proofs.Common.{◌≡◌, ℕ, Bool, true, false, List, [], ◌�
 use Rattle.std.specs.Option.{option_map}
 use Rattle.sc_node_table.specs.Values.{Draw, OrderLine, Mail, MailBody, Accept, Prepare, Promise, Nack, Learn, Install, TxPrepare, TxVote, TxOutcome, TxElsewhere, TxWatch, TxWatched, Seat, Event, Deliver}
 use Rattle.sc_actor.specs.Definitions.{mails}
-use Rattle.sc_node_table.specs.Definitions.{NodeState, absent, ReplicaState, Place, name_of, mailed}
-use Rattle.sc_meaning.specs.sound.Definitions.{Player}
-use Rattle.sc_live_steps.specs.calm.Definitions.{Rows}
-use Rattle.sc_live_steps.specs.orders.Definitions.{Asking, is_watch, Turn, Errand, Question, Elsewhere, Reply, Result, Work, Answers, Records, Ends, IsOnly, Kind, Rests, PassesOn, AsksOn, Files, work_for, Stage, Still, IsUnderWay, Step, Passes, AsksAgain, IsTaken, OfQuestion, OfVote, OfOutcome, LastTakes, OneTakes, TwoTakes, Comes, IsStepOf, ByPassing, ByAsking, ByTaking, StepsBy, bond_of, is_yes, is_cast_yes, works, errand_by, errands_for, Works}
-use Rattle.sc_live_steps.proofs.OrderStepsProofs.Lemmas.{tables-file, tables-pass, tables-ask-on, passes-step, asks-step, files-step, tables-rest, promises-keep, rests-step}
-use Rattle.sc_live_journals.specs.rows.Definitions.{with_event}
-use Rattle.sc_live_journals.proofs.RowsProofs.Lemmas.{found_name}
-use Rattle.sc_live_journals.specs.scenes.Definitions.{scene_at, errand_in, taken_errand, errands_sent, IsSceneKind, IsOfGroup, IsTablesRow, IsTaking, Stays, IsLeadsRow, IsEventOf, KeepsStage, ComesTo, ComesToLeader, LeadersKeep, IsBeside, Led, Unled, ComesBeside, ComesToNone, AsidesKeep}
+use Rattle.sc_node_table.specs.NodeDefinitions.{NodeState, absent, ReplicaState, Place, name_of, mailed}
+use Rattle.sc_meaning.specs.sound.SoundDefinitions.{Player}
+use Rattle.sc_live_steps.specs.calm.CalmDefinitions.{Rows}
+use Rattle.sc_live_steps.specs.orders.OrderDefinitions.{Asking, is_watch, Turn, Errand, Question, Elsewhere, Reply, Result, Work, Answers, Records, Ends, IsOnly, Kind, Rests, PassesOn, AsksOn, Files, work_for, Stage, Still, IsUnderWay, Step, Passes, AsksAgain, IsTaken, OfQuestion, OfVote, OfOutcome, LastTakes, OneTakes, TwoTakes, Comes, IsStepOf, ByPassing, ByAsking, ByTaking, StepsBy, bond_of, is_yes, is_cast_yes, works, errand_by, errands_for, Works}
+use Rattle.sc_live_steps.proofs.OrderStepsProofs.OrderStepLemmas.{tables-file, tables-pass, tables-ask-on, passes-step, asks-step, files-step, tables-rest, promises-keep, rests-step}
+use Rattle.sc_live_journals.specs.rows.RowDefinitions.{with_event}
+use Rattle.sc_live_journals.proofs.RowsProofs.RowLemmas.{found_name}
+use Rattle.sc_live_journals.specs.scenes.SceneDefinitions.{scene_at, errand_in, taken_errand, errands_sent, IsSceneKind, IsOfGroup, IsTablesRow, IsTaking, Stays, IsLeadsRow, IsEventOf, KeepsStage, ComesTo, ComesToLeader, LeadersKeep, IsBeside, Led, Unled, ComesBeside, ComesToNone, AsidesKeep}
 use Rattle.sc_live_journals.proofs.ScenesProofs.RowKinds.{only_as, asides_stay, asides_are, leaders_are}
 use Rattle.sc_live_journals.proofs.ScenesProofs.SceneReceivers.{takes, misses}
 use Rattle.sc_live_journals.proofs.ScenesProofs.SceneRows.{rows_are}

@@ -4,17 +4,17 @@ use Rattle.std.proofs.lemmas.Bool.{eq-eqb}
 use Rattle.std.proofs.lemmas.List.{length-append}
 use Rattle.sc_base.specs.Definitions.{Among, Each}
 use Rattle.sc_node_table.specs.Values.{Draw, Command, Core, Lock, Free, Coordinating, Promised, Watching, Mail, Seat, Flight}
-use Rattle.sc_live_orderly.specs.Definitions.{mail_with, is_born}
+use Rattle.sc_live_orderly.specs.OrderlyDefinitions.{mail_with, is_born}
 use Rattle.sc_actor.specs.declared.rows.Event.TheVariants.{Told}
 use Rattle.sc_actor.specs.Definitions.{row_of, mails, copies, numbers_of}
-use Rattle.sc_meaning.specs.sound.Definitions.{player_table, Player}
-use Rattle.sc_node_table.specs.Definitions.{group_of_order, ReplicaState, listed}
-use Rattle.sc_live_steps.specs.orders.Definitions.{Unbound, Errand, bond_in as bond_by_lock, works_in, works_flying, works_ready, works, errand_by, errand_for, errands_for}
-use Rattle.sc_live_journals.specs.rows.Definitions.{view_at}
-use Rattle.sc_live_orderly.proofs.Lemmas.{in_time_before, in_time_tidy, last_in_time, quiet-empty}
-use Rattle.sc_live_steps.specs.calm.Definitions.{players, Rows}
-use Rattle.sc_live_steps.proofs.OrderStepsProofs.Lemmas.{still-only, quiet-still, left_none as left_empty, right_none as right_empty}
-use Rattle.sc_live_journals.specs.scenes.Definitions.{is_running, lead_of, works_of, work_at, scene_at, StageAfter, GoesToActor, HasNothing, QuietScenesAreOver, IsWork, WorksFlyLone, OrdersBeginInQuiet}
+use Rattle.sc_meaning.specs.sound.SoundDefinitions.{player_table, Player}
+use Rattle.sc_node_table.specs.NodeDefinitions.{group_of_order, ReplicaState, listed}
+use Rattle.sc_live_steps.specs.orders.OrderDefinitions.{Unbound, Errand, bond_in as bond_by_lock, works_in, works_flying, works_ready, works, errand_by, errand_for, errands_for}
+use Rattle.sc_live_journals.specs.rows.RowDefinitions.{view_at}
+use Rattle.sc_live_orderly.proofs.OrderlyLemmas.{in_time_before, in_time_tidy, last_in_time, quiet-empty}
+use Rattle.sc_live_steps.specs.calm.CalmDefinitions.{players, Rows}
+use Rattle.sc_live_steps.proofs.OrderStepsProofs.OrderStepLemmas.{still-only, quiet-still, left_none as left_empty, right_none as right_empty}
+use Rattle.sc_live_journals.specs.scenes.SceneDefinitions.{is_running, lead_of, works_of, work_at, scene_at, StageAfter, GoesToActor, HasNothing, QuietScenesAreOver, IsWork, WorksFlyLone, OrdersBeginInQuiet}
 use Rattle.sc_live_journals.proofs.ScenesProofs.VotesAndOrders.{orders_keep}
 use Rattle.sc_live_journals.proofs.ScenesProofs.UntakenMail.{errands-append}
 use Rattle.sc_live_journals.proofs.ScenesProofs.NewestLeaders.{lead_runs}

@@ -4,13 +4,13 @@ use Rattle.std.proofs.lemmas.Bool.{cases_Bool, cases_eq}
 use Rattle.sc_base.specs.Definitions.{Each}
 use Rattle.sc_node_table.specs.Values.{Draw, OrderLine, Seat, Event}
 use Rattle.sc_actor.specs.Definitions.{mails, numbers_of, row_of}
-use Rattle.sc_node_table.specs.Definitions.{ReplicaState, Place}
-use Rattle.sc_meaning.specs.sound.Definitions.{Player, player_table}
-use Rattle.sc_live_steps.specs.calm.Definitions.{Rows}
-use Rattle.sc_live_steps.specs.orders.Definitions.{First, Lone, Next, is_watch, Bond, Unbound, Asking, Errand, Question, Reply, Work, Opens, Answers, Records, Ends, Scene, IsOnly, bound_by, GoesOn, Executes, results, bond_of, works, errands_for}
-use Rattle.sc_live_journals.specs.rows.Definitions.{view_at, with_event}
-use Rattle.sc_live_journals.proofs.RowsProofs.Lemmas.{view_others}
-use Rattle.sc_live_journals.specs.scenes.Definitions.{scene_at, taken_errand, errands_sent, IsTablesRow, LeadsAlone, NoneRuns, Stays, IsUnled, AsidesStay, AsidesAre, IsLeadsRow, LeadersAre, IsEntrysRow, EntriesAre}
+use Rattle.sc_node_table.specs.NodeDefinitions.{ReplicaState, Place}
+use Rattle.sc_meaning.specs.sound.SoundDefinitions.{Player, player_table}
+use Rattle.sc_live_steps.specs.calm.CalmDefinitions.{Rows}
+use Rattle.sc_live_steps.specs.orders.OrderDefinitions.{First, Lone, Next, is_watch, Bond, Unbound, Asking, Errand, Question, Reply, Work, Opens, Answers, Records, Ends, Scene, IsOnly, bound_by, GoesOn, Executes, results, bond_of, works, errands_for}
+use Rattle.sc_live_journals.specs.rows.RowDefinitions.{view_at, with_event}
+use Rattle.sc_live_journals.proofs.RowsProofs.RowLemmas.{view_others}
+use Rattle.sc_live_journals.specs.scenes.SceneDefinitions.{scene_at, taken_errand, errands_sent, IsTablesRow, LeadsAlone, NoneRuns, Stays, IsUnled, AsidesStay, AsidesAre, IsLeadsRow, LeadersAre, IsEntrysRow, EntriesAre}
 use Rattle.sc_live_journals.proofs.ScenesProofs.GroupParts.{same_part}
 use Rattle.sc_live_journals.proofs.ScenesProofs.SceneViews.{tell}
 

@@ -6,15 +6,15 @@ use Rattle.sc_mail.specs.declared.bodies.AnswerBody.TheVariants as Says
 use Rattle.sc_base.specs.Definitions.{client_actor}
 use Rattle.sc_actor.specs.declared.rows.Event.TheVariants.{Told}
 use Rattle.sc_actor.specs.Definitions.{mails, numbered, value, row_of}
-use Rattle.sc_live_orderly.specs.Definitions.{AreInTime}
-use Rattle.sc_live_orderly.proofs.Lemmas.{last_in_time}
-use Rattle.sc_node_table.specs.Definitions.{NodeState, replica_of, group_of_mail, may_come, absent, unknown, group_of_order, ReplicaState, name_of, mailed, request_row, requested, request_refusal}
-use Rattle.sc_meaning.specs.sound.Definitions.{Player, player_table, births}
-use Rattle.sc_live_steps.specs.calm.Definitions.{players, Rows}
-use Rattle.sc_live_steps.specs.orders.Definitions.{Unbound, Bound, Errand, Question, Elsewhere, Reply, Result, Answers, Here, IsOnly, IsTaken, Comes, IsUnderWay, IsUnbound, MayFile, bond_of, errand_by, errands_for, is_yes, is_cast_yes}
-use Rattle.sc_live_steps.proofs.OrderStepsProofs.Lemmas.{tables-file, errands-none}
-use Rattle.sc_live_journals.specs.rows.Definitions.{IsSeat, with_event}
-use Rattle.sc_live_journals.specs.scenes.Definitions.{IsAsking, IsWaiting, Expects, IsOrdered, LeaderFinds, BesideFinds, FindsReplica, AtLeader, AtAnother, NodeFinds, FindsFlight, Late, Leaves, Changed, Opened, Voted, Aborted, Decided, Heard, Ended, FindsQuiet, ByLeader, ByAnother, FindsOrder, FoundOrdersStep, KeepsStage, ComesTo, ComesToLeader, ComesBeside, ComesToNone, scene_at, IsTaking}
+use Rattle.sc_live_orderly.specs.OrderlyDefinitions.{AreInTime}
+use Rattle.sc_live_orderly.proofs.OrderlyLemmas.{last_in_time}
+use Rattle.sc_node_table.specs.NodeDefinitions.{NodeState, replica_of, group_of_mail, may_come, absent, unknown, group_of_order, ReplicaState, name_of, mailed, request_row, requested, request_refusal}
+use Rattle.sc_meaning.specs.sound.SoundDefinitions.{Player, player_table, births}
+use Rattle.sc_live_steps.specs.calm.CalmDefinitions.{players, Rows}
+use Rattle.sc_live_steps.specs.orders.OrderDefinitions.{Unbound, Bound, Errand, Question, Elsewhere, Reply, Result, Answers, Here, IsOnly, IsTaken, Comes, IsUnderWay, IsUnbound, MayFile, bond_of, errand_by, errands_for, is_yes, is_cast_yes}
+use Rattle.sc_live_steps.proofs.OrderStepsProofs.OrderStepLemmas.{tables-file, errands-none}
+use Rattle.sc_live_journals.specs.rows.RowDefinitions.{IsSeat, with_event}
+use Rattle.sc_live_journals.specs.scenes.SceneDefinitions.{IsAsking, IsWaiting, Expects, IsOrdered, LeaderFinds, BesideFinds, FindsReplica, AtLeader, AtAnother, NodeFinds, FindsFlight, Late, Leaves, Changed, Opened, Voted, Aborted, Decided, Heard, Ended, FindsQuiet, ByLeader, ByAnother, FindsOrder, FoundOrdersStep, KeepsStage, ComesTo, ComesToLeader, ComesBeside, ComesToNone, scene_at, IsTaking}
 use Rattle.sc_live_journals.proofs.ScenesProofs.AnswersAndLateMail.{asked_keep}
 use Rattle.sc_live_journals.proofs.ScenesProofs.VotesAndOrders.{votes_keep, orders_keep}
 use Rattle.sc_live_journals.proofs.ScenesProofs.CreatedReplicas.{states_keep}
@@ -25,7 +25,7 @@ use Rattle.sc_live_journals.proofs.ScenesProofs.QuietJournals.{begin_in_quiet}
 use Rattle.sc_live_journals.proofs.ScenesProofs.ErrandLeaders.{errand_among, answers_reach}
 use Rattle.sc_live_journals.proofs.ScenesProofs.SceneRows.{calm_is}
 use Rattle.sc_live_journals.proofs.ScenesProofs.SceneViews.{tell}
-use Rattle.sc_live_journals.proofs.RowsProofs.Lemmas.{none_some}
+use Rattle.sc_live_journals.proofs.RowsProofs.RowLemmas.{none_some}
 
 -- ---- a request beside the leader
 

@@ -9,18 +9,18 @@ use Rattle.sc_base.proofs.Lemmas.{draw_is, same_name}
 use Rattle.sc_actor.specs.declared.rows.Event.TheVariants.{Told}
 use Rattle.sc_actor.specs.declared.rows.Input.TheVariants.{Told as ToldInput}
 use Rattle.sc_actor.specs.Definitions.{mails, numbered, value, acted, input_of, row_of}
-use Rattle.sc_live_orderly.specs.Definitions.{AreInTime}
-use Rattle.sc_node_table.specs.Definitions.{NodeState, replica_of, with_replica, with_new, with_born, with_children, group_of_mail, unknown, on_mail, absent, group_of_order, ordered_of, on_order, ordered_row, ReplicaState, Executed, born_replica, mailed, slots_ahead}
-use Rattle.sc_meaning.specs.sound.Definitions.{Player, player_table}
-use Rattle.sc_live_steps.specs.calm.Definitions.{players, Rows}
-use Rattle.sc_live_steps.proofs.CalmStepsProofs.Lemmas.{put_others}
-use Rattle.sc_live_steps.specs.orders.Definitions.{Errand, errand_by}
-use Rattle.sc_live_journals.specs.rows.Definitions.{replicas_of, view_at, IsSeat, with_event}
-use Rattle.sc_live_journals.proofs.RowsProofs.Lemmas.{names_stay, found_name, rows_replicas, view_was, view_is, sent_is, new_is}
-use Rattle.sc_live_journals.specs.scenes.Definitions.{errand_in, errand_taken, Creates, LeavesOrMakes, IsOfGroup, IsTablesRow, MayCreate, IsTaking, RowsAreTaken}
+use Rattle.sc_live_orderly.specs.OrderlyDefinitions.{AreInTime}
+use Rattle.sc_node_table.specs.NodeDefinitions.{NodeState, replica_of, with_replica, with_new, with_born, with_children, group_of_mail, unknown, on_mail, absent, group_of_order, ordered_of, on_order, ordered_row, ReplicaState, Executed, born_replica, mailed, slots_ahead}
+use Rattle.sc_meaning.specs.sound.SoundDefinitions.{Player, player_table}
+use Rattle.sc_live_steps.specs.calm.CalmDefinitions.{players, Rows}
+use Rattle.sc_live_steps.proofs.CalmStepsProofs.CalmStepLemmas.{put_others}
+use Rattle.sc_live_steps.specs.orders.OrderDefinitions.{Errand, errand_by}
+use Rattle.sc_live_journals.specs.rows.RowDefinitions.{replicas_of, view_at, IsSeat, with_event}
+use Rattle.sc_live_journals.proofs.RowsProofs.RowLemmas.{names_stay, found_name, rows_replicas, view_was, view_is, sent_is, new_is}
+use Rattle.sc_live_journals.specs.scenes.SceneDefinitions.{errand_in, errand_taken, Creates, LeavesOrMakes, IsOfGroup, IsTablesRow, MayCreate, IsTaking, RowsAreTaken}
 use Rattle.sc_live_journals.proofs.RowsProofs.ReplicaViews.{child_others as other_child, child_me}
 pub use Rattle.sc_words.proofs.PaxosProofs.ListLemmas.{Each-among as each_is}
-use Rattle.sc_law_walks.proofs.Lemmas.{takes_by}
+use Rattle.sc_law_walks.proofs.WalkLemmas.{takes_by}
 
 -- ---- the group of an errand
 

@@ -7,15 +7,15 @@ use Rattle.sc_node_table.specs.Values.{Draw, OrderLine, Mail, Seat, Event, Deliv
 use Rattle.sc_base.proofs.Lemmas.{same_name}
 use Rattle.sc_actor.specs.declared.rows.Event.TheVariants.{Told}
 use Rattle.sc_actor.specs.Definitions.{mails, numbers_of, row_of}
-use Rattle.sc_live_orderly.specs.Definitions.{IsCalmRow, IsCalmEvent}
-use Rattle.sc_live_orderly.proofs.Lemmas.{last_in_time}
-use Rattle.sc_node_table.specs.Definitions.{ReplicaState, listed, born_replica, slots_ahead}
-use Rattle.sc_meaning.specs.sound.Definitions.{Player, player_table}
-use Rattle.sc_live_steps.specs.calm.Definitions.{players, Rows}
-use Rattle.sc_live_steps.proofs.CalmStepsProofs.Lemmas.{apart}
-use Rattle.sc_live_steps.specs.orders.Definitions.{Errand, Unbound, IsRow, bond_in as bond_by_lock, bond_of, errand_by, errand_for, errands_for}
-use Rattle.sc_live_journals.specs.rows.Definitions.{view_at, IsSeat, with_event}
-use Rattle.sc_live_journals.specs.scenes.Definitions.{scene_at, left_after, errand_in, errand_taken, taken_errand, errands_sent, IsSceneKind, Creates, LeavesOrMakes, IsOfGroup, RowsAreOfScenes}
+use Rattle.sc_live_orderly.specs.OrderlyDefinitions.{IsCalmRow, IsCalmEvent}
+use Rattle.sc_live_orderly.proofs.OrderlyLemmas.{last_in_time}
+use Rattle.sc_node_table.specs.NodeDefinitions.{ReplicaState, listed, born_replica, slots_ahead}
+use Rattle.sc_meaning.specs.sound.SoundDefinitions.{Player, player_table}
+use Rattle.sc_live_steps.specs.calm.CalmDefinitions.{players, Rows}
+use Rattle.sc_live_steps.proofs.CalmStepsProofs.CalmStepLemmas.{apart}
+use Rattle.sc_live_steps.specs.orders.OrderDefinitions.{Errand, Unbound, IsRow, bond_in as bond_by_lock, bond_of, errand_by, errand_for, errands_for}
+use Rattle.sc_live_journals.specs.rows.RowDefinitions.{view_at, IsSeat, with_event}
+use Rattle.sc_live_journals.specs.scenes.SceneDefinitions.{scene_at, left_after, errand_in, errand_taken, taken_errand, errands_sent, IsSceneKind, Creates, LeavesOrMakes, IsOfGroup, RowsAreOfScenes}
 use Rattle.sc_live_journals.proofs.ScenesProofs.UntakenMail.{errands-append, left_by, left_row, TakesOne, takes_one}
 use Rattle.sc_live_journals.proofs.ScenesProofs.GroupParts.{SamePart, same_part, stopped_part, running_part}
 use Rattle.sc_live_journals.proofs.ScenesProofs.SceneViews.{seat_among, view_among}

@@ -4,12 +4,12 @@ use Rattle.std.proofs.lemmas.Bool.{eqb-true}
 use Rattle.sc_base.specs.Definitions.{Among}
 use Rattle.sc_node_table.specs.Values.{Draw, Seat}
 use Rattle.sc_actor.specs.Definitions.{numbers_of}
-use Rattle.sc_node_table.specs.Definitions.{ReplicaState}
-use Rattle.sc_words.proofs.PaxosProofs.Lemmas.{find_found}
-use Rattle.sc_meaning.specs.sound.Definitions.{Player}
-use Rattle.sc_live_steps.specs.calm.Definitions.{Rows}
-use Rattle.sc_live_journals.specs.rows.Definitions.{replica_in, view_at, IsSeat}
-use Rattle.sc_live_journals.specs.scenes.Definitions.{is_running, bond_there, works_of, bond_by, work_at, scene_at, LeadsAlone, NoneRuns, ScenesDescribe}
+use Rattle.sc_node_table.specs.NodeDefinitions.{ReplicaState}
+use Rattle.sc_words.proofs.PaxosProofs.PaxosLemmas.{find_found}
+use Rattle.sc_meaning.specs.sound.SoundDefinitions.{Player}
+use Rattle.sc_live_steps.specs.calm.CalmDefinitions.{Rows}
+use Rattle.sc_live_journals.specs.rows.RowDefinitions.{replica_in, view_at, IsSeat}
+use Rattle.sc_live_journals.specs.scenes.SceneDefinitions.{is_running, bond_there, works_of, bond_by, work_at, scene_at, LeadsAlone, NoneRuns, ScenesDescribe}
 use Rattle.sc_live_journals.proofs.ScenesProofs.NewestLeaders.{lead_found, lead_none}
 use Rattle.sc_live_journals.proofs.ScenesProofs.GroupParts.{AreAll, newest_bound, newest_some}
 

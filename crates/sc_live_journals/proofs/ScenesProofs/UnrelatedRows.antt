@@ -8,18 +8,18 @@ use Rattle.sc_words.specs.declared.commands.orders.OrderRefusal.TheVariants.{Not
 use Rattle.sc_actor.specs.declared.rows.Event.TheVariants.{Told as Orders}
 use Rattle.sc_actor.specs.declared.rows.Input.TheVariants.{Go, Told}
 use Rattle.sc_actor.specs.Definitions.{mails, numbered, value, acted, input_of}
-use Rattle.sc_client_table.specs.table.Definitions.{Client, table}
-use Rattle.sc_law_walks.proofs.Lemmas.{either_way}
-use Rattle.sc_live_orderly.specs.Definitions.{AreInTime}
-use Rattle.sc_node_table.specs.Definitions.{result_sent, NodeState, replica_of, group_of_mail, may_come, absent, taken_by, routed, on_mail, ordered_of, on_order}
-use Rattle.sc_meaning.specs.sound.Definitions.{Player, player_table}
-use Rattle.sc_live_steps.specs.calm.Definitions.{players, Rows}
-use Rattle.sc_live_steps.specs.orders.Definitions.{errand_by, errand_for, errands_for}
-use Rattle.sc_live_journals.specs.rows.Definitions.{replicas_of, IsSeat, with_event}
-use Rattle.sc_words.proofs.PaxosProofs.Lemmas.{Each-weaker}
+use Rattle.sc_client_table.specs.table.TableDefinitions.{Client, table}
+use Rattle.sc_law_walks.proofs.WalkLemmas.{either_way}
+use Rattle.sc_live_orderly.specs.OrderlyDefinitions.{AreInTime}
+use Rattle.sc_node_table.specs.NodeDefinitions.{result_sent, NodeState, replica_of, group_of_mail, may_come, absent, taken_by, routed, on_mail, ordered_of, on_order}
+use Rattle.sc_meaning.specs.sound.SoundDefinitions.{Player, player_table}
+use Rattle.sc_live_steps.specs.calm.CalmDefinitions.{players, Rows}
+use Rattle.sc_live_steps.specs.orders.OrderDefinitions.{errand_by, errand_for, errands_for}
+use Rattle.sc_live_journals.specs.rows.RowDefinitions.{replicas_of, IsSeat, with_event}
+use Rattle.sc_words.proofs.PaxosProofs.PaxosLemmas.{Each-weaker}
 use Rattle.sc_live_journals.proofs.MailProofs.Clients.{IsRequestOf, clients_ask}
-use Rattle.sc_live_journals.proofs.RowsProofs.Lemmas.{view_was, view_is, sent_is}
-use Rattle.sc_live_journals.specs.scenes.Definitions.{errand_in, errand_taken, KeepsStage, OthersKeep}
+use Rattle.sc_live_journals.proofs.RowsProofs.RowLemmas.{view_was, view_is, sent_is}
+use Rattle.sc_live_journals.specs.scenes.SceneDefinitions.{errand_in, errand_taken, KeepsStage, OthersKeep}
 use Rattle.sc_live_journals.proofs.ScenesProofs.RowKinds.{asides_stay, asides_are}
 use Rattle.sc_live_journals.proofs.ScenesProofs.OrderRows.{rests_by}
 

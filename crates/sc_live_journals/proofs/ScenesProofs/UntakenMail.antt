@@ -5,12 +5,12 @@ use Rattle.std.specs.List.{filter}
 use Rattle.sc_node_table.specs.Values.{Draw, OrderLine, Mail, Seat, Event, Deliver, Row}
 use Rattle.sc_actor.specs.Definitions.{mails, copies, counts_at, numbered, IsUnderWay, System}
 use Rattle.sc_actor.proofs.Lemmas.{waiting_one}
-use Rattle.sc_live_orderly.specs.Definitions.{IsCalmEvent, mail_with}
-use Rattle.sc_live_orderly.proofs.Lemmas.{less_at, after-row}
-use Rattle.sc_meaning.specs.sound.Definitions.{Player}
-use Rattle.sc_live_steps.specs.calm.Definitions.{players, Rows}
-use Rattle.sc_live_steps.specs.orders.Definitions.{errand_by, errand_for, errands_for}
-use Rattle.sc_live_journals.specs.scenes.Definitions.{left_after}
+use Rattle.sc_live_orderly.specs.OrderlyDefinitions.{IsCalmEvent, mail_with}
+use Rattle.sc_live_orderly.proofs.OrderlyLemmas.{less_at, after-row}
+use Rattle.sc_meaning.specs.sound.SoundDefinitions.{Player}
+use Rattle.sc_live_steps.specs.calm.CalmDefinitions.{players, Rows}
+use Rattle.sc_live_steps.specs.orders.OrderDefinitions.{errand_by, errand_for, errands_for}
+use Rattle.sc_live_journals.specs.scenes.SceneDefinitions.{left_after}
 
 -- ---- lists
 

@@ -2,11 +2,11 @@
 use Rattle.std.proofs.Common.{◌≡◌, ℕ, true, List, ◌⊎◌, inl, inr, refl, sym, ◌∙◌, ap, subst}
 use Rattle.sc_base.specs.Definitions.{Among, Each}
 use Rattle.sc_node_table.specs.Values.{Draw, Seat}
-use Rattle.sc_live_steps.specs.orders.Definitions.{Turn, First, Lone, Next, Errand, Question, Elsewhere, Reply, Result, Work, Opens, Scene, IsNone, Deal, Stage, Still, Ordered, Asks, SentOn, Weighs, Replied, Recorded, Closes, ClosesBoth, heard, parties_of, IsAt, closed, IsTaken, OfQuestion, OfVote, OfOutcome, LastTakes, OneTakes, TwoTakes, LastFreed, OneFreed, TwoFreed, IsStepOf, ByRest, ByOrder, ByChange, ByDeal, ByPassing, ByAsking, ByTaking, ByVote, ByNo, ByHearing, ByDeciding, ByEnd}
-use Rattle.sc_live_steps.proofs.OrderStepsProofs.Lemmas.{tokens, found, errands_of, no-errand}
-use Rattle.sc_meaning.specs.sound.Definitions.{Player}
-use Rattle.sc_live_steps.specs.calm.Definitions.{Rows}
-use Rattle.sc_live_journals.specs.scenes.Definitions.{IsHeard, IsFresh, IsThere, AreThere}
+use Rattle.sc_live_steps.specs.orders.OrderDefinitions.{Turn, First, Lone, Next, Errand, Question, Elsewhere, Reply, Result, Work, Opens, Scene, IsNone, Deal, Stage, Still, Ordered, Asks, SentOn, Weighs, Replied, Recorded, Closes, ClosesBoth, heard, parties_of, IsAt, closed, IsTaken, OfQuestion, OfVote, OfOutcome, LastTakes, OneTakes, TwoTakes, LastFreed, OneFreed, TwoFreed, IsStepOf, ByRest, ByOrder, ByChange, ByDeal, ByPassing, ByAsking, ByTaking, ByVote, ByNo, ByHearing, ByDeciding, ByEnd}
+use Rattle.sc_live_steps.proofs.OrderStepsProofs.OrderStepLemmas.{tokens, found, errands_of, no-errand}
+use Rattle.sc_meaning.specs.sound.SoundDefinitions.{Player}
+use Rattle.sc_live_steps.specs.calm.CalmDefinitions.{Rows}
+use Rattle.sc_live_journals.specs.scenes.SceneDefinitions.{IsHeard, IsFresh, IsThere, AreThere}
 
 -- none is, once an outcome is under way
 closed_none : (tx asked : Draw) (turn : Turn) (host : ℕ) (name : Draw) → IsFresh (closed tx asked turn host) name → ⊥

@@ -2,24 +2,24 @@
 use Rattle.sc_base.specs.Definitions.{Each, same_draw}
 use Rattle.sc_base.proofs.Lemmas.{same_name}
 use Rattle.sc_node_table.specs.Values.{AnswerBody, Draw, OrderLine, Mail, MailBody, Request, Answer, Prepare, Promise, Accept, Accepted, Nack, Learn, Ask, Install, TxPrepare, TxVote, TxOutcome, TxElsewhere, TxWatch, TxWatched, Told as ToldMail, Node, Client, Seat, Event, Input}
-use Rattle.sc_client_table.specs.table.Definitions.{got, table, Client as ClientState}
-use Rattle.sc_words.proofs.PaxosProofs.Lemmas.{Each-append}
-use Rattle.sc_live_steps.proofs.CalmStepsProofs.Lemmas.{apart}
-use Rattle.sc_live_steps.specs.orders.Definitions.{is_yes, is_cast_yes, Question, Elsewhere, Reply, Result, Errand, errand_by}
-use Rattle.sc_live_steps.specs.following.Definitions.{Asks, Votes, Teaches, Installs, Prepares, Promises, Mark}
-use Rattle.sc_live_journals.proofs.RowsProofs.Lemmas.{AreQuiet, wide_mark, made_keeps, names_stay, view_others, view_was, view_is, sent_is, new_others, none_some}
-use Rattle.sc_live_journals.specs.scenes.Definitions.{IsErrandFor, BesideFinds}
+use Rattle.sc_client_table.specs.table.TableDefinitions.{got, table, Client as ClientState}
+use Rattle.sc_words.proofs.PaxosProofs.PaxosLemmas.{Each-append}
+use Rattle.sc_live_steps.proofs.CalmStepsProofs.CalmStepLemmas.{apart}
+use Rattle.sc_live_steps.specs.orders.OrderDefinitions.{is_yes, is_cast_yes, Question, Elsewhere, Reply, Result, Errand, errand_by}
+use Rattle.sc_live_steps.specs.following.FollowingDefinitions.{Asks, Votes, Teaches, Installs, Prepares, Promises, Mark}
+use Rattle.sc_live_journals.proofs.RowsProofs.RowLemmas.{AreQuiet, wide_mark, made_keeps, names_stay, view_others, view_was, view_is, sent_is, new_others, none_some}
+use Rattle.sc_live_journals.specs.scenes.SceneDefinitions.{IsErrandFor, BesideFinds}
 use Rattle.std.proofs.Common.{◌≡◌, ℕ, eqb, Bool, true, false, cond, List, [], ◌∷◌, ◌&&◌, ◌||◌, not, nat_lt, length, drop, Option, Some, None, ◌⊎◌, inl, inr, refl, sym, ◌∙◌, ap, subst}
 use Rattle.std.proofs.lemmas.Bool.{cases_eq}
 use Rattle.sc_actor.specs.Definitions.{mails, is_delivery, value, acted, input_of, System, row_of}
-use Rattle.sc_live_orderly.specs.Definitions.{rest, mail_for, taken, AreInTime}
-use Rattle.sc_live_orderly.proofs.Lemmas.{in_time_before, in_time_tidy, last_in_time, rest-calm}
-use Rattle.sc_node_table.specs.Definitions.{NodeState, replica_of, with_made, group_of_mail, unknown, absent, ReplicaState, Place, last_slot, mailed, made_by, slots_ahead, sent_elsewhere}
-use Rattle.sc_law_walks.proofs.Lemmas.{either_way}
-use Rattle.sc_meaning.specs.sound.Definitions.{Player, player_table}
-use Rattle.sc_live_steps.specs.calm.Definitions.{players, Rows}
-use Rattle.sc_live_steps.proofs.OrderStepsProofs.Lemmas.{offer_is, watch_row_is}
-use Rattle.sc_live_journals.specs.rows.Definitions.{view_at, IsSeat, with_event}
+use Rattle.sc_live_orderly.specs.OrderlyDefinitions.{rest, mail_for, taken, AreInTime}
+use Rattle.sc_live_orderly.proofs.OrderlyLemmas.{in_time_before, in_time_tidy, last_in_time, rest-calm}
+use Rattle.sc_node_table.specs.NodeDefinitions.{NodeState, replica_of, with_made, group_of_mail, unknown, absent, ReplicaState, Place, last_slot, mailed, made_by, slots_ahead, sent_elsewhere}
+use Rattle.sc_law_walks.proofs.WalkLemmas.{either_way}
+use Rattle.sc_meaning.specs.sound.SoundDefinitions.{Player, player_table}
+use Rattle.sc_live_steps.specs.calm.CalmDefinitions.{players, Rows}
+use Rattle.sc_live_steps.proofs.OrderStepsProofs.OrderStepLemmas.{offer_is, watch_row_is}
+use Rattle.sc_live_journals.specs.rows.RowDefinitions.{view_at, IsSeat, with_event}
 use Rattle.sc_live_journals.proofs.ScenesProofs.RowPremises.{IsQuestion}
 use Rattle.sc_live_journals.proofs.ScenesProofs.SceneReceivers.{now_is, was_is, all_sent}
 use Rattle.sc_live_journals.proofs.ScenesProofs.UntouchedBySteps.{Questions}

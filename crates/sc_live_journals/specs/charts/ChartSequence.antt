@@ -3,9 +3,9 @@ use Rattle.std.specs.Prelude.{◌≡◌, ℕ, ◌≤◌, ◌++◌, true, List, [
 use Rattle.sc_base.specs.Definitions.{Each}
 use Rattle.sc_node_table.specs.Values.{Draw, OrderLine, Mail, MailBody, TxElsewhere, Node, Client, Seat, Row}
 use Rattle.sc_actor.specs.Definitions.{value, is_quiet}
-use Rattle.sc_live_orderly.specs.Definitions.{under_way, AreInTime}
-use Rattle.sc_meaning.specs.sound.Definitions.{Player, player_table}
-use Rattle.sc_live_steps.specs.calm.Definitions.{players, MayFollow, StandsOnce, IsResting, RestsCalm, Rows, is_led}
+use Rattle.sc_live_orderly.specs.OrderlyDefinitions.{under_way, AreInTime}
+use Rattle.sc_meaning.specs.sound.SoundDefinitions.{Player, player_table}
+use Rattle.sc_live_steps.specs.calm.CalmDefinitions.{players, MayFollow, StandsOnce, IsResting, RestsCalm, Rows, is_led}
 use Rattle.sc_live_journals.specs.charts.Charts.{all_replicas, asked_in, names_at, chart_at}
 
 -- The player is a node, or a client with no request that waits.

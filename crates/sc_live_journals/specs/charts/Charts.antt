@@ -5,9 +5,9 @@ use Rattle.std.specs.List.{list_any}
 use Rattle.sc_base.specs.Definitions.{same_draw}
 use Rattle.sc_node_table.specs.Values.{Draw, Core, Lock, Free, Coordinating, Promised, Watching, Route, OrderLine, Mail, Node, Client, Seat}
 use Rattle.sc_actor.specs.Definitions.{value, System}
-use Rattle.sc_node_table.specs.Definitions.{replica_of, asked_link, watcher_link, ReplicaState, name_of}
-use Rattle.sc_meaning.specs.sound.Definitions.{Player, player_table}
-use Rattle.sc_live_steps.specs.calm.Definitions.{Chart, Reach, Rows, is_led}
+use Rattle.sc_node_table.specs.NodeDefinitions.{replica_of, asked_link, watcher_link, ReplicaState, name_of}
+use Rattle.sc_meaning.specs.sound.SoundDefinitions.{Player, player_table}
+use Rattle.sc_live_steps.specs.calm.CalmDefinitions.{Chart, Reach, Rows, is_led}
 use Rattle.sc_live_journals.specs.charts.LastQuietPrefixes.{quiet_prefix}
 
 -- The replicas of a player; a client has none.

@@ -1,7 +1,7 @@
 -- How far groups that are gone are from those that stand.
 use Rattle.std.specs.Prelude.{◌≡◌, ℕ, ◌+◌, ◌<◌, ◌≤◌, length, List, Some, is_some, true}
 use Rattle.sc_node_table.specs.Values.{Draw, Route}
-use Rattle.sc_node_table.specs.Definitions.{ReplicaState}
+use Rattle.sc_node_table.specs.NodeDefinitions.{ReplicaState}
 use Rattle.sc_live_journals.specs.charts.Charts.{went_in, ends_by}
 
 -- Groups go one after another: each has a number below that of the names, and goes into one that stands or has a greater number.

@@ -2,8 +2,8 @@
 use Rattle.std.specs.Prelude.{ℕ, zero, suc, length, take, if◌then◌else◌}
 use Rattle.sc_node_table.specs.Values.{OrderLine, Mail}
 use Rattle.sc_actor.specs.Definitions.{System, is_quiet}
-use Rattle.sc_meaning.specs.sound.Definitions.{Player}
-use Rattle.sc_live_steps.specs.calm.Definitions.{Rows}
+use Rattle.sc_meaning.specs.sound.SoundDefinitions.{Player}
+use Rattle.sc_live_steps.specs.calm.CalmDefinitions.{Rows}
 
 -- The length of the longest quiet prefix of these rows that has at most this number of rows; 0 if there is none.
 abbrev pub quiet_upto : System Player Mail OrderLine → Rows → ℕ → ℕ

@@ -3,11 +3,11 @@ use Rattle.std.specs.Prelude.{◌≡◌, ℕ, Bool, true, List, Some}
 use Rattle.sc_base.specs.Definitions.{Each}
 use Rattle.sc_node_table.specs.Values.{Base, Node, Seat}
 use Rattle.sc_actor.specs.Definitions.{value}
-use Rattle.sc_words.specs.paxos.Definitions.{IsAtLeast}
-use Rattle.sc_node_table.specs.Definitions.{NodeState, born_node, ReplicaState, slots_ahead}
-use Rattle.sc_meaning.specs.sound.Definitions.{Player, player_table}
-use Rattle.sc_live_steps.specs.calm.Definitions.{Rows}
-use Rattle.sc_law_walks.specs.Definitions.{IsKept}
+use Rattle.sc_words.specs.paxos.PaxosDefinitions.{IsAtLeast}
+use Rattle.sc_node_table.specs.NodeDefinitions.{NodeState, born_node, ReplicaState, slots_ahead}
+use Rattle.sc_meaning.specs.sound.SoundDefinitions.{Player, player_table}
+use Rattle.sc_live_steps.specs.calm.CalmDefinitions.{Rows}
+use Rattle.sc_law_walks.specs.WalkDefinitions.{IsKept}
 
 -- The replica is its node's, and has promised no ballot later than the greatest that it saw.
 -- Where it leads, it does so in that ballot and takes itself for the leader. And it is kept as any replica is (`IsKept`).

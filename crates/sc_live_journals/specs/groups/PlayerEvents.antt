@@ -4,12 +4,12 @@ use Rattle.sc_node_table.specs.Values.{Ballot, Command, Base, OrderLine, Mail, P
 use Rattle.sc_base.specs.Definitions.{is_member}
 use Rattle.sc_actor.specs.declared.rows.Event.TheVariants.{Told}
 use Rattle.sc_actor.specs.Definitions.{value}
-use Rattle.sc_live_orderly.specs.Definitions.{AreInTime}
-use Rattle.sc_node_table.specs.Definitions.{entered, NodeState, replica_of, group_of_mail, group_of_order, ordered_row, ReplicaState, last_slot, mailed, slots_ahead}
-use Rattle.sc_meaning.specs.sound.Definitions.{Player, player_table}
-use Rattle.sc_live_steps.specs.calm.Definitions.{players, Rows}
-use Rattle.sc_live_steps.specs.following.Definitions.{Course, Sets, SlotLeaders, IsAside, DecidesNext}
-use Rattle.sc_live_journals.specs.rows.Definitions.{TakesMail, HoldsReplica, IsSeat, with_event, LeavesAlone, LeavesOrCreates}
+use Rattle.sc_live_orderly.specs.OrderlyDefinitions.{AreInTime}
+use Rattle.sc_node_table.specs.NodeDefinitions.{entered, NodeState, replica_of, group_of_mail, group_of_order, ordered_row, ReplicaState, last_slot, mailed, slots_ahead}
+use Rattle.sc_meaning.specs.sound.SoundDefinitions.{Player, player_table}
+use Rattle.sc_live_steps.specs.calm.CalmDefinitions.{players, Rows}
+use Rattle.sc_live_steps.specs.following.FollowingDefinitions.{Course, Sets, SlotLeaders, IsAside, DecidesNext}
+use Rattle.sc_live_journals.specs.rows.RowDefinitions.{TakesMail, HoldsReplica, IsSeat, with_event, LeavesAlone, LeavesOrCreates}
 use Rattle.sc_live_journals.specs.groups.RowKinds.{IsLedStep}
 use Rattle.sc_live_journals.specs.groups.WellLedGroups.{Ends, IsWellLed}
 use Rattle.sc_live_journals.specs.groups.RequiredLogs.{IsOfLog, HasRounds, IsLogsState, RestsBy, CountsAsMember, IsLogOf}

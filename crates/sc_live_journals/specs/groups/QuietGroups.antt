@@ -3,13 +3,13 @@ use Rattle.std.specs.Prelude.{◌≡◌, ℕ, ◌≤◌, true, false, List, [], 
 use Rattle.sc_node_table.specs.Values.{Base, Seat}
 use Rattle.sc_base.specs.Definitions.{IsRoster, is_member}
 use Rattle.sc_actor.specs.Definitions.{is_quiet}
-use Rattle.sc_live_orderly.specs.Definitions.{is_born, AreInTime}
-use Rattle.sc_words.specs.paxos.Definitions.{below}
-use Rattle.sc_node_table.specs.Definitions.{ReplicaState, next, members, settled}
-use Rattle.sc_meaning.specs.sound.Definitions.{Player}
-use Rattle.sc_live_steps.specs.calm.Definitions.{players, IsUnbound, MayVote, Rows}
-use Rattle.sc_live_steps.specs.following.Definitions.{Course, Sets, IsOpen, SlotLeaders, IsLeadOf, IsOrderly}
-use Rattle.sc_live_journals.specs.rows.Definitions.{view_at, progress_at, marks_at}
+use Rattle.sc_live_orderly.specs.OrderlyDefinitions.{is_born, AreInTime}
+use Rattle.sc_words.specs.paxos.PaxosDefinitions.{below}
+use Rattle.sc_node_table.specs.NodeDefinitions.{ReplicaState, next, members, settled}
+use Rattle.sc_meaning.specs.sound.SoundDefinitions.{Player}
+use Rattle.sc_live_steps.specs.calm.CalmDefinitions.{players, IsUnbound, MayVote, Rows}
+use Rattle.sc_live_steps.specs.following.FollowingDefinitions.{Course, Sets, IsOpen, SlotLeaders, IsLeadOf, IsOrderly}
+use Rattle.sc_live_journals.specs.rows.RowDefinitions.{view_at, progress_at, marks_at}
 use Rattle.sc_live_journals.specs.groups.WellLedGroups.{Ends, IsWellLed}
 
 -- One replica leads: a settled member that no report binds, with all in order. No other leads, none has executed more, and each member's has executed as much;

@@ -3,12 +3,12 @@ use Rattle.std.specs.Prelude.{◌≡◌, ℕ, ◌≤◌, true, false, List, [], 
 use Rattle.sc_base.specs.Definitions.{Each, IsRoster}
 use Rattle.sc_node_table.specs.Values.{Base, Seat}
 use Rattle.sc_actor.specs.Definitions.{is_quiet}
-use Rattle.sc_live_orderly.specs.Definitions.{is_born, AreInTime}
-use Rattle.sc_node_table.specs.Definitions.{next_ready, ReplicaState, next, last_slot}
-use Rattle.sc_meaning.specs.sound.Definitions.{Player}
-use Rattle.sc_live_steps.specs.calm.Definitions.{players, LeadsAtRest, Rows}
-use Rattle.sc_live_steps.specs.following.Definitions.{Course, Sets, SlotLeaders}
-use Rattle.sc_live_journals.specs.rows.Definitions.{view_at, marks_at}
+use Rattle.sc_live_orderly.specs.OrderlyDefinitions.{is_born, AreInTime}
+use Rattle.sc_node_table.specs.NodeDefinitions.{next_ready, ReplicaState, next, last_slot}
+use Rattle.sc_meaning.specs.sound.SoundDefinitions.{Player}
+use Rattle.sc_live_steps.specs.calm.CalmDefinitions.{players, LeadsAtRest, Rows}
+use Rattle.sc_live_steps.specs.following.FollowingDefinitions.{Course, Sets, SlotLeaders}
+use Rattle.sc_live_journals.specs.rows.RowDefinitions.{view_at, marks_at}
 use Rattle.sc_live_journals.specs.groups.WellLedGroups.{Ends, IsWellLed}
 use Rattle.sc_live_journals.specs.groups.GreatestBallots.{IsTopKept}
 

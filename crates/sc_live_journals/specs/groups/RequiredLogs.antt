@@ -2,10 +2,10 @@
 use Rattle.std.specs.Prelude.{◌≡◌, ℕ, ◌+◌, ◌-◌, ◌^◌, ◌<◌, ◌≤◌, true, List, length, is_some, ◌⊎◌}
 use Rattle.sc_node_table.specs.Values.{Base}
 use Rattle.sc_base.specs.Definitions.{IsRoster, is_member}
-use Rattle.sc_words.specs.paxos.Definitions.{IsAtLeast}
-use Rattle.sc_node_table.specs.Definitions.{is_node, ReplicaState, next, members, first_ballot, slots_ahead}
-use Rattle.sc_live_steps.specs.following.Definitions.{Sets, members_at, SlotLeaders, AreAt}
-use Rattle.sc_live_journals.specs.rows.Definitions.{IsWholeState}
+use Rattle.sc_words.specs.paxos.PaxosDefinitions.{IsAtLeast}
+use Rattle.sc_node_table.specs.NodeDefinitions.{is_node, ReplicaState, next, members, first_ballot, slots_ahead}
+use Rattle.sc_live_steps.specs.following.FollowingDefinitions.{Sets, members_at, SlotLeaders, AreAt}
+use Rattle.sc_live_journals.specs.rows.RowDefinitions.{IsWholeState}
 use Rattle.sc_live_journals.specs.groups.WellLedGroups.{Ends}
 
 -- The replica's state is the log's: its members, those of its open slots, and whether the group is gone.

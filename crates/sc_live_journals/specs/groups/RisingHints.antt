@@ -1,9 +1,9 @@
 -- A replica that has promised the ballot of a leader, and saw no later one, rises to it (`RisesAt`).
 use Rattle.std.specs.Prelude.{◌≡◌, ℕ, true, Some}
 use Rattle.sc_node_table.specs.Values.{Draw}
-use Rattle.sc_words.specs.paxos.Definitions.{IsAtLeast}
-use Rattle.sc_node_table.specs.Definitions.{ReplicaState}
-use Rattle.sc_live_steps.specs.calm.Definitions.{View, RisesAt}
+use Rattle.sc_words.specs.paxos.PaxosDefinitions.{IsAtLeast}
+use Rattle.sc_node_table.specs.NodeDefinitions.{ReplicaState}
+use Rattle.sc_live_steps.specs.calm.CalmDefinitions.{View, RisesAt}
 use Rattle.sc_live_journals.specs.groups.GreatestBallots.{IsTopKept}
 
 -- A replica that takes a leader for the leader, has promised its ballot and saw no later one, has that ballot as the greatest that it saw, and so rises to that leader.

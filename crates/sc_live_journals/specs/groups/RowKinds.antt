@@ -2,11 +2,11 @@
 use Rattle.std.specs.Prelude.{◌≡◌, ℕ, true, false, List, Some, None}
 use Rattle.sc_node_table.specs.Values.{Ballot, Base, OrderLine, Seat, Event}
 use Rattle.sc_actor.specs.Definitions.{mails}
-use Rattle.sc_node_table.specs.Definitions.{ReplicaState, Place, made_by}
-use Rattle.sc_meaning.specs.sound.Definitions.{Player}
-use Rattle.sc_live_steps.specs.calm.Definitions.{Rows}
-use Rattle.sc_live_steps.specs.following.Definitions.{Mark, Installs, Course, Sets, SlotLeaders, IsIdle, Takes, StepsBy}
-use Rattle.sc_live_journals.specs.rows.Definitions.{IsUnmoved, taken_mark, led_course, elected_course, with_event, IsKind, IsReplicasRow, LeavesOrCreates}
+use Rattle.sc_node_table.specs.NodeDefinitions.{ReplicaState, Place, made_by}
+use Rattle.sc_meaning.specs.sound.SoundDefinitions.{Player}
+use Rattle.sc_live_steps.specs.calm.CalmDefinitions.{Rows}
+use Rattle.sc_live_steps.specs.following.FollowingDefinitions.{Mark, Installs, Course, Sets, SlotLeaders, IsIdle, Takes, StepsBy}
+use Rattle.sc_live_journals.specs.rows.RowDefinitions.{IsUnmoved, taken_mark, led_course, elected_course, with_event, IsKind, IsReplicasRow, LeavesOrCreates}
 use Rattle.sc_live_journals.specs.groups.WellLedGroups.{Ends, IsWellLed}
 use Rattle.sc_live_journals.specs.groups.RequiredLogs.{IsLogsState, CountsTo}
 use Rattle.sc_live_journals.specs.groups.WellLedRows.{LeadsWell, ElectsWell}

@@ -3,10 +3,10 @@ use Rattle.std.specs.Prelude.{◌≡◌, ℕ, ◌<◌, ◌≤◌, Bool, false, L
 use Rattle.sc_base.specs.Definitions.{Each}
 use Rattle.sc_node_table.specs.Values.{Command, Base, Node, Seat, Flight}
 use Rattle.sc_actor.specs.Definitions.{value}
-use Rattle.sc_node_table.specs.Definitions.{next_ready, NodeState, born_node, ReplicaState, next, slots_ahead}
-use Rattle.sc_meaning.specs.sound.Definitions.{Player, player_table}
-use Rattle.sc_live_steps.specs.calm.Definitions.{Rows}
-use Rattle.sc_live_steps.specs.following.Definitions.{AreApart}
+use Rattle.sc_node_table.specs.NodeDefinitions.{next_ready, NodeState, born_node, ReplicaState, next, slots_ahead}
+use Rattle.sc_meaning.specs.sound.SoundDefinitions.{Player, player_table}
+use Rattle.sc_live_steps.specs.calm.CalmDefinitions.{Rows}
+use Rattle.sc_live_steps.specs.following.FollowingDefinitions.{AreApart}
 
 -- All flights are at slots from `from` on, at most one at a slot.
 abbrev pub FlyFrom : ℕ → List (Flight Command) → Type 0

@@ -2,13 +2,13 @@
 use Rattle.std.specs.Prelude.{◌≡◌, ℕ, true, List, [], ◌++◌, None}
 use Rattle.sc_base.specs.Definitions.{Among, is_member}
 use Rattle.sc_node_table.specs.Values.{Base, OrderLine, Seat, Event}
-use Rattle.sc_live_orderly.specs.Definitions.{AreInTime}
+use Rattle.sc_live_orderly.specs.OrderlyDefinitions.{AreInTime}
 use Rattle.sc_scenario.specs.scenario.Definitions.{IsBounded}
 use Rattle.sc_scenario.specs.declared.scenario.scenarios.Scenario.{Scenario}
-use Rattle.sc_meaning.specs.sound.Definitions.{Player, births, as_nodes}
-use Rattle.sc_live_steps.specs.calm.Definitions.{players, Rows}
-use Rattle.sc_live_steps.specs.following.Definitions.{Course, Sets, SlotLeaders, AreTaught}
-use Rattle.sc_live_journals.specs.rows.Definitions.{view_at, progress_at, marks_at, with_event}
+use Rattle.sc_meaning.specs.sound.SoundDefinitions.{Player, births, as_nodes}
+use Rattle.sc_live_steps.specs.calm.CalmDefinitions.{players, Rows}
+use Rattle.sc_live_steps.specs.following.FollowingDefinitions.{Course, Sets, SlotLeaders, AreTaught}
+use Rattle.sc_live_journals.specs.rows.RowDefinitions.{view_at, progress_at, marks_at, with_event}
 use Rattle.sc_live_journals.specs.groups.GroupBeginnings.{BeginsSo}
 use Rattle.sc_live_journals.specs.groups.RowKinds.{IsGroupRow}
 use Rattle.sc_live_journals.specs.groups.WellLedGroups.{Ends, IsWellLed}

@@ -2,12 +2,12 @@
 use Rattle.std.specs.Prelude.{◌≡◌, ℕ, ◌≤◌, Bool, true, List, Option, Some, None}
 use Rattle.sc_node_table.specs.Values.{Draw, Base, OrderLine, Mail, Seat}
 use Rattle.sc_actor.specs.Definitions.{System}
-use Rattle.sc_live_orderly.specs.Definitions.{rest}
-use Rattle.sc_node_table.specs.Definitions.{ReplicaState}
-use Rattle.sc_meaning.specs.sound.Definitions.{Player}
-use Rattle.sc_live_steps.specs.calm.Definitions.{players, Rows}
-use Rattle.sc_live_steps.specs.following.Definitions.{Dated, dated_of, IsAskedLow, Course, Sets, SlotLeaders, IsHeeding, IsOrderly, IsOwnFirst}
-use Rattle.sc_live_journals.specs.rows.Definitions.{view_at, progress_at, marks_at, begun_course, IsFollowedAt}
+use Rattle.sc_live_orderly.specs.OrderlyDefinitions.{rest}
+use Rattle.sc_node_table.specs.NodeDefinitions.{ReplicaState}
+use Rattle.sc_meaning.specs.sound.SoundDefinitions.{Player}
+use Rattle.sc_live_steps.specs.calm.CalmDefinitions.{players, Rows}
+use Rattle.sc_live_steps.specs.following.FollowingDefinitions.{Dated, dated_of, IsAskedLow, Course, Sets, SlotLeaders, IsHeeding, IsOrderly, IsOwnFirst}
+use Rattle.sc_live_journals.specs.rows.RowDefinitions.{view_at, progress_at, marks_at, begun_course, IsFollowedAt}
 
 -- Whom a replica takes for the leader; where there is no replica yet, the group's first leader.
 abbrev pub hint_in : Base → Option ReplicaState → Option ℕ

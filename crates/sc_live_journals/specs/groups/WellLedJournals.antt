@@ -3,16 +3,16 @@ use Rattle.std.specs.Prelude.{◌≡◌, ℕ, ◌+◌, ◌<◌, ◌≤◌, true,
 use Rattle.sc_base.specs.Definitions.{Among, Each, is_member}
 use Rattle.sc_node_table.specs.Values.{Ballot, Draw, Command, Base, OrderLine, Mail, Promise, Accepted, Nack, Learn, Ask, Install, Node, Client, Seat, Event, Deliver, Report}
 use Rattle.sc_actor.specs.Definitions.{mails, numbered, value}
-use Rattle.sc_live_orderly.specs.Definitions.{IsCalmEvent, AreInTime}
-use Rattle.sc_client_table.specs.table.Definitions.{Client as ClientState}
+use Rattle.sc_live_orderly.specs.OrderlyDefinitions.{IsCalmEvent, AreInTime}
+use Rattle.sc_client_table.specs.table.TableDefinitions.{Client as ClientState}
 use Rattle.sc_scenario.specs.scenario.Definitions.{IsBounded}
 use Rattle.sc_scenario.specs.declared.scenario.scenarios.Scenario.{Scenario}
-use Rattle.sc_node_table.specs.Definitions.{entered, NodeState, replica_of, group_of_mail, may_come, ReplicaState, next, last_slot, mailed, slots_ahead}
-use Rattle.sc_law_walks.specs.Definitions.{GoesOn}
-use Rattle.sc_meaning.specs.sound.Definitions.{Player, player_table, births, as_nodes}
-use Rattle.sc_live_steps.specs.calm.Definitions.{players, Rows}
-use Rattle.sc_live_steps.specs.following.Definitions.{mark_of, Course, Sets, SlotLeaders, DecidesNext}
-use Rattle.sc_live_journals.specs.rows.Definitions.{view_at, PlaysAlone, IsSeat, with_event, made_children, AreAsBegun, IsWellKeptNode}
+use Rattle.sc_node_table.specs.NodeDefinitions.{entered, NodeState, replica_of, group_of_mail, may_come, ReplicaState, next, last_slot, mailed, slots_ahead}
+use Rattle.sc_law_walks.specs.WalkDefinitions.{GoesOn}
+use Rattle.sc_meaning.specs.sound.SoundDefinitions.{Player, player_table, births, as_nodes}
+use Rattle.sc_live_steps.specs.calm.CalmDefinitions.{players, Rows}
+use Rattle.sc_live_steps.specs.following.FollowingDefinitions.{mark_of, Course, Sets, SlotLeaders, DecidesNext}
+use Rattle.sc_live_journals.specs.rows.RowDefinitions.{view_at, PlaysAlone, IsSeat, with_event, made_children, AreAsBegun, IsWellKeptNode}
 use Rattle.sc_live_journals.specs.groups.RowKinds.{IsLedStep}
 use Rattle.sc_live_journals.specs.groups.WellLedGroups.{Ends, IsWellLed, IsLedOn}
 use Rattle.sc_live_journals.specs.groups.RequiredLogs.{IsOfLog, HasRounds, IsLogsState, RestsBy, CountsAsMember, IsLogOf}

@@ -3,12 +3,12 @@ use Rattle.std.specs.Prelude.{◌≡◌, ℕ, suc, ◌≤◌, true, List, Some, 
 use Rattle.sc_base.specs.Definitions.{Each, IsRoster}
 use Rattle.sc_node_table.specs.Values.{Ballot, Draw, Base, OrderLine, Mail, Install, Seat, Event}
 use Rattle.sc_actor.specs.Definitions.{mails}
-use Rattle.sc_live_orderly.specs.Definitions.{AreInTime}
-use Rattle.sc_node_table.specs.Definitions.{ReplicaState, Place, next}
-use Rattle.sc_meaning.specs.sound.Definitions.{Player}
-use Rattle.sc_live_steps.specs.calm.Definitions.{players, Rows}
-use Rattle.sc_live_steps.specs.following.Definitions.{dated_for, AsksLow, Teaches, Course, Sets, SlotLeaders, GoesBy, LeavesLast, IsLeadOf, IsOrderly, CountsOwn, IsIdle, Takes, Elects}
-use Rattle.sc_live_journals.specs.rows.Definitions.{view_at, progress_at, taken_mark, LeavesLead, led_course, elected_course, LedBy, with_event, IsKind, IsReplicasRow}
+use Rattle.sc_live_orderly.specs.OrderlyDefinitions.{AreInTime}
+use Rattle.sc_node_table.specs.NodeDefinitions.{ReplicaState, Place, next}
+use Rattle.sc_meaning.specs.sound.SoundDefinitions.{Player}
+use Rattle.sc_live_steps.specs.calm.CalmDefinitions.{players, Rows}
+use Rattle.sc_live_steps.specs.following.FollowingDefinitions.{dated_for, AsksLow, Teaches, Course, Sets, SlotLeaders, GoesBy, LeavesLast, IsLeadOf, IsOrderly, CountsOwn, IsIdle, Takes, Elects}
+use Rattle.sc_live_journals.specs.rows.RowDefinitions.{view_at, progress_at, taken_mark, LeavesLead, led_course, elected_course, LedBy, with_event, IsKind, IsReplicasRow}
 use Rattle.sc_live_journals.specs.groups.WellLedGroups.{Ends, hints_at, IsWellLed}
 
 -- The group is well led after these rows, one to nine nodes decide each slot, and one more event comes in time.

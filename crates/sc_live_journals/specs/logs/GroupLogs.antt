@@ -3,14 +3,14 @@ use Rattle.std.specs.Prelude.{◌≡◌, ℕ, ◌+◌, ◌<◌, true, List, ◌+
 use Rattle.sc_base.specs.Definitions.{Among, IsRoster}
 use Rattle.sc_node_table.specs.Values.{Ballot, Command, Base, Mail, Accepted, Learn, Install, Node, Seat}
 use Rattle.sc_actor.specs.Definitions.{mails, numbered, value}
-use Rattle.sc_paxos_law.specs.Definitions.{members_of}
+use Rattle.sc_paxos_law.specs.PaxosLawDefinitions.{members_of}
 use Rattle.sc_scenario.specs.scenario.Definitions.{IsValid}
 use Rattle.sc_scenario.specs.declared.scenario.scenarios.Scenario.{Scenario}
-use Rattle.sc_node_table.specs.Definitions.{entered, NodeState, replica_of, ReplicaState, name_of, next, members, first_ballot, slots_ahead}
-use Rattle.sc_meaning.specs.sound.Definitions.{groups_at, rule_of, decided_log, Ahead, Player, Lawful, births, player_table}
-use Rattle.sc_law_entries.specs.logs.Definitions.{Rows}
-use Rattle.sc_live_steps.specs.following.Definitions.{IsNext, AreNext, Sets, members_at, DecidesNext, AreAt}
-use Rattle.sc_live_journals.specs.rows.Definitions.{view_at, IsSeat}
+use Rattle.sc_node_table.specs.NodeDefinitions.{entered, NodeState, replica_of, ReplicaState, name_of, next, members, first_ballot, slots_ahead}
+use Rattle.sc_meaning.specs.sound.SoundDefinitions.{groups_at, rule_of, decided_log, Ahead, Player, Lawful, births, player_table}
+use Rattle.sc_law_entries.specs.logs.LogDefinitions.{Rows}
+use Rattle.sc_live_steps.specs.following.FollowingDefinitions.{IsNext, AreNext, Sets, members_at, DecidesNext, AreAt}
+use Rattle.sc_live_journals.specs.rows.RowDefinitions.{view_at, IsSeat}
 
 -- The members of each slot by the group's log in a journal. The state after the first `max(0, slot - ahead)` entries gives those of a slot; behind the log's end it is the last state.
 abbrev pub logged_sets : Ahead → Base → Rows → Sets

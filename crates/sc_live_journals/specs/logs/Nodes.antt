@@ -3,9 +3,9 @@ use Rattle.std.specs.Prelude.{◌≡◌, ℕ, true, List}
 use Rattle.sc_base.specs.Definitions.{Each, is_member}
 use Rattle.sc_node_table.specs.Values.{Command, Noop, Call, Join, Leave, Split, Begin, Prepared, RecordVote, GiveUp, Finish, Watched, RecordWatch, Core, Lock, Free, Coordinating, Promised, Watching, Heard, Outcome, Abort, Merged, Moved, Migrated, Divided, Vote, Yes, MailBody, TxVote, TxOutcome, Base, Draw}
 use Rattle.sc_words.specs.declared.commands.votes.Vote.TheVariants.{No}
-use Rattle.sc_node_table.specs.Definitions.{is_node}
-use Rattle.sc_meaning.specs.sound.Definitions.{decided_log, Ahead}
-use Rattle.sc_law_entries.specs.logs.Definitions.{Rows}
+use Rattle.sc_node_table.specs.NodeDefinitions.{is_node}
+use Rattle.sc_meaning.specs.sound.SoundDefinitions.{decided_log, Ahead}
+use Rattle.sc_law_entries.specs.logs.LogDefinitions.{Rows}
 use Rattle.sc_scenario.specs.declared.scenario.scenarios.Scenario.{Scenario}
 use Rattle.sc_live_journals.specs.logs.GroupLogs.{logged_sets, IsGroupOf}
 use Rattle.std.specs.Prelude.{Option, Some, None}

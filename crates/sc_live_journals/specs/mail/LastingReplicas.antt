@@ -1,13 +1,13 @@
 -- A node that has a replica of a group keeps one, whose greatest ballot and next slot never fall.
 use Rattle.std.specs.Prelude.{◌≡◌, ℕ, ◌≤◌, ◌++◌, Option, Some}
 use Rattle.sc_node_table.specs.Values.{Draw}
-use Rattle.sc_live_orderly.specs.Definitions.{AreInTime}
-use Rattle.sc_words.specs.paxos.Definitions.{IsAtLeast}
+use Rattle.sc_live_orderly.specs.OrderlyDefinitions.{AreInTime}
+use Rattle.sc_words.specs.paxos.PaxosDefinitions.{IsAtLeast}
 use Rattle.sc_scenario.specs.declared.scenario.scenarios.Scenario.{Scenario}
-use Rattle.sc_node_table.specs.Definitions.{ReplicaState, next}
-use Rattle.sc_meaning.specs.sound.Definitions.{births, as_nodes}
-use Rattle.sc_live_steps.specs.calm.Definitions.{players, Rows}
-use Rattle.sc_live_journals.specs.rows.Definitions.{view_at}
+use Rattle.sc_node_table.specs.NodeDefinitions.{ReplicaState, next}
+use Rattle.sc_meaning.specs.sound.SoundDefinitions.{births, as_nodes}
+use Rattle.sc_live_steps.specs.calm.CalmDefinitions.{players, Rows}
+use Rattle.sc_live_journals.specs.rows.RowDefinitions.{view_at}
 
 -- The later replica has seen no lower ballot, and has executed no fewer entries.
 abbrev pub HasGrown : ReplicaState → ReplicaState → Type 0

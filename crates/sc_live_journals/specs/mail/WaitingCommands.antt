@@ -2,14 +2,14 @@
 use Rattle.std.specs.Prelude.{◌≡◌, ℕ, false, [], length, Some}
 use Rattle.sc_base.specs.Definitions.{Each}
 use Rattle.sc_node_table.specs.Values.{Command, Draw}
-use Rattle.sc_live_orderly.specs.Definitions.{AreInTime}
+use Rattle.sc_live_orderly.specs.OrderlyDefinitions.{AreInTime}
 use Rattle.sc_scenario.specs.declared.scenario.scenarios.Scenario.{Scenario}
-use Rattle.sc_node_table.specs.Definitions.{ReplicaState, slots_ahead}
-use Rattle.sc_meaning.specs.sound.Definitions.{births, as_nodes}
-use Rattle.sc_live_steps.specs.calm.Definitions.{players, Rows}
-use Rattle.sc_live_steps.specs.orders.Definitions.{Work, work_by}
-use Rattle.sc_live_journals.specs.rows.Definitions.{view_at}
-use Rattle.sc_law_walks.specs.Definitions.{IsFiled, IsAsked}
+use Rattle.sc_node_table.specs.NodeDefinitions.{ReplicaState, slots_ahead}
+use Rattle.sc_meaning.specs.sound.SoundDefinitions.{births, as_nodes}
+use Rattle.sc_live_steps.specs.calm.CalmDefinitions.{players, Rows}
+use Rattle.sc_live_steps.specs.orders.OrderDefinitions.{Work, work_by}
+use Rattle.sc_live_journals.specs.rows.RowDefinitions.{view_at}
+use Rattle.sc_law_walks.specs.WalkDefinitions.{IsFiled, IsAsked}
 
 -- Where the replica does not lead, nothing is in flight or queued. It has waited for no tick. One queue has commands of transactions alone, the other calls and orders.
 abbrev pub IsIdlyKept : ReplicaState → Type 0

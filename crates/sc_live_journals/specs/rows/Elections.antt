@@ -2,11 +2,11 @@
 use Rattle.std.specs.Prelude.{◌≡◌, ℕ, suc, ◌≤◌, true, false, List, [], length}
 use Rattle.sc_node_table.specs.Values.{Command, Base, Mail, Learn, Seat}
 use Rattle.sc_base.specs.Definitions.{is_member}
-use Rattle.sc_words.specs.paxos.Definitions.{below}
-use Rattle.sc_node_table.specs.Definitions.{entered, NodeState, is_node, ReplicaState, name_of, next, members, last_slot, mailed, slots_ahead}
-use Rattle.sc_meaning.specs.sound.Definitions.{Player}
-use Rattle.sc_live_steps.specs.calm.Definitions.{Rows}
-use Rattle.sc_live_steps.specs.following.Definitions.{Course, Sets, members_at, AreAt, MayElect, next_ballot}
+use Rattle.sc_words.specs.paxos.PaxosDefinitions.{below}
+use Rattle.sc_node_table.specs.NodeDefinitions.{entered, NodeState, is_node, ReplicaState, name_of, next, members, last_slot, mailed, slots_ahead}
+use Rattle.sc_meaning.specs.sound.SoundDefinitions.{Player}
+use Rattle.sc_live_steps.specs.calm.CalmDefinitions.{Rows}
+use Rattle.sc_live_steps.specs.following.FollowingDefinitions.{Course, Sets, members_at, AreAt, MayElect, next_ballot}
 use Rattle.sc_live_journals.specs.rows.MailRows.{IsScene, TakesMail, HoldsReplica, FollowsAfter}
 use Rattle.sc_live_journals.specs.rows.ReplicaSteps.{elected_course}
 

@@ -3,11 +3,11 @@ use Rattle.std.specs.Prelude.{◌≡◌, ℕ, true, false, List, [], Some}
 use Rattle.sc_node_table.specs.Values.{Base, Seat}
 use Rattle.sc_base.specs.Definitions.{IsRoster}
 use Rattle.sc_actor.specs.Definitions.{is_quiet}
-use Rattle.sc_live_orderly.specs.Definitions.{is_born, AreInTime}
-use Rattle.sc_node_table.specs.Definitions.{ReplicaState}
-use Rattle.sc_meaning.specs.sound.Definitions.{Player}
-use Rattle.sc_live_steps.specs.calm.Definitions.{players, Rows}
-use Rattle.sc_live_steps.specs.following.Definitions.{Course, Sets, IsEven, IsEvenLed, IsLeadOf}
+use Rattle.sc_live_orderly.specs.OrderlyDefinitions.{is_born, AreInTime}
+use Rattle.sc_node_table.specs.NodeDefinitions.{ReplicaState}
+use Rattle.sc_meaning.specs.sound.SoundDefinitions.{Player}
+use Rattle.sc_live_steps.specs.calm.CalmDefinitions.{players, Rows}
+use Rattle.sc_live_steps.specs.following.FollowingDefinitions.{Course, Sets, IsEven, IsEvenLed, IsLeadOf}
 use Rattle.sc_live_journals.specs.rows.Groups.{view_at, progress_at, marks_at, IsFollowedAt}
 
 -- All members of the group have executed all entries. If the group stands, the replica at the node of its ballot leads, no other does,

@@ -1,10 +1,10 @@
 -- A group follows its leader through a journal, if each row keeps that.
 use Rattle.std.specs.Prelude.{◌≡◌, ℕ, List, [], ◌++◌}
 use Rattle.sc_node_table.specs.Values.{Base, OrderLine, Seat, Event}
-use Rattle.sc_live_orderly.specs.Definitions.{IsCalmEvent, AreInTime}
-use Rattle.sc_meaning.specs.sound.Definitions.{Player}
-use Rattle.sc_live_steps.specs.calm.Definitions.{players, Rows}
-use Rattle.sc_live_steps.specs.following.Definitions.{Course, Sets}
+use Rattle.sc_live_orderly.specs.OrderlyDefinitions.{IsCalmEvent, AreInTime}
+use Rattle.sc_meaning.specs.sound.SoundDefinitions.{Player}
+use Rattle.sc_live_steps.specs.calm.CalmDefinitions.{players, Rows}
+use Rattle.sc_live_steps.specs.following.FollowingDefinitions.{Course, Sets}
 use Rattle.sc_live_journals.specs.rows.Groups.{IsFollowedAt, FollowsOn}
 use Rattle.sc_live_journals.specs.rows.PlayerRows.{IsSeat, with_event}
 

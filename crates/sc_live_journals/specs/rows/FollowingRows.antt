@@ -2,12 +2,12 @@
 use Rattle.std.specs.Prelude.{◌≡◌, ℕ, ◌+◌, ◌<◌, true, false, List, [], Some, None}
 use Rattle.sc_node_table.specs.Values.{Command, Ballot, Base, OrderLine, Prepare, Accept, Seat, Event}
 use Rattle.sc_base.specs.Definitions.{IsRoster, is_member}
-use Rattle.sc_live_orderly.specs.Definitions.{AreInTime}
-use Rattle.sc_node_table.specs.Definitions.{ReplicaState, Place, name_of, born_replica, mailed, slots_ahead}
-use Rattle.sc_law_walks.specs.Definitions.{GoesOn}
-use Rattle.sc_meaning.specs.sound.Definitions.{Player}
-use Rattle.sc_live_steps.specs.calm.Definitions.{players, Rows}
-use Rattle.sc_live_steps.specs.following.Definitions.{Course, Sets, IsLeadOf, IsIdle, Takes, Elects}
+use Rattle.sc_live_orderly.specs.OrderlyDefinitions.{AreInTime}
+use Rattle.sc_node_table.specs.NodeDefinitions.{ReplicaState, Place, name_of, born_replica, mailed, slots_ahead}
+use Rattle.sc_law_walks.specs.WalkDefinitions.{GoesOn}
+use Rattle.sc_meaning.specs.sound.SoundDefinitions.{Player}
+use Rattle.sc_live_steps.specs.calm.CalmDefinitions.{players, Rows}
+use Rattle.sc_live_steps.specs.following.FollowingDefinitions.{Course, Sets, IsLeadOf, IsIdle, Takes, Elects}
 use Rattle.sc_live_journals.specs.rows.Groups.{view_at, progress_at, begun_course, IsLedBy, IsFollowedAt}
 use Rattle.sc_live_journals.specs.rows.ReplicaSteps.{led_course, elected_course, LedBy}
 use Rattle.sc_live_journals.specs.rows.PlayerRows.{with_event, IsKind, LeavesAlone, LeavesOrCreates, IsReplicasRow}

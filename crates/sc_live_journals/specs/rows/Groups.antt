@@ -4,11 +4,11 @@ use Rattle.sc_node_table.specs.Values.{Ballot, Draw, Base, OrderLine, Mail, Node
 use Rattle.sc_base.specs.Definitions.{is_member}
 use Rattle.sc_actor.specs.declared.rows.Event.TheVariants.{Told}
 use Rattle.sc_actor.specs.Definitions.{numbered, value, System}
-use Rattle.sc_live_orderly.specs.Definitions.{rest}
-use Rattle.sc_node_table.specs.Definitions.{replica_of, ReplicaState, next, first_ballot}
-use Rattle.sc_meaning.specs.sound.Definitions.{Player, player_table}
-use Rattle.sc_live_steps.specs.calm.Definitions.{players, View, Rows}
-use Rattle.sc_live_steps.specs.following.Definitions.{Mark, mark_of, marks_of, Course, Progress, Sets, IsFollowing, IsLeadOf, begun}
+use Rattle.sc_live_orderly.specs.OrderlyDefinitions.{rest}
+use Rattle.sc_node_table.specs.NodeDefinitions.{replica_of, ReplicaState, next, first_ballot}
+use Rattle.sc_meaning.specs.sound.SoundDefinitions.{Player, player_table}
+use Rattle.sc_live_steps.specs.calm.CalmDefinitions.{players, View, Rows}
+use Rattle.sc_live_steps.specs.following.FollowingDefinitions.{Mark, mark_of, marks_of, Course, Progress, Sets, IsFollowing, IsLeadOf, begun}
 
 -- The replicas of a player; a client has none.
 abbrev pub replicas_of : Player → List ReplicaState

@@ -4,11 +4,11 @@ use Rattle.sc_node_table.specs.Values.{Ballot, Command, Base, OrderLine, Mail, P
 use Rattle.sc_base.specs.Definitions.{IsRoster, is_member}
 use Rattle.sc_actor.specs.declared.rows.Event.TheVariants.{Told}
 use Rattle.sc_actor.specs.Definitions.{mails, numbered, value}
-use Rattle.sc_live_orderly.specs.Definitions.{AreInTime}
-use Rattle.sc_node_table.specs.Definitions.{entered, NodeState, replica_of, group_of_mail, may_come, group_of_order, ReplicaState, first_ballot, last_slot, mailed}
-use Rattle.sc_meaning.specs.sound.Definitions.{Player, player_table}
-use Rattle.sc_live_steps.specs.calm.Definitions.{players, Rows}
-use Rattle.sc_live_steps.specs.following.Definitions.{Course, Sets, StopsAlone, IsAside, DecidesNext, Stays}
+use Rattle.sc_live_orderly.specs.OrderlyDefinitions.{AreInTime}
+use Rattle.sc_node_table.specs.NodeDefinitions.{entered, NodeState, replica_of, group_of_mail, may_come, group_of_order, ReplicaState, first_ballot, last_slot, mailed}
+use Rattle.sc_meaning.specs.sound.SoundDefinitions.{Player, player_table}
+use Rattle.sc_live_steps.specs.calm.CalmDefinitions.{players, Rows}
+use Rattle.sc_live_steps.specs.following.FollowingDefinitions.{Course, Sets, StopsAlone, IsAside, DecidesNext, Stays}
 use Rattle.sc_live_journals.specs.rows.Groups.{IsFollowedAt, FollowsOn}
 use Rattle.sc_live_journals.specs.rows.ReplicaSteps.{WaitsStill}
 use Rattle.sc_live_journals.specs.rows.ReplicaInvariant.{IsWellKept}

@@ -2,8 +2,8 @@
 use Rattle.std.specs.Prelude.{◌≡◌, ℕ, false, []}
 use Rattle.sc_base.specs.Definitions.{Drawer}
 use Rattle.sc_node_table.specs.Values.{Draw, OrderLine, MailBody}
-use Rattle.sc_node_table.specs.Definitions.{ordered_row, ReplicaState, Place, next, mailed}
-use Rattle.sc_live_steps.specs.following.Definitions.{IsAside, marks_for}
+use Rattle.sc_node_table.specs.NodeDefinitions.{ordered_row, ReplicaState, Place, next, mailed}
+use Rattle.sc_live_steps.specs.following.FollowingDefinitions.{IsAside, marks_for}
 
 -- The replica stays where it is, does not lead, takes the same node for the leader, and sends no Paxos mail of the group.
 pub record IsUnmoved (name : Draw) (r : ReplicaState) (after : Place) : Type 0 where

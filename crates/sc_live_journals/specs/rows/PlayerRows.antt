@@ -4,12 +4,12 @@ use Rattle.sc_base.specs.Definitions.{Each, Drawer, is_member}
 use Rattle.sc_node_table.specs.Values.{Draw, Base, OrderLine, Mail, MailBody, Install, Node, Client, Seat, Event, Deliver, Go, Input, Row}
 use Rattle.sc_actor.specs.declared.rows.Event.TheVariants.{Told}
 use Rattle.sc_actor.specs.Definitions.{mails, numbered, value, row_of}
-use Rattle.sc_live_orderly.specs.Definitions.{AreInTime}
-use Rattle.sc_client_table.specs.table.Definitions.{Client as ClientState, table}
-use Rattle.sc_node_table.specs.Definitions.{NodeState, replica_of, group_of_mail, may_come, absent, group_of_order, ordered_row, ReplicaState, Place, name_of, last_slot, born_replica, mailed, made_by, slots_ahead}
-use Rattle.sc_meaning.specs.sound.Definitions.{Player, player_table}
-use Rattle.sc_live_steps.specs.calm.Definitions.{players, Rows}
-use Rattle.sc_live_steps.specs.following.Definitions.{Mark, mark_of, Course, Progress, IsRow, IsIdle, marks_for}
+use Rattle.sc_live_orderly.specs.OrderlyDefinitions.{AreInTime}
+use Rattle.sc_client_table.specs.table.TableDefinitions.{Client as ClientState, table}
+use Rattle.sc_node_table.specs.NodeDefinitions.{NodeState, replica_of, group_of_mail, may_come, absent, group_of_order, ordered_row, ReplicaState, Place, name_of, last_slot, born_replica, mailed, made_by, slots_ahead}
+use Rattle.sc_meaning.specs.sound.SoundDefinitions.{Player, player_table}
+use Rattle.sc_live_steps.specs.calm.CalmDefinitions.{players, Rows}
+use Rattle.sc_live_steps.specs.following.FollowingDefinitions.{Mark, mark_of, Course, Progress, IsRow, IsIdle, marks_for}
 use Rattle.sc_live_journals.specs.rows.Groups.{view_at, progress_at, marks_at, taken_mark}
 
 -- Each row in time is a row of each group, whatever its course: the mark of the mail delivered is the first of its receiver's,

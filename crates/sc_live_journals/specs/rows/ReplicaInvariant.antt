@@ -3,10 +3,10 @@ use Rattle.std.specs.Prelude.{◌≡◌, ℕ, ◌<◌, Bool, false, List, [], le
 use Rattle.sc_base.specs.Definitions.{Each}
 use Rattle.sc_node_table.specs.Values.{Base, Node, Seat}
 use Rattle.sc_actor.specs.Definitions.{value}
-use Rattle.sc_node_table.specs.Definitions.{NodeState, born_node, ReplicaState, next, slots_ahead}
-use Rattle.sc_meaning.specs.sound.Definitions.{Player, player_table}
-use Rattle.sc_live_steps.specs.calm.Definitions.{Rows}
-use Rattle.sc_law_walks.specs.Definitions.{IsFiled, IsAsked}
+use Rattle.sc_node_table.specs.NodeDefinitions.{NodeState, born_node, ReplicaState, next, slots_ahead}
+use Rattle.sc_meaning.specs.sound.SoundDefinitions.{Player, player_table}
+use Rattle.sc_live_steps.specs.calm.CalmDefinitions.{Rows}
+use Rattle.sc_law_walks.specs.WalkDefinitions.{IsFiled, IsAsked}
 
 -- The replica is its node's, has the members of as many slots as are open, and its acceptor has forgotten nothing from its next slot on.
 -- Where it does not lead, nothing is in flight, ready or queued. One queue has commands of transactions alone, the other requests and orders.

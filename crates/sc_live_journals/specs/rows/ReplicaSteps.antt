@@ -3,11 +3,11 @@ use Rattle.std.specs.Prelude.{◌≡◌, ℕ, suc, ◌<◌, true, false, List, [
 use Rattle.sc_node_table.specs.Values.{Ballot, Base, OrderLine, Promise, Accepted, Seat, Event, Command, Report}
 use Rattle.sc_base.specs.Definitions.{is_member, least_of}
 use Rattle.sc_actor.specs.Definitions.{mails}
-use Rattle.sc_words.specs.paxos.Definitions.{below}
-use Rattle.sc_node_table.specs.Definitions.{is_node, ReplicaState, Place, name_of, next, first_ballot, mailed, made_by, slots_ahead, leads}
-use Rattle.sc_meaning.specs.sound.Definitions.{Player}
-use Rattle.sc_live_steps.specs.calm.Definitions.{Rows}
-use Rattle.sc_live_steps.specs.following.Definitions.{Mark, Votes, Teaches, Installs, Promises, Course, Sets, members_at, voters_of, IsLeadOf, LeadsInto, AreAt, IsCount, IsIdle, Takes, Leads, Elects, marks_for, StepsBy, ElectsBy, next_ballot}
+use Rattle.sc_words.specs.paxos.PaxosDefinitions.{below}
+use Rattle.sc_node_table.specs.NodeDefinitions.{is_node, ReplicaState, Place, name_of, next, first_ballot, mailed, made_by, slots_ahead, leads}
+use Rattle.sc_meaning.specs.sound.SoundDefinitions.{Player}
+use Rattle.sc_live_steps.specs.calm.CalmDefinitions.{Rows}
+use Rattle.sc_live_steps.specs.following.FollowingDefinitions.{Mark, Votes, Teaches, Installs, Promises, Course, Sets, members_at, voters_of, IsLeadOf, LeadsInto, AreAt, IsCount, IsIdle, Takes, Leads, Elects, marks_for, StepsBy, ElectsBy, next_ballot}
 use Rattle.sc_live_journals.specs.rows.Groups.{progress_at, taken_mark}
 use Rattle.sc_live_journals.specs.rows.PlayerRows.{with_event, IsKind, IsReplicasRow}
 

@@ -2,11 +2,11 @@
 use Rattle.std.specs.Prelude.{◌≡◌, ℕ, true, List, Some}
 use Rattle.sc_node_table.specs.Values.{Draw, Base, OrderLine, Mail, Install, Seat, Event, Deliver}
 use Rattle.sc_base.specs.Definitions.{is_member}
-use Rattle.sc_node_table.specs.Definitions.{ReplicaState}
-use Rattle.sc_meaning.specs.sound.Definitions.{Player}
-use Rattle.sc_live_steps.specs.calm.Definitions.{Rows}
-use Rattle.sc_live_steps.specs.orders.Definitions.{Bond}
-use Rattle.sc_live_journals.specs.rows.Definitions.{view_at, with_event, IsWholeState}
+use Rattle.sc_node_table.specs.NodeDefinitions.{ReplicaState}
+use Rattle.sc_meaning.specs.sound.SoundDefinitions.{Player}
+use Rattle.sc_live_steps.specs.calm.CalmDefinitions.{Rows}
+use Rattle.sc_live_steps.specs.orders.OrderDefinitions.{Bond}
+use Rattle.sc_live_journals.specs.rows.RowDefinitions.{view_at, with_event, IsWholeState}
 use Rattle.sc_live_journals.specs.scenes.SceneRows.{NewestAreBound, LeadsAlone, NoneRuns}
 use Rattle.sc_live_journals.specs.scenes.OrderRows.{KeepsStage, ComesToNone}
 

@@ -1,16 +1,16 @@
 -- What each entry of an order leaves at the group that executes it, by the group's own table.
 use Rattle.std.specs.Prelude.{◌≡◌, ℕ, true, false, List, [], ◌∷◌, Option, Some, None, is_none}
 use Rattle.sc_node_table.specs.Values.{Draw, Body, Offer, Watch, Command, Join, Leave, Split, Begin, Prepared, RecordVote, Finish, Watched, RecordWatch, Free, Frozen, No, Outcome, Mail, Seat, Deliver}
-use Rattle.sc_words.specs.commands.Definitions.{is_alone, is_changed, decided_in}
+use Rattle.sc_words.specs.commands.CommandDefinitions.{is_alone, is_changed, decided_in}
 use Rattle.sc_words.specs.declared.commands.votes.Past.TheVariants as Cast
 use Rattle.sc_words.specs.declared.commands.votes.Vote.TheVariants as Says
-use Rattle.sc_group_table.specs.machine.Definitions.{applied, has_voted, vote_of, watch_vote_of}
+use Rattle.sc_group_table.specs.machine.MachineDefinitions.{applied, has_voted, vote_of, watch_vote_of}
 use Rattle.sc_base.specs.Definitions.{least_of}
-use Rattle.sc_node_table.specs.Definitions.{ReplicaState, name_of, mailed, before_of}
-use Rattle.sc_meaning.specs.sound.Definitions.{Player}
-use Rattle.sc_live_steps.specs.calm.Definitions.{Rows}
-use Rattle.sc_live_steps.specs.orders.Definitions.{Turn, First, Lone, Next, is_watch, Bond, Unbound, Asking, Bound, Errand, Question, Reply, Work, Changes, Opens, Answers, Records, Ends, bound_by, results, bond_of, IsBegun}
-use Rattle.sc_live_journals.specs.rows.Definitions.{with_event}
+use Rattle.sc_node_table.specs.NodeDefinitions.{ReplicaState, name_of, mailed, before_of}
+use Rattle.sc_meaning.specs.sound.SoundDefinitions.{Player}
+use Rattle.sc_live_steps.specs.calm.CalmDefinitions.{Rows}
+use Rattle.sc_live_steps.specs.orders.OrderDefinitions.{Turn, First, Lone, Next, is_watch, Bond, Unbound, Asking, Bound, Errand, Question, Reply, Work, Changes, Opens, Answers, Records, Ends, bound_by, results, bond_of, IsBegun}
+use Rattle.sc_live_journals.specs.rows.RowDefinitions.{with_event}
 use Rattle.sc_live_journals.specs.scenes.SceneRows.{NewestAreBound}
 use Rattle.sc_live_journals.specs.scenes.VotesAndOrders.{IsEntry}
 

@@ -4,12 +4,12 @@ use Rattle.std.specs.Option.{option_map}
 use Rattle.sc_node_table.specs.Values.{Draw, OrderLine, Mail, Seat, Event, Deliver, Tick, Go, Crash, Drop, Again}
 use Rattle.sc_actor.specs.declared.rows.Event.TheVariants.{Told}
 use Rattle.sc_actor.specs.Definitions.{mails, copies, numbered, numbers_of}
-use Rattle.sc_live_orderly.specs.Definitions.{mail_with}
-use Rattle.sc_node_table.specs.Definitions.{ReplicaState, next}
-use Rattle.sc_meaning.specs.sound.Definitions.{Player}
-use Rattle.sc_live_steps.specs.calm.Definitions.{Rows}
-use Rattle.sc_live_steps.specs.orders.Definitions.{Bond, Unbound, Errand, Work, Here, Scene, bond_of, works, errand_by, errands_for}
-use Rattle.sc_live_journals.specs.rows.Definitions.{view_at}
+use Rattle.sc_live_orderly.specs.OrderlyDefinitions.{mail_with}
+use Rattle.sc_node_table.specs.NodeDefinitions.{ReplicaState, next}
+use Rattle.sc_meaning.specs.sound.SoundDefinitions.{Player}
+use Rattle.sc_live_steps.specs.calm.CalmDefinitions.{Rows}
+use Rattle.sc_live_steps.specs.orders.OrderDefinitions.{Bond, Unbound, Errand, Work, Here, Scene, bond_of, works, errand_by, errands_for}
+use Rattle.sc_live_journals.specs.rows.RowDefinitions.{view_at}
 
 -- Whether there is a replica and it leads.
 abbrev pub is_running : Option ReplicaState → Bool

@@ -2,14 +2,14 @@
 use Rattle.std.specs.Prelude.{◌≡◌, ℕ, true, false, List, [], Option, Some, None, ◌⊎◌}
 use Rattle.sc_base.specs.Definitions.{Each}
 use Rattle.sc_node_table.specs.Values.{Ballot, Draw, Offer, Watch, Command, Base, OrderLine, Outcome, Past, Vote, Mail, Accept, Prepare, Promise, Nack, Learn, Install, TxPrepare, TxVote, TxOutcome, TxElsewhere, TxWatch, TxWatched, Seat, Event, Deliver, Tick, Go, Crash, Drop, Again}
-use Rattle.sc_law_walks.specs.Definitions.{GoesOn}
+use Rattle.sc_law_walks.specs.WalkDefinitions.{GoesOn}
 use Rattle.sc_actor.specs.declared.rows.Event.TheVariants.{Told}
 use Rattle.sc_actor.specs.Definitions.{mails, numbered}
-use Rattle.sc_node_table.specs.Definitions.{NodeState, replica_of, group_of_mail, group_of_order, ReplicaState, Place, settled, listed, mailed, standing_vote, noted_outcome}
-use Rattle.sc_meaning.specs.sound.Definitions.{Player}
-use Rattle.sc_live_steps.specs.calm.Definitions.{Rows}
-use Rattle.sc_live_steps.specs.orders.Definitions.{Turn, is_watch, Asking, Bound, Work, Stage, Still, IsAt, IsUnderWay, IsStepOf, bond_of, works, IsIdle, IsUnbound, MayFile}
-use Rattle.sc_live_journals.specs.rows.Definitions.{with_event}
+use Rattle.sc_node_table.specs.NodeDefinitions.{NodeState, replica_of, group_of_mail, group_of_order, ReplicaState, Place, settled, listed, mailed, standing_vote, noted_outcome}
+use Rattle.sc_meaning.specs.sound.SoundDefinitions.{Player}
+use Rattle.sc_live_steps.specs.calm.CalmDefinitions.{Rows}
+use Rattle.sc_live_steps.specs.orders.OrderDefinitions.{Turn, is_watch, Asking, Bound, Work, Stage, Still, IsAt, IsUnderWay, IsStepOf, bond_of, works, IsIdle, IsUnbound, MayFile}
+use Rattle.sc_live_journals.specs.rows.RowDefinitions.{with_event}
 use Rattle.sc_live_journals.specs.scenes.JournalScenes.{scene_at}
 use Rattle.sc_live_journals.specs.scenes.SceneRows.{LeadsAlone}
 use Rattle.sc_live_journals.specs.scenes.SceneRowKinds.{IsUnled}

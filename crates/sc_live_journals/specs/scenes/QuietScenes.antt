@@ -3,15 +3,15 @@ use Rattle.std.specs.Prelude.{◌≡◌, ℕ, true, List, [], ◌∷◌, Some}
 use Rattle.sc_base.specs.Definitions.{Among, Each}
 use Rattle.sc_node_table.specs.Values.{Draw, Command, Free, OrderLine, Event, Mail, Seat, Flight}
 use Rattle.sc_actor.specs.declared.rows.Event.TheVariants.{Told}
-use Rattle.sc_node_table.specs.Definitions.{NodeState, group_of_order, ReplicaState, next}
-use Rattle.sc_live_journals.specs.rows.Definitions.{IsSeat, with_event, view_at}
+use Rattle.sc_node_table.specs.NodeDefinitions.{NodeState, group_of_order, ReplicaState, next}
+use Rattle.sc_live_journals.specs.rows.RowDefinitions.{IsSeat, with_event, view_at}
 use Rattle.sc_live_journals.specs.scenes.VotesAndOrders.{IsOrdered}
 use Rattle.sc_live_journals.specs.scenes.OrderRows.{KeepsStage}
 use Rattle.sc_actor.specs.Definitions.{mails, is_quiet}
-use Rattle.sc_live_orderly.specs.Definitions.{is_born, AreInTime}
-use Rattle.sc_meaning.specs.sound.Definitions.{Player}
-use Rattle.sc_live_steps.specs.calm.Definitions.{players, Rows}
-use Rattle.sc_live_steps.specs.orders.Definitions.{Unbound, Errand, Work, IsAt, Still, IsUnderWay, work_by, works_in, works, errand_by, FliesLone, IsUnbound}
+use Rattle.sc_live_orderly.specs.OrderlyDefinitions.{is_born, AreInTime}
+use Rattle.sc_meaning.specs.sound.SoundDefinitions.{Player}
+use Rattle.sc_live_steps.specs.calm.CalmDefinitions.{players, Rows}
+use Rattle.sc_live_steps.specs.orders.OrderDefinitions.{Unbound, Errand, Work, IsAt, Still, IsUnderWay, work_by, works_in, works, errand_by, FliesLone, IsUnbound}
 use Rattle.sc_live_journals.specs.scenes.JournalScenes.{scene_at}
 use Rattle.sc_live_journals.specs.scenes.SceneRows.{LeadsAlone}
 

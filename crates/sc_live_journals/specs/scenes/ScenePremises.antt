@@ -2,19 +2,19 @@
 use Rattle.std.specs.Prelude.{◌≡◌, ℕ, ◌<◌, Bool, true, false, List, [], ◌∷◌, Option, if◌then◌else◌, Some, None}
 use Rattle.sc_base.specs.Definitions.{Each, is_member}
 use Rattle.sc_node_table.specs.Values.{Draw, Command, OrderLine, OrderRefusal, Mail, MailBody, Request, Answer, Prepare, Promise, Accept, Accepted, Nack, Learn, Ask, Install, TxPrepare, TxVote, TxOutcome, TxElsewhere, TxWatch, TxWatched, Told as ToldMail, Node, Client, Seat, Event, Deliver, Flight, Report}
-use Rattle.sc_law_walks.specs.Definitions.{GoesOn}
+use Rattle.sc_law_walks.specs.WalkDefinitions.{GoesOn}
 use Rattle.sc_actor.specs.declared.rows.Event.TheVariants.{Told}
 use Rattle.sc_actor.specs.Definitions.{mails, numbered, value}
-use Rattle.sc_client_table.specs.table.Definitions.{Client as ClientState}
-use Rattle.sc_live_orderly.specs.Definitions.{AreInTime}
-use Rattle.sc_node_table.specs.Definitions.{NodeState, replica_of, may_come, group_of_order, ordered_row, untaken, ReplicaState, next, settled, listed, mailed, standing_vote, noted_outcome}
-use Rattle.sc_words.specs.paxos.Definitions.{flight_at}
+use Rattle.sc_client_table.specs.table.TableDefinitions.{Client as ClientState}
+use Rattle.sc_live_orderly.specs.OrderlyDefinitions.{AreInTime}
+use Rattle.sc_node_table.specs.NodeDefinitions.{NodeState, replica_of, may_come, group_of_order, ordered_row, untaken, ReplicaState, next, settled, listed, mailed, standing_vote, noted_outcome}
+use Rattle.sc_words.specs.paxos.PaxosDefinitions.{flight_at}
 use Rattle.sc_scenario.specs.scenario.Definitions.{IsBounded}
 use Rattle.sc_scenario.specs.declared.scenario.scenarios.Scenario.{Scenario}
-use Rattle.sc_meaning.specs.sound.Definitions.{Player, player_table, births, as_nodes}
-use Rattle.sc_live_steps.specs.calm.Definitions.{players, Rows}
-use Rattle.sc_live_steps.specs.orders.Definitions.{Turn, First, Lone, Next, is_watch, Unbound, Asking, Question, Reply, Work, Opens, Answers, Records, Ends, bound_by, IsOrder, Stage, IsAt, IsUnderWay, results, bond_of, works, errand_by, IsIdle, FliesLone, IsUnbound, Works}
-use Rattle.sc_live_journals.specs.rows.Definitions.{view_at, IsSeat, with_event, IsWholeState}
+use Rattle.sc_meaning.specs.sound.SoundDefinitions.{Player, player_table, births, as_nodes}
+use Rattle.sc_live_steps.specs.calm.CalmDefinitions.{players, Rows}
+use Rattle.sc_live_steps.specs.orders.OrderDefinitions.{Turn, First, Lone, Next, is_watch, Unbound, Asking, Question, Reply, Work, Opens, Answers, Records, Ends, bound_by, IsOrder, Stage, IsAt, IsUnderWay, results, bond_of, works, errand_by, IsIdle, FliesLone, IsUnbound, Works}
+use Rattle.sc_live_journals.specs.rows.RowDefinitions.{view_at, IsSeat, with_event, IsWholeState}
 use Rattle.sc_live_journals.specs.scenes.VotesAndOrders.{IsEntry, StaysIn, IsOrdered}
 use Rattle.sc_live_journals.specs.scenes.OrderRows.{IsBeside, StageAfter}
 use Rattle.sc_live_journals.specs.scenes.CreatedReplicas.{MayJoin}

@@ -2,11 +2,11 @@
 use Rattle.std.specs.Prelude.{◌≡◌, ℕ, true, false, List, [], ◌∷◌, if◌then◌else◌, Bool, Some, None}
 use Rattle.sc_node_table.specs.Values.{Draw, OrderLine, Seat, Event}
 use Rattle.sc_actor.specs.Definitions.{mails}
-use Rattle.sc_node_table.specs.Definitions.{ReplicaState, Place}
-use Rattle.sc_meaning.specs.sound.Definitions.{Player}
-use Rattle.sc_live_steps.specs.calm.Definitions.{Rows}
-use Rattle.sc_live_steps.specs.orders.Definitions.{Turn, First, Lone, Next, is_watch, Bond, Unbound, Asking, Errand, Question, Elsewhere, Reply, Work, Opens, Answers, Records, Ends, IsOnly, bound_by, IsOrder, GoesOn, Rests, IsTold, PassesOn, AsksOn, Files, work_for, results, Changed, Opened, Voted, Aborted, Decided, Heard, Ended, bond_of, works, errands_for, Works}
-use Rattle.sc_live_journals.specs.rows.Definitions.{view_at, with_event}
+use Rattle.sc_node_table.specs.NodeDefinitions.{ReplicaState, Place}
+use Rattle.sc_meaning.specs.sound.SoundDefinitions.{Player}
+use Rattle.sc_live_steps.specs.calm.CalmDefinitions.{Rows}
+use Rattle.sc_live_steps.specs.orders.OrderDefinitions.{Turn, First, Lone, Next, is_watch, Bond, Unbound, Asking, Errand, Question, Elsewhere, Reply, Work, Opens, Answers, Records, Ends, IsOnly, bound_by, IsOrder, GoesOn, Rests, IsTold, PassesOn, AsksOn, Files, work_for, results, Changed, Opened, Voted, Aborted, Decided, Heard, Ended, bond_of, works, errands_for, Works}
+use Rattle.sc_live_journals.specs.rows.RowDefinitions.{view_at, with_event}
 use Rattle.sc_live_journals.specs.scenes.JournalScenes.{scene_at, taken_errand}
 use Rattle.sc_live_journals.specs.scenes.SceneRows.{errands_sent, IsSceneKind, NewestAreBound, IsTablesRow, LeadsAlone, NoneRuns}
 

@@ -2,12 +2,12 @@
 use Rattle.std.specs.Prelude.{◌≡◌, ℕ, ◌==◌, ◌≤◌, true, false, List, [], Some, None, ◌⊎◌}
 use Rattle.sc_node_table.specs.Values.{Draw, Base, Free, OrderLine, Seat, Event}
 use Rattle.sc_actor.specs.Definitions.{mails, row_of}
-use Rattle.sc_live_orderly.specs.Definitions.{AreInTime}
-use Rattle.sc_node_table.specs.Definitions.{ReplicaState, Place, next, born_replica, slots_ahead}
-use Rattle.sc_meaning.specs.sound.Definitions.{Player, player_table}
-use Rattle.sc_live_steps.specs.calm.Definitions.{players, Rows}
-use Rattle.sc_live_steps.specs.orders.Definitions.{Bond, Unbound, Errand, IsRow, Kind, bond_of, works, errands_for}
-use Rattle.sc_live_journals.specs.rows.Definitions.{view_at, IsSeat, with_event}
+use Rattle.sc_live_orderly.specs.OrderlyDefinitions.{AreInTime}
+use Rattle.sc_node_table.specs.NodeDefinitions.{ReplicaState, Place, next, born_replica, slots_ahead}
+use Rattle.sc_meaning.specs.sound.SoundDefinitions.{Player, player_table}
+use Rattle.sc_live_steps.specs.calm.CalmDefinitions.{players, Rows}
+use Rattle.sc_live_steps.specs.orders.OrderDefinitions.{Bond, Unbound, Errand, IsRow, Kind, bond_of, works, errands_for}
+use Rattle.sc_live_journals.specs.rows.RowDefinitions.{view_at, IsSeat, with_event}
 use Rattle.sc_live_journals.specs.scenes.JournalScenes.{scene_at, errand_taken, taken_errand}
 
 -- The errands that the row of this event sends to a group.

@@ -4,12 +4,12 @@ use Rattle.sc_base.specs.Definitions.{Each}
 use Rattle.sc_node_table.specs.Values.{Draw, OrderLine, Mail, AnswerBody, Answer, Seat, Deliver}
 use Rattle.sc_actor.specs.declared.rows.Event.TheVariants.{Told}
 use Rattle.sc_actor.specs.Definitions.{mails, numbered, is_quiet}
-use Rattle.sc_live_orderly.specs.Definitions.{rest, is_born, AreInTime}
-use Rattle.sc_node_table.specs.Definitions.{NodeState, replica_of, group_of_mail, ReplicaState, mailed}
-use Rattle.sc_meaning.specs.sound.Definitions.{Player}
-use Rattle.sc_live_steps.specs.calm.Definitions.{players, Rows}
-use Rattle.sc_live_steps.specs.orders.Definitions.{Turn, First, Lone, Next, Errand, Scene, Deal, Stage, Still, Ordered, Asks, SentOn, Weighs, Replied, Recorded, Closes, ClosesBoth, parties_of, IsAt, errand_by}
-use Rattle.sc_live_journals.specs.rows.Definitions.{view_at, IsSeat, with_event}
+use Rattle.sc_live_orderly.specs.OrderlyDefinitions.{rest, is_born, AreInTime}
+use Rattle.sc_node_table.specs.NodeDefinitions.{NodeState, replica_of, group_of_mail, ReplicaState, mailed}
+use Rattle.sc_meaning.specs.sound.SoundDefinitions.{Player}
+use Rattle.sc_live_steps.specs.calm.CalmDefinitions.{players, Rows}
+use Rattle.sc_live_steps.specs.orders.OrderDefinitions.{Turn, First, Lone, Next, Errand, Scene, Deal, Stage, Still, Ordered, Asks, SentOn, Weighs, Replied, Recorded, Closes, ClosesBoth, parties_of, IsAt, errand_by}
+use Rattle.sc_live_journals.specs.rows.RowDefinitions.{view_at, IsSeat, with_event}
 use Rattle.sc_live_journals.specs.scenes.ScenePremises.{FindsOrder}
 use Rattle.sc_live_journals.specs.scenes.OrderRows.{GoesBy}
 use Rattle.sc_live_journals.specs.scenes.JournalScenes.{scene_at}

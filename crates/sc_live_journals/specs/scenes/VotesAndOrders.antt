@@ -1,16 +1,16 @@
 -- An order stays under way where a leader counts votes for the one command that it has in flight; and an order begins where a leader is given it.
 use Rattle.std.specs.Prelude.{◌≡◌, ℕ, Bool, true, false, List, [], ◌∷◌, if◌then◌else◌, Some, None}
 use Rattle.sc_node_table.specs.Values.{Ballot, Draw, Command, OrderLine, OrderRefusal, Mail, Accepted, Node, Seat, Deliver, Flight}
-use Rattle.sc_group_table.specs.machine.Definitions.{Group, applied}
+use Rattle.sc_group_table.specs.machine.MachineDefinitions.{Group, applied}
 use Rattle.sc_base.specs.Definitions.{is_member}
 use Rattle.sc_actor.specs.declared.rows.Event.TheVariants.{Told}
 use Rattle.sc_actor.specs.Definitions.{value}
-use Rattle.sc_live_orderly.specs.Definitions.{AreInTime}
-use Rattle.sc_node_table.specs.Definitions.{NodeState, replica_of, group_of_order, ordered_row, untaken, ReplicaState, mailed}
-use Rattle.sc_meaning.specs.sound.Definitions.{Player, player_table}
-use Rattle.sc_live_steps.specs.calm.Definitions.{players, Rows}
-use Rattle.sc_live_steps.specs.orders.Definitions.{Turn, First, Lone, Next, is_watch, Bond, Unbound, Asking, Errand, Question, Reply, Work, Opens, Answers, Records, Ends, bound_by, IsOrder, IsAt, Still, results, work_by, bond_of, EntryLeaves, FliesLone, MayFile}
-use Rattle.sc_live_journals.specs.rows.Definitions.{IsSeat, with_event}
+use Rattle.sc_live_orderly.specs.OrderlyDefinitions.{AreInTime}
+use Rattle.sc_node_table.specs.NodeDefinitions.{NodeState, replica_of, group_of_order, ordered_row, untaken, ReplicaState, mailed}
+use Rattle.sc_meaning.specs.sound.SoundDefinitions.{Player, player_table}
+use Rattle.sc_live_steps.specs.calm.CalmDefinitions.{players, Rows}
+use Rattle.sc_live_steps.specs.orders.OrderDefinitions.{Turn, First, Lone, Next, is_watch, Bond, Unbound, Asking, Errand, Question, Reply, Work, Opens, Answers, Records, Ends, bound_by, IsOrder, IsAt, Still, results, work_by, bond_of, EntryLeaves, FliesLone, MayFile}
+use Rattle.sc_live_journals.specs.rows.RowDefinitions.{IsSeat, with_event}
 use Rattle.sc_live_journals.specs.scenes.JournalScenes.{scene_at}
 use Rattle.sc_live_journals.specs.scenes.SceneRows.{NewestAreBound, LeadsAlone}
 use Rattle.sc_live_journals.specs.scenes.OrderRows.{StageAfter, KeepsStage, ComesToLeader, IsBeside}

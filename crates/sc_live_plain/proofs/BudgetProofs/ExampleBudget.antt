@@ -11,9 +11,9 @@ use Rattle.sc_scenario.specs.declared.scenario.scenarios.Asks.{Asks}
 use Rattle.sc_scenario.specs.declared.scenario.scenarios.Scenario.{Scenario}
 use Rattle.sc_scenario.specs.declared.scenario.scenarios.SchedLine.{SchedLine}
 use Rattle.sc_scenario.specs.declared.scenario.scenarios.SchedLine.TheVariants.{Go, Told, Settle}
-use Rattle.sc_meaning.specs.sound.Definitions.{kept_replies, alone, put_it, get_it, ballot, mail, row, example_rows, put_get_scenario, player_table, node_seat, client_seat, as_nodes, route_of, schedule}
-use Rattle.sc_live_orderly.specs.Definitions.{AreSpaced, Nothing}
-use Rattle.sc_live_plain.specs.Definitions.{calm_budget_of, gives_order, are_parted, IsCalmAtBudget, requests_of, budget_of, delivers, IsAtBudget, StartsBeforeDeliveries, AreAnswered, mail_owes, player_owes, begun_of, EndsAtBudget}
+use Rattle.sc_meaning.specs.sound.SoundDefinitions.{kept_replies, alone, put_it, get_it, ballot, mail, row, example_rows, put_get_scenario, player_table, node_seat, client_seat, as_nodes, route_of, schedule}
+use Rattle.sc_live_orderly.specs.OrderlyDefinitions.{AreSpaced, Nothing}
+use Rattle.sc_live_plain.specs.PlainDefinitions.{calm_budget_of, gives_order, are_parted, IsCalmAtBudget, requests_of, budget_of, delivers, IsAtBudget, StartsBeforeDeliveries, AreAnswered, mail_owes, player_owes, begun_of, EndsAtBudget}
 
 -- two requests and one group
 requests : requests_of put_get_scenario ≡ 2

@@ -4,14 +4,14 @@ use Rattle.std.specs.List.{sum_by}
 use Rattle.std.proofs.lemmas.List.Sums.{sum_by-cons}
 use Rattle.sc_base.specs.Definitions.{Each}
 use Rattle.sc_node_table.specs.Values.{Op, Get, Put, Del, Add, Cas, Command, Call, OrderLine, Value, NotLeader, NotMine, Gone, Stale, Mail, MailBody, Request, Answer, Accept, Accepted, Learn, Row}
-use Rattle.sc_words.specs.commands.Definitions.{op_weight, value_weight, command_weight}
+use Rattle.sc_words.specs.commands.CommandDefinitions.{op_weight, value_weight, command_weight}
 use Rattle.sc_mail.specs.Definitions.{body_weight}
 use Rattle.sc_actor.specs.Definitions.{mail_bytes, row_bytes, journal_bytes, mails}
 use Rattle.sc_scenario.specs.scenario.Definitions.{IsShortOp, IsBounded, IsBoundedClient}
 use Rattle.sc_scenario.specs.declared.scenario.scenarios.Scenario.{Scenario}
-use Rattle.sc_words.proofs.PaxosProofs.Lemmas.{Each-among, Each-from_All, Each-split}
+use Rattle.sc_words.proofs.PaxosProofs.PaxosLemmas.{Each-among, Each-from_All, Each-split}
 use Rattle.sc_paxos_law.proofs.Lemmas.{place_among}
-use Rattle.sc_live_plain.specs.Definitions.{Frame, IsBegun, Requests, written_by, IsWrittenValue, IsPlainCommand, IsPlainBody, IsPlainMail}
+use Rattle.sc_live_plain.specs.PlainDefinitions.{Frame, IsBegun, Requests, written_by, IsWrittenValue, IsPlainCommand, IsPlainBody, IsPlainMail}
 use Rattle.sc_live_plain.proofs.PlainRowsProofs.Lists.{some_is}
 
 -- ---- what a mail weighs

@@ -4,15 +4,15 @@ use Rattle.std.proofs.lemmas.List.{map-append}
 use Rattle.sc_base.specs.Definitions.{Each}
 use Rattle.sc_node_table.specs.Values.{OrderLine, Mail}
 use Rattle.sc_actor.specs.Definitions.{mails, System}
-use Rattle.sc_words.proofs.PaxosProofs.Lemmas.{Each-append, Each-from}
+use Rattle.sc_words.proofs.PaxosProofs.PaxosLemmas.{Each-append, Each-from}
 use Rattle.sc_scenario.specs.scenario.Definitions.{ValidScenariosAreBounded}
 use Rattle.sc_scenario.specs.declared.scenario.scenarios.Scenario.{Scenario}
 use Rattle.sc_scenario.specs.declared.scenario.scenarios.SchedLine.{SchedLine}
 use Rattle.sc_scenario.specs.declared.scenario.scenarios.SchedLine.TheVariants.{Go, Deliver, Settle, Free}
-use Rattle.sc_meaning.specs.sound.Definitions.{Player, line_of, schedule, system_of, as_nodes}
-use Rattle.sc_live_orderly.specs.Definitions.{owed_at_birth}
-use Rattle.sc_live_orderly.proofs.Lemmas.{ends_quiet_at_last}
-use Rattle.sc_live_plain.specs.Definitions.{AllowsDeliveries, budget_of, mail_owes}
+use Rattle.sc_meaning.specs.sound.SoundDefinitions.{Player, line_of, schedule, system_of, as_nodes}
+use Rattle.sc_live_orderly.specs.OrderlyDefinitions.{owed_at_birth}
+use Rattle.sc_live_orderly.proofs.OrderlyLemmas.{ends_quiet_at_last}
+use Rattle.sc_live_plain.specs.PlainDefinitions.{AllowsDeliveries, budget_of, mail_owes}
 use Rattle.sc_live_plain.specs.LastLine.{EndsAtBudget, LastLinesEndQuiet}
 use Rattle.sc_live_plain.proofs.PlainProofs.AnsweredPlainRequests.{many_line}
 use Rattle.sc_live_plain.proofs.PlainProofs.InductionBase.{birth_within, journal_at_birth}

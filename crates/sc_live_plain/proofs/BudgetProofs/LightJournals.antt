@@ -12,19 +12,19 @@ use Rattle.sc_actor.specs.declared.rows.Input.TheVariants.{Go as GoInput}
 use Rattle.sc_actor.specs.declared.schedules.Line.TheVariants as line
 use Rattle.sc_actor.specs.Definitions.{mails, is_delivery, System, numbers_of, row_of, acts, has_started, value, Task, Once, Settles, Frees, Storms, tasks_of, WalkPlace, onward, after_row, rest_of_all, place_after, start, is_over, MayAdd, IsLawful}
 use Rattle.sc_actor.proofs.Lemmas.{mails-snoc, lawful-last}
-use Rattle.sc_words.proofs.PaxosProofs.Lemmas.{Each-weaker, Each-from_All}
-use Rattle.sc_node_table.specs.Definitions.{numbers_from, slots_ahead}
-use Rattle.sc_client_table.specs.table.Definitions.{Client as ClientState, waiting_request, ClientStep, asked_of, sent_where, chosen_for, request_sent}
-use Rattle.sc_client_table.specs.lookup.Definitions.{target_in}
+use Rattle.sc_words.proofs.PaxosProofs.PaxosLemmas.{Each-weaker, Each-from_All}
+use Rattle.sc_node_table.specs.NodeDefinitions.{numbers_from, slots_ahead}
+use Rattle.sc_client_table.specs.table.TableDefinitions.{Client as ClientState, waiting_request, ClientStep, asked_of, sent_where, chosen_for, request_sent}
+use Rattle.sc_client_table.specs.lookup.LookupDefinitions.{target_in}
 use Rattle.sc_scenario.specs.scenario.Definitions.{most_deliveries, IsBoundedLine, ValidScenariosAreBounded}
 use Rattle.sc_scenario.specs.declared.scenario.scenarios.Asks.{Asks}
 use Rattle.sc_scenario.specs.declared.scenario.scenarios.Scenario.{Scenario}
 use Rattle.sc_scenario.specs.declared.scenario.scenarios.SchedLine.{SchedLine}
 use Rattle.sc_scenario.specs.declared.scenario.scenarios.SchedLine.TheVariants as sched
-use Rattle.sc_meaning.specs.sound.Definitions.{Player, player_table, node_seat, client_seat, route_of, births, line_of, schedule, system_of, as_nodes}
-use Rattle.sc_live_orderly.specs.Definitions.{is_born, deliveries, SendsToActors}
-use Rattle.sc_live_orderly.proofs.Lemmas.{mails_are_owed, goes_are_few, rows_are, by_rows, count_push}
-use Rattle.sc_live_plain.specs.Definitions.{AllowsDeliveries, budget_of, Frame, PlainJournalsAreLight, mail_owes, IsBegun, IsPlainBody, IsPlainMail}
+use Rattle.sc_meaning.specs.sound.SoundDefinitions.{Player, player_table, node_seat, client_seat, route_of, births, line_of, schedule, system_of, as_nodes}
+use Rattle.sc_live_orderly.specs.OrderlyDefinitions.{is_born, deliveries, SendsToActors}
+use Rattle.sc_live_orderly.proofs.OrderlyLemmas.{mails_are_owed, goes_are_few, rows_are, by_rows, count_push}
+use Rattle.sc_live_plain.specs.PlainDefinitions.{AllowsDeliveries, budget_of, Frame, PlainJournalsAreLight, mail_owes, IsBegun, IsPlainBody, IsPlainMail}
 use Rattle.sc_live_plain.proofs.PlainProofs.InductionBase.{birth_within, few_clients, journal_at_birth}
 use Rattle.sc_live_plain.proofs.PlainProofs.PlainInduction.{owing_of, IsPlainJournal}
 use Rattle.sc_live_plain.proofs.PlainProofs.PlainBeginnings.{frames_of, IsStage, stage}
@@ -34,7 +34,7 @@ use Rattle.sc_live_plain.proofs.BudgetProofs.JournalBytes.{mail_light, begun_sho
 use Rattle.sc_live_plain.proofs.BudgetProofs.PlainLineEnds.{lines_plain, far_from_last, some_owed}
 use Rattle.sc_live_plain.proofs.PlainProofs.GroupCircle.{round}
 use Rattle.sc_live_plain.proofs.PlainRowsProofs.Lists.{map_among}
-use Rattle.sc_live_steps.proofs.CalmStepsProofs.Lemmas.{count_numbers}
+use Rattle.sc_live_steps.proofs.CalmStepsProofs.CalmStepLemmas.{count_numbers}
 
 -- ---- mail is for actors
 

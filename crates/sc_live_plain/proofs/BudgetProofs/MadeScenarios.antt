@@ -2,11 +2,11 @@
 use Rattle.std.proofs.Common.{◌≡◌, ℕ, zero, suc, ◌+◌, ◌*◌, length, sum_by, ap, arith}
 use Rattle.std.proofs.lemmas.List.Sums.{sum_by_push}
 use Rattle.sc_base.specs.Definitions.{Each}
-use Rattle.sc_words.proofs.PaxosProofs.Lemmas.{Each-push}
+use Rattle.sc_words.proofs.PaxosProofs.PaxosLemmas.{Each-push}
 use Rattle.sc_scenario.specs.scenario.Definitions.{made_ops, made_clients, made_goes, made_scenario}
 use Rattle.sc_scenario.specs.declared.scenario.scenarios.Asks.{Asks}
 use Rattle.sc_scenario.specs.declared.scenario.scenarios.SchedLine.TheVariants.{Go, Settle}
-use Rattle.sc_live_plain.specs.Definitions.{AllowsDeliveries, budget_of, requests_of, MadeScenariosAreAtBudget}
+use Rattle.sc_live_plain.specs.PlainDefinitions.{AllowsDeliveries, budget_of, requests_of, MadeScenariosAreAtBudget}
 use Rattle.sc_scenario.proofs.ScenarioProofs.Lemmas.{ops_counted as ops_count}
 
 -- k clients with n requests each have k times n together

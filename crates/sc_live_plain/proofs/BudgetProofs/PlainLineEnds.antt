@@ -3,16 +3,16 @@ use Rattle.std.proofs.Common.{ℕ, ◌+◌, ◌≤◌, List, [], ◌∷◌, map,
 use Rattle.sc_base.specs.Definitions.{Each}
 use Rattle.sc_node_table.specs.Values.{OrderLine, Value, NotLeader, NotMine, Gone, Stale, Mail, MailBody, Answer}
 use Rattle.sc_actor.specs.Definitions.{mails, System}
-use Rattle.sc_words.proofs.PaxosProofs.Lemmas.{Each-from}
-use Rattle.sc_node_table.specs.Definitions.{last_slot}
+use Rattle.sc_words.proofs.PaxosProofs.PaxosLemmas.{Each-from}
+use Rattle.sc_node_table.specs.NodeDefinitions.{last_slot}
 use Rattle.sc_scenario.specs.scenario.Definitions.{IsBounded, ValidScenariosAreBounded}
 use Rattle.sc_scenario.specs.declared.scenario.scenarios.Scenario.{Scenario}
 use Rattle.sc_scenario.specs.declared.scenario.scenarios.SchedLine.{SchedLine}
 use Rattle.sc_scenario.specs.declared.scenario.scenarios.SchedLine.TheVariants.{Go, Deliver, Drop, Again, Tick, Crash, Told, Settle, Free, Storm}
-use Rattle.sc_meaning.specs.sound.Definitions.{Player, line_of, schedule, system_of, as_nodes}
-use Rattle.sc_live_orderly.specs.Definitions.{IsPlainLine, HasRoom, owed_at_birth}
-use Rattle.sc_live_orderly.proofs.Lemmas.{never_cut_by}
-use Rattle.sc_live_plain.specs.Definitions.{AllowsDeliveries, budget_of, body_owes, mail_owes, PlainLinesEndQuiet}
+use Rattle.sc_meaning.specs.sound.SoundDefinitions.{Player, line_of, schedule, system_of, as_nodes}
+use Rattle.sc_live_orderly.specs.OrderlyDefinitions.{IsPlainLine, HasRoom, owed_at_birth}
+use Rattle.sc_live_orderly.proofs.OrderlyLemmas.{never_cut_by}
+use Rattle.sc_live_plain.specs.PlainDefinitions.{AllowsDeliveries, budget_of, body_owes, mail_owes, PlainLinesEndQuiet}
 use Rattle.sc_live_plain.proofs.PlainProofs.InductionBase.{birth_within, birth_few, journal_at_birth}
 use Rattle.sc_live_plain.proofs.PlainProofs.PlainInduction.{owing_of}
 use Rattle.sc_live_plain.proofs.PlainProofs.PlainBeginnings.{stage}

@@ -9,14 +9,14 @@ use Rattle.std.proofs.lemmas.Option.{slice_get-get_or, slice_get_within}
 use Rattle.sc_base.specs.Definitions.{Among, Each, Arc, end_of, client_actor, key_of, same_draw, pos_of}
 use Rattle.sc_node_table.specs.Values.{Draw, Op, Get, Reply, Got, Link, Route, AnswerBody, Value, NotLeader, NotMine, Gone, Stale, Mail, MailBody, Answer}
 use Rattle.sc_base.proofs.Lemmas.{draw_is, same_name}
-use Rattle.sc_words.specs.ideal.Definitions.{holds_key}
+use Rattle.sc_words.specs.ideal.IdealDefinitions.{holds_key}
 use Rattle.sc_actor.specs.declared.rows.Input.TheVariants.{Go}
-use Rattle.sc_client_table.specs.lookup.Definitions.{KnownGroups, way_to, chosen, target_in, changed, preferring, starting, group_learnt, learnt_from_not_mine, learnt_from_gone, new_way, target_of}
+use Rattle.sc_client_table.specs.lookup.LookupDefinitions.{KnownGroups, way_to, chosen, target_in, changed, preferring, starting, group_learnt, learnt_from_not_mine, learnt_from_gone, new_way, target_of}
 use Rattle.sc_client_table.specs.declared.lookup.ways.Way.{Way}
 use Rattle.sc_paxos_law.proofs.Lemmas.{from_map, Among-left}
-use Rattle.sc_client_table.specs.table.Definitions.{Client as ClientState, request_at, waiting_request, ClientStep, asked_of, sent_to, sent_where, chosen_for, request_sent, started, waits_for, was_asked, redirected, answer_taken, got, table}
+use Rattle.sc_client_table.specs.table.TableDefinitions.{Client as ClientState, request_at, waiting_request, ClientStep, asked_of, sent_to, sent_where, chosen_for, request_sent, started, waits_for, was_asked, redirected, answer_taken, got, table}
 use Rattle.sc_scenario.specs.declared.scenario.scenarios.Asks.{Asks}
-use Rattle.sc_live_plain.specs.Definitions.{IsLinkedSetting, Knows, CanBeAsked, IsCalmClient, BeginsBy, StaysCalm, ClientsStayCalm, Setting, IsHome, HasGoneTo, IsSetting, IsAsideBody, IsCalmMail, Frame, begun_ones, IsWaiting, IsResting, IsBegun, Requests, IsPlainBody}
+use Rattle.sc_live_plain.specs.PlainDefinitions.{IsLinkedSetting, Knows, CanBeAsked, IsCalmClient, BeginsBy, StaysCalm, ClientsStayCalm, Setting, IsHome, HasGoneTo, IsSetting, IsAsideBody, IsCalmMail, Frame, begun_ones, IsWaiting, IsResting, IsBegun, Requests, IsPlainBody}
 use Rattle.sc_live_plain.proofs.CalmProofs.ChosenGroups.{way_found, lookup_has, set_each, push_each, chosen_same, chosen_among}
 use Rattle.sc_live_plain.proofs.CalmProofs.KnownGroups.{name_in, id_of, one_of_one, preferring_names, preferring_starts, learn_in_turn}
 use Rattle.sc_live_plain.proofs.PlainProofs.PlainClients.{asking, unasked}

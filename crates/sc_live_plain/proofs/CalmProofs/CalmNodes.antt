@@ -5,10 +5,10 @@ use Rattle.sc_base.specs.Definitions.{Each, client_actor, same_draw, is_member}
 use Rattle.sc_node_table.specs.Values.{Draw, Op, Got, Core, Route, AnswerBody, Mail, MailBody, Request, Answer, Accept, Accepted, Learn}
 use Rattle.sc_base.proofs.Lemmas.{draw_is, same_name}
 use Rattle.sc_mail.specs.declared.bodies.AnswerBody.TheVariants as Says
-use Rattle.sc_group_table.specs.machine.Definitions.{Group}
-use Rattle.sc_words.proofs.PaxosProofs.Lemmas.{Each-weaker, find_found}
-use Rattle.sc_node_table.specs.Definitions.{NodeState, replica_of, with_replica, node_table, ReplicaState, Executed, childless, name_of, mailed, request_refusal, requested, request_row}
-use Rattle.sc_live_plain.specs.Definitions.{Other, mark, Setting, IsHome, HasGoneTo, IsSetting, IsNearer, KnowsBetter, IsCalmNode, IsAsideAnswer, IsAsideBody, IsCalmMail, ComesInTime, NodesStayCalm, IsFrame, IsBegun, Requests, IsPlainBody, IsPlainMail, IsPlainAt}
+use Rattle.sc_group_table.specs.machine.MachineDefinitions.{Group}
+use Rattle.sc_words.proofs.PaxosProofs.PaxosLemmas.{Each-weaker, find_found}
+use Rattle.sc_node_table.specs.NodeDefinitions.{NodeState, replica_of, with_replica, node_table, ReplicaState, Executed, childless, name_of, mailed, request_refusal, requested, request_row}
+use Rattle.sc_live_plain.specs.PlainDefinitions.{Other, mark, Setting, IsHome, HasGoneTo, IsSetting, IsNearer, KnowsBetter, IsCalmNode, IsAsideAnswer, IsAsideBody, IsCalmMail, ComesInTime, NodesStayCalm, IsFrame, IsBegun, Requests, IsPlainBody, IsPlainMail, IsPlainAt}
 use Rattle.sc_live_plain.proofs.PlainRowsProofs.Lists.{some_is}
 use Rattle.sc_live_plain.proofs.PlainRowsProofs.NodeRows.{NodeRow, node_row, mail_is, node_plain, node_said, me_after, found_after, others_after}
 use Rattle.sc_live_plain.proofs.PlainRowsProofs.ReplicaRows.{DidAccept, Does}

@@ -3,11 +3,11 @@ use Rattle.std.proofs.Common.{◌≡◌, ℕ, ◌+◌, ◌≤◌, List, length, 
 use Rattle.std.proofs.lemmas.Bool.{both_ways}
 use Rattle.sc_base.specs.Definitions.{is_member}
 use Rattle.sc_node_table.specs.Values.{Op, Command, Noop, Call, Core, Flight}
-use Rattle.sc_words.specs.ideal.Definitions.{key_of, holds_key}
-use Rattle.sc_words.proofs.PaxosProofs.Lemmas.{Each-weaker}
-use Rattle.sc_node_table.specs.Definitions.{entered, admits_requests, ReplicaState, name_of, next, slots_ahead, numbers_from}
-use Rattle.sc_live_steps.specs.calm.Definitions.{AreBounded, IsServedCall, ServesAll, AreNines, MayPump, Follows, Points, Ways}
-use Rattle.sc_live_plain.specs.Definitions.{Frame, IsFrame, Requests, IsPlainCall, IsPlainCommand, IsPlainFlight, IsPlainFollower, IsPlainReplica, IsLeading}
+use Rattle.sc_words.specs.ideal.IdealDefinitions.{key_of, holds_key}
+use Rattle.sc_words.proofs.PaxosProofs.PaxosLemmas.{Each-weaker}
+use Rattle.sc_node_table.specs.NodeDefinitions.{entered, admits_requests, ReplicaState, name_of, next, slots_ahead, numbers_from}
+use Rattle.sc_live_steps.specs.calm.CalmDefinitions.{AreBounded, IsServedCall, ServesAll, AreNines, MayPump, Follows, Points, Ways}
+use Rattle.sc_live_plain.specs.PlainDefinitions.{Frame, IsFrame, Requests, IsPlainCall, IsPlainCommand, IsPlainFlight, IsPlainFollower, IsPlainReplica, IsLeading}
 use Rattle.sc_live_plain.proofs.LeadersProofs.PlainEntries.{entered_plain}
 use Rattle.sc_live_plain.proofs.LeadersProofs.ExecutedCalls.{call_plain}
 

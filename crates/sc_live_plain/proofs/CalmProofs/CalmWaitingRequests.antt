@@ -5,14 +5,14 @@ use Rattle.sc_base.specs.Definitions.{Among, client_actor}
 use Rattle.sc_node_table.specs.Values.{Draw, OrderLine, Mail, Answer, Client, Seat, Event, Deliver, Go, Got, Row}
 use Rattle.sc_actor.specs.declared.rows.Input.TheVariants.{Go as GoInput}
 use Rattle.sc_actor.specs.Definitions.{value, System, row_of, has_started, waiting, kth}
-use Rattle.sc_client_table.specs.table.Definitions.{Client as ClientState, ClientStep, table}
-use Rattle.sc_node_table.specs.Definitions.{is_node}
+use Rattle.sc_client_table.specs.table.TableDefinitions.{Client as ClientState, ClientStep, table}
+use Rattle.sc_node_table.specs.NodeDefinitions.{is_node}
 use Rattle.sc_scenario.specs.declared.scenario.scenarios.Asks.{Asks}
 use Rattle.sc_scenario.specs.declared.scenario.scenarios.Scenario.{Scenario}
-use Rattle.sc_meaning.specs.sound.Definitions.{Player, player_table, node_seat, client_seat, route_of, births, system_of, as_nodes}
-use Rattle.sc_live_orderly.specs.Definitions.{IsTidy, IsOrderly, IsInOrder, rest, mail_for, taken}
-use Rattle.sc_live_orderly.proofs.Lemmas.{TakesFirst, rest-row}
-use Rattle.sc_live_plain.specs.Definitions.{IsAsking, AreFarFromLast, IsLinkedSetting, Setting, IsSetting, IsWaiting}
+use Rattle.sc_meaning.specs.sound.SoundDefinitions.{Player, player_table, node_seat, client_seat, route_of, births, system_of, as_nodes}
+use Rattle.sc_live_orderly.specs.OrderlyDefinitions.{IsTidy, IsOrderly, IsInOrder, rest, mail_for, taken}
+use Rattle.sc_live_orderly.proofs.OrderlyLemmas.{TakesFirst, rest-row}
+use Rattle.sc_live_plain.specs.PlainDefinitions.{IsAsking, AreFarFromLast, IsLinkedSetting, Setting, IsSetting, IsWaiting}
 use Rattle.sc_live_plain.proofs.CalmProofs.RequestPhaseClients as clients_of
 use Rattle.sc_live_plain.proofs.PlainProofs.PlainBeginnings.{IsStage}
 use Rattle.sc_live_plain.proofs.PlainProofs.PlainSteps.{client_number, value_others}

@@ -6,9 +6,9 @@ use Rattle.std.proofs.lemmas.Bool.{cond_both, cond-true, cond-false, cases_Bool,
 use Rattle.sc_base.specs.Definitions.{Among, Each, same_draw}
 use Rattle.sc_node_table.specs.Values.{Draw}
 use Rattle.sc_base.proofs.Lemmas.{draw_is, same_name}
-use Rattle.sc_client_table.specs.lookup.Definitions.{KnownGroups, way_to, nearer, better, chosen, far}
+use Rattle.sc_client_table.specs.lookup.LookupDefinitions.{KnownGroups, way_to, nearer, better, chosen, far}
 use Rattle.sc_client_table.specs.declared.lookup.ways.Way.{Way}
-use Rattle.sc_live_plain.specs.Definitions.{start_known}
+use Rattle.sc_live_plain.specs.PlainDefinitions.{start_known}
 use Rattle.sc_live_plain.proofs.CalmProofs.KnownGroups.{name_in, gap}
 use Rattle.sc_live_plain.proofs.PlainProofs.PlainKnownGroups.{chosen_is}
 use Rattle.sc_live_plain.proofs.PlainRowsProofs.Lists.{some_is, map_among}

@@ -7,11 +7,11 @@ use Rattle.std.proofs.lemmas.List.{length-take-le}
 use Rattle.sc_base.specs.Definitions.{Among, holds, end_of, same_draw}
 use Rattle.sc_node_table.specs.Values.{Draw}
 use Rattle.sc_base.proofs.Lemmas.{draw_is, same_name}
-use Rattle.sc_words.proofs.PaxosProofs.Lemmas.{Each-among}
+use Rattle.sc_words.proofs.PaxosProofs.PaxosLemmas.{Each-among}
 use Rattle.sc_client_table.specs.declared.lookup.ways.Way.{Way}
-use Rattle.sc_client_table.specs.lookup.Definitions.{far, new_way, KnownGroups, way_to, chosen, changed, preferring, starting, learnt_from_not_mine}
+use Rattle.sc_client_table.specs.lookup.LookupDefinitions.{far, new_way, KnownGroups, way_to, chosen, changed, preferring, starting, learnt_from_not_mine}
 use Rattle.sc_paxos_law.proofs.Lemmas.{from_map, Among-right, Among-either}
-use Rattle.sc_live_plain.specs.Definitions.{FollowedBy, AreRoundRing, start_of, start_known, KnowsFirst, ClientsLearnInTurn, Frame}
+use Rattle.sc_live_plain.specs.PlainDefinitions.{FollowedBy, AreRoundRing, start_of, start_known, KnowsFirst, ClientsLearnInTurn, Frame}
 use Rattle.sc_live_plain.proofs.PlainProofs.PlainKnownGroups.{Follows, follows, IsChosen, among_first, chosen_is, parts_of, take_prefix}
 use Rattle.sc_live_plain.proofs.PlainRowsProofs.Lists.{map_among}
 use Rattle.sc_live_plain.proofs.PlainProofs.PlainKnownGroups.{map_push as map_last}

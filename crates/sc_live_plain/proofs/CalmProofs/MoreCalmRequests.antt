@@ -5,10 +5,10 @@ use Rattle.std.proofs.lemmas.Bool.{cond_both}
 use Rattle.sc_base.specs.Definitions.{Each}
 use Rattle.sc_node_table.specs.Values.{Draw, Op, Got, AnswerBody, Value, NotLeader, NotMine, Gone, Stale, Mail, MailBody, Request, Answer}
 use Rattle.sc_actor.specs.declared.rows.Input.TheVariants.{Go}
-use Rattle.sc_client_table.specs.lookup.Definitions.{target_in, preferring, passed_on, learnt_from_not_mine, learnt_from_gone}
-use Rattle.sc_client_table.specs.table.Definitions.{Client as ClientState, waiting_request, ClientStep, asked_of, sent_where, chosen_for, request_sent, started, waits_for, was_asked, redirected, answer_taken, got, table}
-use Rattle.sc_node_table.specs.Definitions.{NodeState}
-use Rattle.sc_live_plain.specs.Definitions.{Other, mark, Setting, IsCalmNode, IsAsideBody, IsCalmMail, Requests}
+use Rattle.sc_client_table.specs.lookup.LookupDefinitions.{target_in, preferring, passed_on, learnt_from_not_mine, learnt_from_gone}
+use Rattle.sc_client_table.specs.table.TableDefinitions.{Client as ClientState, waiting_request, ClientStep, asked_of, sent_where, chosen_for, request_sent, started, waits_for, was_asked, redirected, answer_taken, got, table}
+use Rattle.sc_node_table.specs.NodeDefinitions.{NodeState}
+use Rattle.sc_live_plain.specs.PlainDefinitions.{Other, mark, Setting, IsCalmNode, IsAsideBody, IsCalmMail, Requests}
 use Rattle.sc_live_plain.proofs.PlainProofs.MorePlainRequests.{IsMore, mail_more, node_more}
 
 module _ (one two : Requests) (more : IsMore one two) (set : Setting) where

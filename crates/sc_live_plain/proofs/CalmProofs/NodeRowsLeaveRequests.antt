@@ -6,15 +6,15 @@ use Rattle.sc_node_table.specs.Values.{Draw, Op, Route, OrderLine, AnswerBody, N
 use Rattle.sc_base.proofs.Lemmas.{draw_is, same_name}
 use Rattle.sc_actor.specs.declared.rows.Input.TheVariants.{Go as GoInput}
 use Rattle.sc_actor.specs.Definitions.{mails, value, acted, input_of, System, row_of, has_started, waiting, kth}
-use Rattle.sc_words.proofs.PaxosProofs.Lemmas.{find_found}
-use Rattle.sc_client_table.specs.table.Definitions.{Client as ClientState}
-use Rattle.sc_node_table.specs.Definitions.{NodeState, replica_of, is_node, node_table, ReplicaState, Place, name_of}
+use Rattle.sc_words.proofs.PaxosProofs.PaxosLemmas.{find_found}
+use Rattle.sc_client_table.specs.table.TableDefinitions.{Client as ClientState}
+use Rattle.sc_node_table.specs.NodeDefinitions.{NodeState, replica_of, is_node, node_table, ReplicaState, Place, name_of}
 use Rattle.sc_scenario.specs.declared.scenario.scenarios.Asks.{Asks}
 use Rattle.sc_scenario.specs.declared.scenario.scenarios.Scenario.{Scenario}
-use Rattle.sc_meaning.specs.sound.Definitions.{Player, player_table, node_seat, client_seat, route_of, births, system_of, as_nodes}
-use Rattle.sc_live_orderly.specs.Definitions.{IsTidy, IsInOrder, rest, mail_for, taken}
-use Rattle.sc_live_orderly.proofs.Lemmas.{TakesFirst, rest-row}
-use Rattle.sc_live_plain.specs.Definitions.{IsAskingNode, IsAsking, AreFarFromLast, replica_at, IsLinkedSetting, Setting, IsSetting, Frame, IsBegun, IsWaiting, IsPlainBody}
+use Rattle.sc_meaning.specs.sound.SoundDefinitions.{Player, player_table, node_seat, client_seat, route_of, births, system_of, as_nodes}
+use Rattle.sc_live_orderly.specs.OrderlyDefinitions.{IsTidy, IsInOrder, rest, mail_for, taken}
+use Rattle.sc_live_orderly.proofs.OrderlyLemmas.{TakesFirst, rest-row}
+use Rattle.sc_live_plain.specs.PlainDefinitions.{IsAskingNode, IsAsking, AreFarFromLast, replica_at, IsLinkedSetting, Setting, IsSetting, Frame, IsBegun, IsWaiting, IsPlainBody}
 use Rattle.sc_live_plain.proofs.CalmProofs.RequestPhaseNodes as turns_of
 use Rattle.sc_live_plain.proofs.PlainProofs.PlainBeginnings.{IsStage}
 use Rattle.sc_live_plain.proofs.PlainProofs.PlainSteps.{node_number, value_others, client_away}

@@ -5,13 +5,13 @@ use Rattle.std.proofs.lemmas.Bool.{cases_Bool, cases_eq, cases_lt, both_ways, an
 use Rattle.std.proofs.lemmas.Option.{slice_get_past}
 use Rattle.sc_base.specs.Definitions.{Among, Each, votes_of, is_majority, is_member}
 use Rattle.sc_node_table.specs.Values.{Draw, Command, Flight}
-use Rattle.sc_words.specs.paxos.Definitions.{below}
-use Rattle.sc_words.proofs.PaxosProofs.Lemmas.{Each-among}
-use Rattle.sc_group_table.specs.machine.Definitions.{Group}
-use Rattle.sc_node_table.specs.Definitions.{ReplicaState, name_of, next, members, may_offer, numbers_from, slots_ahead}
+use Rattle.sc_words.specs.paxos.PaxosDefinitions.{below}
+use Rattle.sc_words.proofs.PaxosProofs.PaxosLemmas.{Each-among}
+use Rattle.sc_group_table.specs.machine.MachineDefinitions.{Group}
+use Rattle.sc_node_table.specs.NodeDefinitions.{ReplicaState, name_of, next, members, may_offer, numbers_from, slots_ahead}
 use Rattle.sc_paxos_law.proofs.Lemmas.{place_among, among-member}
-use Rattle.sc_live_steps.specs.calm.Definitions.{View as Replicas, IsAtRest, IsUpToDate, StandsQuiet}
-use Rattle.sc_live_plain.specs.Definitions.{IsOfNodes, IsKept, frame_at_rest, view_at_rest, StandsPlain, QuietGroupsStandPlain, IsBetween, next_in, voters_in, votes_in, Frame, IsFrame, IsBegun, Requests, IsPlainCommand, takers, AreTaken, IsPlainGroup, IsPlainFlight, IsPlainLeader, IsPlainFollower, IsPlainVoter, IsPlainReplica, IsLeading, IsSettled, IsPlainAt}
+use Rattle.sc_live_steps.specs.calm.CalmDefinitions.{View as Replicas, IsAtRest, IsUpToDate, StandsQuiet}
+use Rattle.sc_live_plain.specs.PlainDefinitions.{IsOfNodes, IsKept, frame_at_rest, view_at_rest, StandsPlain, QuietGroupsStandPlain, IsBetween, next_in, voters_in, votes_in, Frame, IsFrame, IsBegun, Requests, IsPlainCommand, takers, AreTaken, IsPlainGroup, IsPlainFlight, IsPlainLeader, IsPlainFollower, IsPlainVoter, IsPlainReplica, IsLeading, IsSettled, IsPlainAt}
 use Rattle.sc_live_plain.proofs.PlainRowsProofs.SlotCounts.{one_if, one_no}
 use Rattle.sc_live_plain.proofs.LeadersProofs.LeadingReplicas.{in_range, range_before, range_behind}
 use Rattle.sc_live_plain.proofs.PlainRowsProofs.Lists.{some_is}

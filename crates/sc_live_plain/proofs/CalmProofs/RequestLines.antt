@@ -4,16 +4,16 @@ use Rattle.std.proofs.lemmas.Bool.{both_ways}
 use Rattle.sc_base.specs.Definitions.{Among, client_actor, is_member}
 use Rattle.sc_node_table.specs.Values.{Base, OrderLine, Mail, Answer, Node, Client, Seat}
 use Rattle.sc_actor.specs.Definitions.{value, System, has_started}
-use Rattle.sc_client_table.specs.table.Definitions.{Client as ClientState}
-use Rattle.sc_node_table.specs.Definitions.{replica_of, ReplicaState, numbers_from, slots_ahead}
+use Rattle.sc_client_table.specs.table.TableDefinitions.{Client as ClientState}
+use Rattle.sc_node_table.specs.NodeDefinitions.{replica_of, ReplicaState, numbers_from, slots_ahead}
 use Rattle.sc_scenario.specs.declared.scenario.scenarios.Asks.{Asks}
 use Rattle.sc_scenario.specs.declared.scenario.scenarios.Scenario.{Scenario}
 use Rattle.sc_scenario.specs.scenario.Definitions.{ValidScenariosAreBounded}
-use Rattle.sc_meaning.specs.sound.Definitions.{Player, player_table, node_seat, client_seat, route_of, births, system_of, as_nodes}
-use Rattle.sc_live_orderly.specs.Definitions.{rest, is_born}
-use Rattle.sc_live_orderly.proofs.Lemmas.{is_born-from, seat_found}
+use Rattle.sc_meaning.specs.sound.SoundDefinitions.{Player, player_table, node_seat, client_seat, route_of, births, system_of, as_nodes}
+use Rattle.sc_live_orderly.specs.OrderlyDefinitions.{rest, is_born}
+use Rattle.sc_live_orderly.proofs.OrderlyLemmas.{is_born-from, seat_found}
 use Rattle.sc_paxos_law.proofs.Lemmas.{Among-right}
-use Rattle.sc_live_plain.specs.Definitions.{IsAsking, AreRequests, NobodyWaits, AreSeated, HaveAllReplies, LinesAreAnswered, Asks as AsksFor, Votes, mark, IsVoting, replica_at, votes_in, marks_at, IsLinkedSetting, IsCalmClient, Setting, IsSetting, Frame, IsBegun, IsWaiting}
+use Rattle.sc_live_plain.specs.PlainDefinitions.{IsAsking, AreRequests, NobodyWaits, AreSeated, HaveAllReplies, LinesAreAnswered, Asks as AsksFor, Votes, mark, IsVoting, replica_at, votes_in, marks_at, IsLinkedSetting, IsCalmClient, Setting, IsSetting, Frame, IsBegun, IsWaiting}
 use Rattle.sc_live_plain.proofs.CalmProofs.RequestPhaseClients.{asking_row}
 use Rattle.sc_live_plain.proofs.CalmProofs.CalmWaitingRequests.{sought_row}
 use Rattle.sc_live_plain.proofs.CalmProofs.SoughtRequests.{AreSought}

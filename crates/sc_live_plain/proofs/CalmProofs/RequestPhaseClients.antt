@@ -6,15 +6,15 @@ use Rattle.sc_base.specs.Definitions.{Among, Each, client_actor}
 use Rattle.sc_node_table.specs.Values.{Draw, Base, OrderLine, Mail, Seat, Row, Event, Deliver, Go, Got, Client}
 use Rattle.sc_actor.specs.declared.rows.Input.TheVariants.{Go as GoInput}
 use Rattle.sc_actor.specs.Definitions.{mails, is_delivery, value, acted, input_of, System, row_of, has_started, waiting, kth}
-use Rattle.sc_node_table.specs.Definitions.{is_node}
-use Rattle.sc_client_table.specs.table.Definitions.{ClientStep, table}
+use Rattle.sc_node_table.specs.NodeDefinitions.{is_node}
+use Rattle.sc_client_table.specs.table.TableDefinitions.{ClientStep, table}
 use Rattle.sc_scenario.specs.declared.scenario.scenarios.Asks.{Asks}
 use Rattle.sc_scenario.specs.declared.scenario.scenarios.Scenario.{Scenario}
 use Rattle.sc_scenario.specs.scenario.Definitions.{ValidScenariosAreBounded}
-use Rattle.sc_meaning.specs.sound.Definitions.{Player, player_table, node_seat, client_seat, route_of, births, system_of, as_nodes}
-use Rattle.sc_live_orderly.specs.Definitions.{IsTidy, IsOrderly, IsInOrder, rest, mail_for, taken}
-use Rattle.sc_live_orderly.proofs.Lemmas.{TakesFirst, takes_first, is_born-from, rest-row}
-use Rattle.sc_live_plain.specs.Definitions.{IsAskingClient, IsAsking, AreFarFromLast, RequestsGoOn, Other, mark, marks_for, marks_at, IsOther, IsTaken, IsLinkedSetting, IsCalmClient, BeginsBy, StaysCalm, Setting, IsSetting, IsCalmMail, begun_ones, IsBegun}
+use Rattle.sc_meaning.specs.sound.SoundDefinitions.{Player, player_table, node_seat, client_seat, route_of, births, system_of, as_nodes}
+use Rattle.sc_live_orderly.specs.OrderlyDefinitions.{IsTidy, IsOrderly, IsInOrder, rest, mail_for, taken}
+use Rattle.sc_live_orderly.proofs.OrderlyLemmas.{TakesFirst, takes_first, is_born-from, rest-row}
+use Rattle.sc_live_plain.specs.PlainDefinitions.{IsAskingClient, IsAsking, AreFarFromLast, RequestsGoOn, Other, mark, marks_for, marks_at, IsOther, IsTaken, IsLinkedSetting, IsCalmClient, BeginsBy, StaysCalm, Setting, IsSetting, IsCalmMail, begun_ones, IsBegun}
 use Rattle.sc_live_plain.proofs.PlainProofs.ActingClients.{becomes, begins_more, begins_by, takes_is, starts_is, starts_more, starts_now}
 use Rattle.sc_live_plain.proofs.CalmProofs.MoreCalmRequests.{aside_mark, takes_only, go_only}
 use Rattle.sc_live_plain.proofs.CalmProofs.RequestPhaseNodes as turns_of

@@ -7,14 +7,14 @@ use Rattle.sc_base.specs.Definitions.{Among, Each, client_actor}
 use Rattle.sc_node_table.specs.Values.{Op, OrderLine, Mail, Seat, Event, Deliver, Go, Got, Row, Node}
 use Rattle.sc_actor.specs.declared.rows.Input.TheVariants.{Go as GoInput}
 use Rattle.sc_actor.specs.Definitions.{mails, value, acted, input_of, System, row_of, has_started, waiting, kth}
-use Rattle.sc_words.proofs.PaxosProofs.Lemmas.{Each-weaker, Each-append, Each-filter}
-use Rattle.sc_node_table.specs.Definitions.{NodeState, is_node, node_table}
+use Rattle.sc_words.proofs.PaxosProofs.PaxosLemmas.{Each-weaker, Each-append, Each-filter}
+use Rattle.sc_node_table.specs.NodeDefinitions.{NodeState, is_node, node_table}
 use Rattle.sc_scenario.specs.declared.scenario.scenarios.Asks.{Asks}
 use Rattle.sc_scenario.specs.declared.scenario.scenarios.Scenario.{Scenario}
-use Rattle.sc_meaning.specs.sound.Definitions.{Player, player_table, node_seat, client_seat, route_of, births, system_of, as_nodes}
-use Rattle.sc_live_orderly.specs.Definitions.{IsTidy, IsOrderly, IsInOrder, rest, is_born, mail_for, taken}
-use Rattle.sc_live_orderly.proofs.Lemmas.{TakesFirst, takes_first, is_born-from, rest-row}
-use Rattle.sc_live_plain.specs.Definitions.{IsAskingNode, IsAskingClient, IsAsking, AreFarFromLast, Other, mark, marks_for, marks_at, next_in, replica_at, IsGroupAt, IsOther, IsCalmClient, Setting, IsSetting, IsCalmNode, IsCalmMail, ComesInTime, Frame, IsBegun}
+use Rattle.sc_meaning.specs.sound.SoundDefinitions.{Player, player_table, node_seat, client_seat, route_of, births, system_of, as_nodes}
+use Rattle.sc_live_orderly.specs.OrderlyDefinitions.{IsTidy, IsOrderly, IsInOrder, rest, is_born, mail_for, taken}
+use Rattle.sc_live_orderly.proofs.OrderlyLemmas.{TakesFirst, takes_first, is_born-from, rest-row}
+use Rattle.sc_live_plain.specs.PlainDefinitions.{IsAskingNode, IsAskingClient, IsAsking, AreFarFromLast, Other, mark, marks_for, marks_at, next_in, replica_at, IsGroupAt, IsOther, IsCalmClient, Setting, IsSetting, IsCalmNode, IsCalmMail, ComesInTime, Frame, IsBegun}
 use Rattle.sc_live_plain.proofs.CalmProofs.MoreCalmRequests.{calm_mail_more, calm_node_more}
 use Rattle.sc_live_plain.proofs.PlainProofs.MorePlainRequests.{IsMore}
 use Rattle.sc_live_plain.proofs.PlainRowsProofs.LeaderMailOfGroups.{due, group_idle, group_after}
@@ -23,7 +23,7 @@ use Rattle.sc_live_plain.proofs.PlainProofs.PlainBeginnings.{IsStage}
 use Rattle.sc_live_plain.proofs.PlainProofs.PlainSteps.{node_number, value_others, gone_others, begun_still, client_away}
 use Rattle.sc_live_plain.proofs.PlainRowsProofs.RowViews.{same_replicas, value_own, Journal, replica_is}
 use Rattle.sc_live_plain.proofs.CalmProofs.CalmNodes.{aside_mail, aside_mail_mark, step_is, Turns, turns, stays_by, me_stays}
-use Rattle.sc_law_walks.proofs.Lemmas.{Each-drop}
+use Rattle.sc_law_walks.proofs.WalkLemmas.{Each-drop}
 
 module _ (words : ℕ → ℕ → ℕ × ℕ) (scenario : Scenario) (stage : IsStage scenario) (set : Setting) (fact : IsSetting set) (rows : Journal) (t : IsTidy rows) (j : IsAsking words scenario set stage.first rows) where
   abbrev sys : System Player Mail OrderLine

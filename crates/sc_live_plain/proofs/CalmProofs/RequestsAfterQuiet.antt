@@ -3,18 +3,18 @@ use Rattle.std.proofs.Common.{◌≡◌, ℕ, ◌+◌, ◌≤◌, Bool, true, fa
 use Rattle.std.proofs.lemmas.Bool.{cases_Bool, both_ways}
 use Rattle.sc_base.specs.Definitions.{Among, Each, client_actor, is_member}
 use Rattle.sc_node_table.specs.Values.{Draw, Base, Route, Mail, Node}
-use Rattle.sc_client_table.specs.lookup.Definitions.{new_way}
-use Rattle.sc_client_table.specs.table.Definitions.{Client as ClientState}
-use Rattle.sc_node_table.specs.Definitions.{NodeState, replica_of, ReplicaState, name_of}
-use Rattle.sc_words.proofs.PaxosProofs.Lemmas.{Each-among}
+use Rattle.sc_client_table.specs.lookup.LookupDefinitions.{new_way}
+use Rattle.sc_client_table.specs.table.TableDefinitions.{Client as ClientState}
+use Rattle.sc_node_table.specs.NodeDefinitions.{NodeState, replica_of, ReplicaState, name_of}
+use Rattle.sc_words.proofs.PaxosProofs.PaxosLemmas.{Each-among}
 use Rattle.sc_scenario.specs.declared.scenario.scenarios.Asks.{Asks}
 use Rattle.sc_scenario.specs.declared.scenario.scenarios.Scenario.{Scenario}
 use Rattle.sc_scenario.specs.scenario.Definitions.{ValidScenariosAreBounded}
-use Rattle.sc_meaning.specs.sound.Definitions.{player_table, node_seat, route_of, system_of, as_nodes}
-use Rattle.sc_live_orderly.specs.Definitions.{rest, is_born}
+use Rattle.sc_meaning.specs.sound.SoundDefinitions.{player_table, node_seat, route_of, system_of, as_nodes}
+use Rattle.sc_live_orderly.specs.OrderlyDefinitions.{rest, is_born}
 use Rattle.sc_actor.specs.Definitions.{value, has_started}
-use Rattle.sc_live_steps.specs.calm.Definitions.{Ways, View as Replicas, StandsQuiet, IsAnswered}
-use Rattle.sc_live_plain.specs.Definitions.{IsAskingNode, IsAskingClient, IsAsking, NobodyWaits, replicas_after, setting_at, AreFramesOf, DoHintsRise, IsQuietJournal, QuietJournalsAsk, frame_at_rest, StandsPlain, Mark, Asks as AsksFor, Votes, Teaches, Other, mark, AreInOrder, IsBelow, View, IsBetween, replica_at, next_in, voters_in, votes_in, view_at, marks_at, IsGroupAt, IsOther, CanBeAsked, IsCalmClient, Setting, IsHome, IsSetting, KnowsBetter, IsCalmNode, IsCalmMail, Frame, IsFrame, IsBegun, Requests, IsPlainAt}
+use Rattle.sc_live_steps.specs.calm.CalmDefinitions.{Ways, View as Replicas, StandsQuiet, IsAnswered}
+use Rattle.sc_live_plain.specs.PlainDefinitions.{IsAskingNode, IsAskingClient, IsAsking, NobodyWaits, replicas_after, setting_at, AreFramesOf, DoHintsRise, IsQuietJournal, QuietJournalsAsk, frame_at_rest, StandsPlain, Mark, Asks as AsksFor, Votes, Teaches, Other, mark, AreInOrder, IsBelow, View, IsBetween, replica_at, next_in, voters_in, votes_in, view_at, marks_at, IsGroupAt, IsOther, CanBeAsked, IsCalmClient, Setting, IsHome, IsSetting, KnowsBetter, IsCalmNode, IsCalmMail, Frame, IsFrame, IsBegun, Requests, IsPlainAt}
 use Rattle.sc_live_plain.proofs.PlainProofs.PlainBeginnings.{IsStage, stage}
 use Rattle.sc_live_plain.proofs.PlainProofs.PlainSteps.{node_number}
 use Rattle.sc_live_plain.proofs.PlainRowsProofs.RowViews.{Journal, replica_is}

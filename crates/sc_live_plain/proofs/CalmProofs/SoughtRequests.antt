@@ -3,13 +3,13 @@ use Rattle.std.proofs.Common.{◌≡◌, ℕ, Some, ◌⊎◌, sym, ◌∙◌, a
 use Rattle.sc_base.specs.Definitions.{Among, client_actor}
 use Rattle.sc_node_table.specs.Values.{Draw, Op, AnswerBody, Answer, Client}
 use Rattle.sc_actor.specs.Definitions.{value}
-use Rattle.sc_client_table.specs.table.Definitions.{Client as ClientState}
-use Rattle.sc_node_table.specs.Definitions.{ReplicaState}
+use Rattle.sc_client_table.specs.table.TableDefinitions.{Client as ClientState}
+use Rattle.sc_node_table.specs.NodeDefinitions.{ReplicaState}
 use Rattle.sc_scenario.specs.declared.scenario.scenarios.Asks.{Asks}
 use Rattle.sc_scenario.specs.declared.scenario.scenarios.Scenario.{Scenario}
-use Rattle.sc_meaning.specs.sound.Definitions.{player_table, client_seat, route_of, system_of, as_nodes}
-use Rattle.sc_live_orderly.specs.Definitions.{IsTidy, rest}
-use Rattle.sc_live_plain.specs.Definitions.{IsAsking, replica_at, IsLinkedSetting, Setting, IsSetting, Frame, IsWaiting}
+use Rattle.sc_meaning.specs.sound.SoundDefinitions.{player_table, client_seat, route_of, system_of, as_nodes}
+use Rattle.sc_live_orderly.specs.OrderlyDefinitions.{IsTidy, rest}
+use Rattle.sc_live_plain.specs.PlainDefinitions.{IsAsking, replica_at, IsLinkedSetting, Setting, IsSetting, Frame, IsWaiting}
 use Rattle.sc_live_plain.proofs.PlainProofs.PlainBeginnings.{IsStage}
 use Rattle.sc_live_plain.proofs.PlainRowsProofs.RowViews.{Journal}
 use Rattle.sc_live_plain.proofs.CalmProofs.CalmClients.{EndsWait}

@@ -5,10 +5,10 @@ use Rattle.std.proofs.lemmas.Bool.{cond_both, cond-true, cond-false, cases_lt, c
 use Rattle.sc_base.specs.Definitions.{Among, Each, same_ballot, votes_of, is_majority, is_member}
 use Rattle.sc_base.proofs.Lemmas.{ballot_itself}
 use Rattle.sc_node_table.specs.Values.{Command, Call, Counted, Chosen, NotYet, Flight}
-use Rattle.sc_words.specs.paxos.Definitions.{LeaderState, flight_at, without_flight, without_flight_at, kept_voters, voters_after, with_voters, vote_at}
-use Rattle.sc_words.proofs.PaxosProofs.Lemmas.{find_found, Each-among}
-use Rattle.sc_node_table.specs.Definitions.{has_room, executed, ReplicaState, Place, Executed, childless, next, set_at, last_slot, at_slot, with_slot, numbers_from, slots_ahead, leads, readied, vote_tallied, voted, accepted_row}
-use Rattle.sc_live_plain.specs.Definitions.{Frame, IsFrame, replica_owes, Requests, IsPlainCommand, takers, IsPlainFlight, IsPlainLeader, IsPlainReplica, HasOffered}
+use Rattle.sc_words.specs.paxos.PaxosDefinitions.{LeaderState, flight_at, without_flight, without_flight_at, kept_voters, voters_after, with_voters, vote_at}
+use Rattle.sc_words.proofs.PaxosProofs.PaxosLemmas.{find_found, Each-among}
+use Rattle.sc_node_table.specs.NodeDefinitions.{has_room, executed, ReplicaState, Place, Executed, childless, next, set_at, last_slot, at_slot, with_slot, numbers_from, slots_ahead, leads, readied, vote_tallied, voted, accepted_row}
+use Rattle.sc_live_plain.specs.PlainDefinitions.{Frame, IsFrame, replica_owes, Requests, IsPlainCommand, takers, IsPlainFlight, IsPlainLeader, IsPlainReplica, HasOffered}
 use Rattle.sc_live_plain.proofs.LeadersProofs.LeaderRequests.{begins}
 use Rattle.sc_live_plain.proofs.PlainRowsProofs.SlotCounts.{found_one, one_if, one_if_most, one_yes, one_no, entries_at, with_length, with_count, with_each, with_among, with_it, with_at, out_length, out_here, out_other, out_each, out_among}
 use Rattle.sc_live_plain.proofs.LeadersProofs.Flights.{others_out, voted_length, voted_count, voted_each, voted_value, voted_others, voted_here, only_flight, no_flight_at, numbered_get, numbered_past, closed_set}

@@ -6,11 +6,11 @@ use Rattle.std.specs.FinMap.{get, insert, remove, get-insert, get-remove}
 use Rattle.std.specs.Prelude.{is_none}
 use Rattle.std.proofs.lemmas.Bool.{cond_both, eqb-true, eqb-false, ltb-false, both_ways}
 use Rattle.sc_node_table.specs.Values.{Noted, Op, Get, Put, Del, Add, Cas, Reply, Call, Core, Lock, Free, Effect, Route, AnswerBody, Value, Stale}
-use Rattle.sc_words.specs.ideal.Definitions.{Contents, key_of, holds_key, reply_of, after, was}
+use Rattle.sc_words.specs.ideal.IdealDefinitions.{Contents, key_of, holds_key, reply_of, after, was}
 use Rattle.sc_words.specs.declared.commands.effects.Effect.TheVariants as Was
-use Rattle.sc_group_table.specs.machine.Definitions.{Group, done, served_by_note, served, called, applied}
-use Rattle.sc_node_table.specs.Definitions.{answer_of, entered, forgotten, ReplicaState}
-use Rattle.sc_live_plain.specs.Definitions.{Frame, IsFrame, answer_owes, Requests, written_by, IsWrittenValue, IsPlainCall, IsPlainAnswer, IsPlainGroup}
+use Rattle.sc_group_table.specs.machine.MachineDefinitions.{Group, done, served_by_note, served, called, applied}
+use Rattle.sc_node_table.specs.NodeDefinitions.{answer_of, entered, forgotten, ReplicaState}
+use Rattle.sc_live_plain.specs.PlainDefinitions.{Frame, IsFrame, answer_owes, Requests, written_by, IsWrittenValue, IsPlainCall, IsPlainAnswer, IsPlainGroup}
 use Rattle.sc_live_plain.proofs.PlainRowsProofs.Lists.{some_is}
 
 -- what a key has after an operation is what it had, or what the operation writes

@@ -4,11 +4,11 @@ use Rattle.std.specs.Option.{option_map}
 use Rattle.std.proofs.lemmas.Bool.{cases_lt, eqb-true, eq-eqb, lt-ltb, both_ways}
 use Rattle.sc_base.specs.Definitions.{Among, is_member, votes_of, is_majority}
 use Rattle.sc_node_table.specs.Values.{Command, Call, Flight}
-use Rattle.sc_words.specs.paxos.Definitions.{kept_voters}
-use Rattle.sc_words.proofs.PaxosProofs.Lemmas.{Each-among, find_found}
-use Rattle.sc_node_table.specs.Definitions.{ReplicaState, next}
+use Rattle.sc_words.specs.paxos.PaxosDefinitions.{kept_voters}
+use Rattle.sc_words.proofs.PaxosProofs.PaxosLemmas.{Each-among, find_found}
+use Rattle.sc_node_table.specs.NodeDefinitions.{ReplicaState, next}
 use Rattle.sc_paxos_law.proofs.Lemmas.{among-member}
-use Rattle.sc_live_plain.specs.Definitions.{voters_in, Frame, IsFrame, Requests, takers, IsPlainFlight, IsLeading}
+use Rattle.sc_live_plain.specs.PlainDefinitions.{voters_in, Frame, IsFrame, Requests, takers, IsPlainFlight, IsLeading}
 use Rattle.sc_live_plain.proofs.PlainRowsProofs.SlotCounts.{one_yes, one_no, count-cons, find_some}
 use Rattle.sc_live_plain.proofs.LeadersProofs.LeadingReplicas.{in_range, range_yes, range_before, range_behind, IsHeld}
 

@@ -5,11 +5,11 @@ use Rattle.std.proofs.lemmas.Bool.{cond_both, cond-true, cond-false, eqb-true, l
 use Rattle.std.proofs.lemmas.List.{length_push}
 use Rattle.sc_base.specs.Definitions.{Among, Each, client_actor}
 use Rattle.sc_node_table.specs.Values.{Op, Command, Call, Core, Route, AnswerBody, Answer}
-use Rattle.sc_words.specs.ideal.Definitions.{key_of, holds_key}
+use Rattle.sc_words.specs.ideal.IdealDefinitions.{key_of, holds_key}
 use Rattle.sc_mail.specs.declared.bodies.AnswerBody.TheVariants as Says
-use Rattle.sc_words.proofs.PaxosProofs.Lemmas.{Each-push}
-use Rattle.sc_node_table.specs.Definitions.{admits_requests, pumped, queued_number, without_request, ReplicaState, Place, next, last_slot, request_refusal, queued, requested, request_row, numbers_from}
-use Rattle.sc_live_plain.specs.Definitions.{Frame, IsFrame, replica_owes, Requests, IsPlainCommand, IsPlainCall, IsPlainLeader, IsPlainReplica, HasOffered}
+use Rattle.sc_words.proofs.PaxosProofs.PaxosLemmas.{Each-push}
+use Rattle.sc_node_table.specs.NodeDefinitions.{admits_requests, pumped, queued_number, without_request, ReplicaState, Place, next, last_slot, request_refusal, queued, requested, request_row, numbers_from}
+use Rattle.sc_live_plain.specs.PlainDefinitions.{Frame, IsFrame, replica_owes, Requests, IsPlainCommand, IsPlainCall, IsPlainLeader, IsPlainReplica, HasOffered}
 use Rattle.sc_live_plain.proofs.LeadersProofs.LeadingReplicas.{early_taken, IsHeld, Leads}
 use Rattle.sc_live_plain.proofs.LeadersProofs.LeaderExecutions.{IsRun, pumped_run}
 use Rattle.sc_live_plain.proofs.PlainRowsProofs.RepeatedMail.{mail_of, among_push, last_among}

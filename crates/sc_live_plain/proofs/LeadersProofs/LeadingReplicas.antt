@@ -6,10 +6,10 @@ use Rattle.std.specs.Option.{option_map}
 use Rattle.std.proofs.lemmas.Bool.{cond-false, cases_lt, cases_eq, le-leb, lt-leb, lt-ltb, le-ltb, eq-eqb, ne_eqb, and_from, and_left, and_right, or_parts, or_from}
 use Rattle.sc_base.specs.Definitions.{Among, Each, client_actor, is_member}
 use Rattle.sc_node_table.specs.Values.{Op, Command, Call, AnswerBody, Mail, MailBody, Answer, Accept, Learn, Flight}
-use Rattle.sc_words.specs.paxos.Definitions.{flight_at}
-use Rattle.sc_words.proofs.PaxosProofs.Lemmas.{Each-among, find_found}
-use Rattle.sc_node_table.specs.Definitions.{is_act, from_backlog, from_acts, from_queues, offered, ReplicaState, Place, next, flying, either, taken_at, listed, taken_from, under_way, open_slots, at_slot, numbers_from}
-use Rattle.sc_live_plain.specs.Definitions.{Frame, answer_owes, mail_owes, replica_owes, Requests, IsPlainCommand, IsPlainBody, takers, AreTaken, IsPlainLeader, IsPlainReplica}
+use Rattle.sc_words.specs.paxos.PaxosDefinitions.{flight_at}
+use Rattle.sc_words.proofs.PaxosProofs.PaxosLemmas.{Each-among, find_found}
+use Rattle.sc_node_table.specs.NodeDefinitions.{is_act, from_backlog, from_acts, from_queues, offered, ReplicaState, Place, next, flying, either, taken_at, listed, taken_from, under_way, open_slots, at_slot, numbers_from}
+use Rattle.sc_live_plain.specs.PlainDefinitions.{Frame, answer_owes, mail_owes, replica_owes, Requests, IsPlainCommand, IsPlainBody, takers, AreTaken, IsPlainLeader, IsPlainReplica}
 use Rattle.sc_live_plain.proofs.PlainRowsProofs.SlotCounts.{one_if, one_yes, one_no, count-cons, count-push, find_none, find_some, at_none, at_some, at_found}
 use Rattle.sc_live_plain.proofs.PlainRowsProofs.RepeatedMail.{learns_to, mail_of}
 

@@ -5,11 +5,11 @@ use Rattle.std.proofs.lemmas.Bool.{cond_both, cond-true, cond-false, cases_lt, c
 use Rattle.std.proofs.lemmas.List.{length_push}
 use Rattle.sc_base.specs.Definitions.{Among, Each, votes_of}
 use Rattle.sc_node_table.specs.Values.{Ballot, Draw, Op, Command, Call, Core, Lock, Free, Route, AnswerBody, Mail, MailBody, Accept, Must, Flight}
-use Rattle.sc_words.specs.ideal.Definitions.{key_of, holds_key}
-use Rattle.sc_words.proofs.PaxosProofs.Lemmas.{Each-push, Each-weaker}
-use Rattle.sc_node_table.specs.Definitions.{sent_all, answered, Found, admits_requests, waits, refused_by, turned_down, next_queued, from_backlog, found_by, found_for, offered, pumped_from, pumped, ReplicaState, Place, name_of, next, first_set, settled, may_offer, taken_at, is_idle, last_slot, numbers_from, slots_ahead}
+use Rattle.sc_words.specs.ideal.IdealDefinitions.{key_of, holds_key}
+use Rattle.sc_words.proofs.PaxosProofs.PaxosLemmas.{Each-push, Each-weaker}
+use Rattle.sc_node_table.specs.NodeDefinitions.{sent_all, answered, Found, admits_requests, waits, refused_by, turned_down, next_queued, from_backlog, found_by, found_for, offered, pumped_from, pumped, ReplicaState, Place, name_of, next, first_set, settled, may_offer, taken_at, is_idle, last_slot, numbers_from, slots_ahead}
 use Rattle.sc_paxos_law.proofs.Lemmas.{among-member}
-use Rattle.sc_live_plain.specs.Definitions.{Frame, IsFrame, mail_owes, replica_owes, Requests, IsPlainCommand, IsPlainCall, IsPlainFlight, IsPlainLeader, IsPlainReplica}
+use Rattle.sc_live_plain.specs.PlainDefinitions.{Frame, IsFrame, mail_owes, replica_owes, Requests, IsPlainCommand, IsPlainCall, IsPlainFlight, IsPlainLeader, IsPlainReplica}
 use Rattle.sc_live_plain.proofs.PlainRowsProofs.SlotCounts.{one_yes, one_no}
 use Rattle.sc_live_plain.proofs.LeadersProofs.LeadingReplicas.{in_range, range_yes, range_behind, takes, takes_not, plain_acts, requests_only, offer_taken, IsHeld, IsReportedOf, IsSaid, IsNew, later_row, Leads}
 use Rattle.sc_live_plain.proofs.PlainRowsProofs.RepeatedMail.{mail_of, all_each, all_owed, all_learns, all_kept, all_reached, among_push, last_among}

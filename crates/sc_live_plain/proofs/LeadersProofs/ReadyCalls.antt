@@ -3,13 +3,13 @@ use Rattle.std.proofs.Common.{◌≡◌, ℕ, ◌+◌, ◌-◌, ◌<◌, ◌≤�
 use Rattle.std.proofs.lemmas.Bool.{cond_both, cond-true, cases_eq, eq-eqb, ne_eqb}
 use Rattle.sc_base.specs.Definitions.{Among, Each, client_actor, is_member, IsRoster}
 use Rattle.sc_node_table.specs.Values.{Op, Command, Call, Core, Mail, Answer, Learn, Flight}
-use Rattle.sc_words.specs.paxos.Definitions.{without_flight}
-use Rattle.sc_words.proofs.PaxosProofs.Lemmas.{Each-among, Each-push, Each-weaker}
-use Rattle.sc_group_table.specs.machine.Definitions.{applied}
-use Rattle.sc_node_table.specs.Definitions.{entered, executed_one, answer_to, sent_others, ReplicaState, Place, name_of, next, members, forgotten, at_slot, without_slot, numbers_from, slots_ahead}
-use Rattle.sc_law_walks.proofs.Lemmas.{cleared, entered_next}
+use Rattle.sc_words.specs.paxos.PaxosDefinitions.{without_flight}
+use Rattle.sc_words.proofs.PaxosProofs.PaxosLemmas.{Each-among, Each-push, Each-weaker}
+use Rattle.sc_group_table.specs.machine.MachineDefinitions.{applied}
+use Rattle.sc_node_table.specs.NodeDefinitions.{entered, executed_one, answer_to, sent_others, ReplicaState, Place, name_of, next, members, forgotten, at_slot, without_slot, numbers_from, slots_ahead}
+use Rattle.sc_law_walks.proofs.WalkLemmas.{cleared, entered_next}
 use Rattle.sc_paxos_law.proofs.Lemmas.{among-member}
-use Rattle.sc_live_plain.specs.Definitions.{Frame, IsFrame, mail_owes, replica_owes, Requests, IsPlainCommand, IsPlainCall, takers, IsPlainFlight, IsPlainLeader, IsPlainReplica}
+use Rattle.sc_live_plain.specs.PlainDefinitions.{Frame, IsFrame, mail_owes, replica_owes, Requests, IsPlainCommand, IsPlainCall, takers, IsPlainFlight, IsPlainLeader, IsPlainReplica}
 use Rattle.sc_live_plain.proofs.PlainRowsProofs.SlotCounts.{one_if, one_yes, one_no, entries_at, out_none, out_length, out_here, out_other, out_each, out_among, at_found, at_only}
 use Rattle.sc_live_plain.proofs.LeadersProofs.PlainEntries.{entered_plain, recorded_after, counted_call}
 use Rattle.sc_live_plain.proofs.LeadersProofs.LeadingReplicas.{in_range, range_yes, range_less, flights_at, IsHeld, IsReportedOf, IsSaid, later_row, Leads}

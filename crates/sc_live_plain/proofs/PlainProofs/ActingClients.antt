@@ -8,12 +8,12 @@ use Rattle.sc_base.specs.Definitions.{Among, client_actor}
 use Rattle.sc_node_table.specs.Values.{Op, OrderLine, Mail, Seat, Row, Event, Deliver, Go, Got, Client}
 use Rattle.sc_actor.specs.declared.rows.Input.TheVariants.{Go as GoInput}
 use Rattle.sc_actor.specs.Definitions.{mails, value, acted, input_of, row_of, has_started, is_go}
-use Rattle.sc_client_table.specs.table.Definitions.{Client as ClientState, ClientStep, table}
+use Rattle.sc_client_table.specs.table.TableDefinitions.{Client as ClientState, ClientStep, table}
 use Rattle.sc_scenario.specs.declared.scenario.scenarios.Asks.{Asks}
 use Rattle.sc_scenario.specs.declared.scenario.scenarios.Scenario.{Scenario}
-use Rattle.sc_meaning.specs.sound.Definitions.{Player, player_table, client_seat, route_of, system_of, as_nodes}
-use Rattle.sc_live_orderly.proofs.Lemmas.{TakesFirst}
-use Rattle.sc_live_plain.specs.Definitions.{IsWaiting, IsResting, BeginsBy, begun_ones, waiting_ones, begun_of, IsBegun}
+use Rattle.sc_meaning.specs.sound.SoundDefinitions.{Player, player_table, client_seat, route_of, system_of, as_nodes}
+use Rattle.sc_live_orderly.proofs.OrderlyLemmas.{TakesFirst}
+use Rattle.sc_live_plain.specs.PlainDefinitions.{IsWaiting, IsResting, BeginsBy, begun_ones, waiting_ones, begun_of, IsBegun}
 use Rattle.sc_live_plain.proofs.PlainProofs.MorePlainRequests.{IsMore}
 use Rattle.sc_live_plain.proofs.PlainProofs.PlainBeginnings.{IsStage}
 use Rattle.sc_live_plain.proofs.PlainProofs.PlainSteps.{value_others, begun_more, same_client}

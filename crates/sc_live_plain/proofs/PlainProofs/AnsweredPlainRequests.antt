@@ -8,9 +8,9 @@ use Rattle.sc_actor.proofs.Lemmas.{value-snoc}
 use Rattle.sc_client_table.proofs.TableProofs.TurnLemmas.{sends_in_turn}
 use Rattle.sc_scenario.specs.declared.scenario.scenarios.SchedLine.{SchedLine}
 use Rattle.sc_scenario.specs.declared.scenario.scenarios.SchedLine.TheVariants.{Settle, Free}
-use Rattle.sc_meaning.specs.sound.Definitions.{Player, player_table, line_of, replies_of}
-use Rattle.sc_live_orderly.proofs.Lemmas.{IsManyLine}
-use Rattle.sc_live_plain.specs.Definitions.{delivers}
+use Rattle.sc_meaning.specs.sound.SoundDefinitions.{Player, player_table, line_of, replies_of}
+use Rattle.sc_live_orderly.proofs.OrderlyLemmas.{IsManyLine}
+use Rattle.sc_live_plain.specs.PlainDefinitions.{delivers}
 use Rattle.sc_live_plain.proofs.PlainRowsProofs.RowViews.{Journal}
 
 -- ---- replies only grow

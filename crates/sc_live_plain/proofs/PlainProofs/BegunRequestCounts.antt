@@ -5,11 +5,11 @@ use Rattle.std.proofs.lemmas.Bool.{cond_both}
 use Rattle.std.proofs.lemmas.List.{length_push}
 use Rattle.sc_base.specs.Definitions.{Among}
 use Rattle.sc_node_table.specs.Values.{Draw, Op, OrderLine, Mail, Row, AnswerBody, Value, NotLeader, NotMine, Gone, Stale, MailBody, Request, Answer}
-use Rattle.sc_client_table.specs.lookup.Definitions.{target_in, preferring, passed_on, learnt_from_not_mine, learnt_from_gone}
-use Rattle.sc_client_table.specs.table.Definitions.{Client, waiting_request, asked_of, sent_where, chosen_for, request_sent, started, waits_for, was_asked, redirected, answer_taken, got}
+use Rattle.sc_client_table.specs.lookup.LookupDefinitions.{target_in, preferring, passed_on, learnt_from_not_mine, learnt_from_gone}
+use Rattle.sc_client_table.specs.table.TableDefinitions.{Client, waiting_request, asked_of, sent_where, chosen_for, request_sent, started, waits_for, was_asked, redirected, answer_taken, got}
 use Rattle.sc_scenario.specs.declared.scenario.scenarios.Asks.{Asks}
 use Rattle.sc_scenario.specs.declared.scenario.scenarios.Scenario.{Scenario}
-use Rattle.sc_live_plain.specs.Definitions.{waiting_ones, begun_ones, IsBegun}
+use Rattle.sc_live_plain.specs.PlainDefinitions.{waiting_ones, begun_ones, IsBegun}
 
 pub asked_same : (client : Client) (group : Draw) (target : Option ℕ) (request : Option (ℕ × Op)) → begun_ones (asked_of client group target request).0 ≡ begun_ones client
 asked_same client group (Some target) (Some request) = refl

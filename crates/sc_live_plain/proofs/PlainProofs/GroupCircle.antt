@@ -8,7 +8,7 @@ use Rattle.sc_node_table.specs.Values.{Draw, Base}
 use Rattle.sc_scenario.specs.scenario.Definitions.{group_at, name_at, place_right, way, arc_at, base_at, bases_up_to, IsBounded}
 use Rattle.sc_scenario.specs.declared.scenario.drafts.GroupLine.{GroupLine}
 use Rattle.sc_scenario.specs.declared.scenario.scenarios.Scenario.{Scenario}
-use Rattle.sc_live_plain.specs.Definitions.{Frame, frame_of}
+use Rattle.sc_live_plain.specs.PlainDefinitions.{Frame, frame_of}
 use Rattle.sc_live_plain.proofs.PlainProofs.PlainBeginnings.{frames_of, stage, frame_is}
 use Rattle.sc_live_plain.proofs.PlainProofs.PlainKnownGroups.{IsBefore, IsRound}
 use Rattle.sc_live_plain.proofs.PlainRowsProofs.Lists.{some_is}

@@ -11,20 +11,20 @@ use Rattle.std.proofs.Math.Nat.{suc-mul, mul-le-mul_left, mul-le-mul_right}
 use Rattle.sc_base.specs.Definitions.{Among, Each, most_clients, most_requests, same_draw, is_member}
 use Rattle.sc_node_table.specs.Values.{Draw, Base, Seat}
 use Rattle.sc_base.proofs.Lemmas.{draw_is, same_name}
-use Rattle.sc_words.proofs.PaxosProofs.Lemmas.{at_least_itself, Each-among, Each-from_All, find_found}
-use Rattle.sc_group_table.specs.machine.Definitions.{group_of}
-use Rattle.sc_node_table.specs.Definitions.{born_replicas, born_node, replica_of, is_node, ReplicaState, name_of, first_ballot, born_replica, slots_ahead, numbers_from}
+use Rattle.sc_words.proofs.PaxosProofs.PaxosLemmas.{at_least_itself, Each-among, Each-from_All, find_found}
+use Rattle.sc_group_table.specs.machine.MachineDefinitions.{group_of}
+use Rattle.sc_node_table.specs.NodeDefinitions.{born_replicas, born_node, replica_of, is_node, ReplicaState, name_of, first_ballot, born_replica, slots_ahead, numbers_from}
 use Rattle.sc_scenario.specs.scenario.Definitions.{base_at, bases_up_to, IsBounded, IsBoundedClient}
 use Rattle.sc_scenario.specs.declared.scenario.drafts.GroupLine.{GroupLine}
 use Rattle.sc_scenario.specs.declared.scenario.scenarios.Asks.{Asks}
 use Rattle.sc_scenario.specs.declared.scenario.scenarios.Scenario.{Scenario}
-use Rattle.sc_meaning.specs.sound.Definitions.{Player, node_seat, client_seat, route_of, system_of, as_nodes}
-use Rattle.sc_client_table.specs.table.Definitions.{born_client}
-use Rattle.sc_live_orderly.specs.Definitions.{owed_at_birth}
+use Rattle.sc_meaning.specs.sound.SoundDefinitions.{Player, node_seat, client_seat, route_of, system_of, as_nodes}
+use Rattle.sc_client_table.specs.table.TableDefinitions.{born_client}
+use Rattle.sc_live_orderly.specs.OrderlyDefinitions.{owed_at_birth}
 use Rattle.sc_paxos_law.proofs.Lemmas.{from_map}
-use Rattle.sc_live_plain.specs.Definitions.{requests_of, budget_of, Frame, frame_of, replica_owes, player_owes, way_of, IsBegun, IsPlainClient, Requests, AreTaken, IsPlainReplica, IsSettled, IsPlainAt, IsPlainNode, replica_at, next_in, votes_in, IsGroupAt}
+use Rattle.sc_live_plain.specs.PlainDefinitions.{requests_of, budget_of, Frame, frame_of, replica_owes, player_owes, way_of, IsBegun, IsPlainClient, Requests, AreTaken, IsPlainReplica, IsSettled, IsPlainAt, IsPlainNode, replica_at, next_in, votes_in, IsGroupAt}
 use Rattle.sc_live_plain.proofs.PlainProofs.PlainBeginnings.{frames_of, stage}
-use Rattle.sc_law_groups.proofs.WholeProofs.Lemmas.{group_place}
+use Rattle.sc_law_groups.proofs.WholeProofs.WholeLemmas.{group_place}
 use Rattle.sc_live_plain.proofs.PlainRowsProofs.Sums.{shares, sum_mapped, none_together}
 use Rattle.sc_live_plain.proofs.PlainProofs.PlainInduction.{owing_of, IsPlainJournal}
 use Rattle.sc_live_plain.proofs.LeadersProofs.LeadingReplicas.{in_range, range_before, range_behind}

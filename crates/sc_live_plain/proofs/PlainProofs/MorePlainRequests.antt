@@ -1,10 +1,10 @@
 -- As more requests are begun, what is plain stays so.
 use Rattle.std.proofs.Common.{ℕ, List, inl, inr}
 use Rattle.sc_node_table.specs.Values.{Op, Command, Call, AnswerBody, Value, NotLeader, NotMine, Gone, Stale, Mail, MailBody, Request, Answer, Accept, Accepted, Learn, Flight}
-use Rattle.sc_words.proofs.PaxosProofs.Lemmas.{Each-weaker}
-use Rattle.sc_group_table.specs.machine.Definitions.{Group}
-use Rattle.sc_node_table.specs.Definitions.{NodeState, ReplicaState}
-use Rattle.sc_live_plain.specs.Definitions.{Frame, Requests, IsWrittenValue, IsPlainCall, IsPlainCommand, IsPlainAnswer, IsPlainBody, IsPlainMail, IsPlainGroup, IsPlainFlight, IsPlainLeader, IsPlainReplica, IsSettled, IsPlainAt, IsPlainNode}
+use Rattle.sc_words.proofs.PaxosProofs.PaxosLemmas.{Each-weaker}
+use Rattle.sc_group_table.specs.machine.MachineDefinitions.{Group}
+use Rattle.sc_node_table.specs.NodeDefinitions.{NodeState, ReplicaState}
+use Rattle.sc_live_plain.specs.PlainDefinitions.{Frame, Requests, IsWrittenValue, IsPlainCall, IsPlainCommand, IsPlainAnswer, IsPlainBody, IsPlainMail, IsPlainGroup, IsPlainFlight, IsPlainLeader, IsPlainReplica, IsSettled, IsPlainAt, IsPlainNode}
 
 -- whatever was begun is begun
 abbrev pub IsMore : Requests → Requests → Type 0

@@ -4,17 +4,17 @@ use Rattle.std.proofs.lemmas.Bool.{and_from, le-leb}
 use Rattle.sc_base.specs.Definitions.{Among, most_nodes, is_member}
 use Rattle.sc_node_table.specs.Values.{Draw, Base}
 use Rattle.sc_actor.specs.Definitions.{are_apart}
-use Rattle.sc_words.proofs.PaxosProofs.Lemmas.{Each-among, Each-from_All, one_of_name}
-use Rattle.sc_node_table.specs.Definitions.{numbers_from}
+use Rattle.sc_words.proofs.PaxosProofs.PaxosLemmas.{Each-among, Each-from_All, one_of_name}
+use Rattle.sc_node_table.specs.NodeDefinitions.{numbers_from}
 use Rattle.sc_scenario.specs.scenario.Definitions.{base_at, group_at, IsBounded, IsBoundedGroup, IsUpTo}
 use Rattle.sc_scenario.specs.declared.scenario.scenarios.Asks.{Asks}
 use Rattle.sc_scenario.specs.declared.scenario.scenarios.Scenario.{Scenario}
-use Rattle.sc_meaning.specs.sound.Definitions.{node_seat, client_seat, client_seats, route_of, births, as_nodes}
-use Rattle.sc_law_groups.proofs.WholeProofs.Lemmas.{all_apart, bases_from, first_and_others, group_place}
+use Rattle.sc_meaning.specs.sound.SoundDefinitions.{node_seat, client_seat, client_seats, route_of, births, as_nodes}
+use Rattle.sc_law_groups.proofs.WholeProofs.WholeLemmas.{all_apart, bases_from, first_and_others, group_place}
 use Rattle.sc_paxos_law.proofs.Lemmas.{from_map, member-among}
-use Rattle.sc_live_plain.specs.Definitions.{Frame, frame_of, IsFrame, AreNamedApart}
-use Rattle.sc_live_steps.proofs.FollowingProofs.Lemmas.{least_in}
-use Rattle.sc_law_groups.proofs.GroupProofs.Lemmas.{EachClient, HaveOneSection}
+use Rattle.sc_live_plain.specs.PlainDefinitions.{Frame, frame_of, IsFrame, AreNamedApart}
+use Rattle.sc_live_steps.proofs.FollowingProofs.FollowingLemmas.{least_in}
+use Rattle.sc_law_groups.proofs.GroupProofs.GroupLemmas.{EachClient, HaveOneSection}
 
 -- the frames of the groups of a scenario
 abbrev pub frames_of : Scenario → List Frame

@@ -6,14 +6,14 @@ use Rattle.sc_base.specs.Definitions.{Among, Each, client_actor, is_member}
 use Rattle.sc_node_table.specs.Values.{Draw, OrderLine, Mail, MailBody, Request, Accept, Accepted, Learn, Seat, Event, Deliver, Go, Got, Client}
 use Rattle.sc_actor.specs.declared.rows.Input.TheVariants.{Go as GoInput}
 use Rattle.sc_actor.specs.Definitions.{mails, is_delivery, value, acted, input_of, System, row_of, has_started, waiting, kth}
-use Rattle.sc_node_table.specs.Definitions.{is_node, slots_ahead}
-use Rattle.sc_client_table.specs.table.Definitions.{ClientStep, table}
+use Rattle.sc_node_table.specs.NodeDefinitions.{is_node, slots_ahead}
+use Rattle.sc_client_table.specs.table.TableDefinitions.{ClientStep, table}
 use Rattle.sc_scenario.specs.declared.scenario.scenarios.Asks.{Asks}
 use Rattle.sc_scenario.specs.declared.scenario.scenarios.Scenario.{Scenario}
-use Rattle.sc_meaning.specs.sound.Definitions.{Player, player_table, client_seat, route_of, births, system_of, as_nodes}
-use Rattle.sc_live_orderly.specs.Definitions.{IsTidy, IsOrderly, IsInOrder, rest, mail_for, taken, owed_by}
-use Rattle.sc_live_orderly.proofs.Lemmas.{IsPaid, pays, TakesFirst, takes_first, is_born-from, rest-row}
-use Rattle.sc_live_plain.specs.Definitions.{BeginsBy, Frame, IsFrame, Other, mark, mark_of, marks_for, marks_at, IsOther, IsTaken, player_owes, mail_owes, begun_ones, IsBegun, IsPlainClient, Requests, IsPlainBody, IsPlainMail}
+use Rattle.sc_meaning.specs.sound.SoundDefinitions.{Player, player_table, client_seat, route_of, births, system_of, as_nodes}
+use Rattle.sc_live_orderly.specs.OrderlyDefinitions.{IsTidy, IsOrderly, IsInOrder, rest, mail_for, taken, owed_by}
+use Rattle.sc_live_orderly.proofs.OrderlyLemmas.{IsPaid, pays, TakesFirst, takes_first, is_born-from, rest-row}
+use Rattle.sc_live_plain.specs.PlainDefinitions.{BeginsBy, Frame, IsFrame, Other, mark, mark_of, marks_for, marks_at, IsOther, IsTaken, player_owes, mail_owes, begun_ones, IsBegun, IsPlainClient, Requests, IsPlainBody, IsPlainMail}
 use Rattle.sc_live_plain.proofs.PlainProofs.ActingClients.{becomes, begins_more, begins_by, takes_is, starts_is, starts_more, starts_now}
 use Rattle.sc_live_plain.proofs.PlainProofs.PlainInduction.{owing_of, IsClientAt, IsPlainJournal}
 use Rattle.sc_live_plain.proofs.PlainProofs.MorePlainRequests.{IsMore}

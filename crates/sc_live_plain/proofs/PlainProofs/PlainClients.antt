@@ -9,11 +9,11 @@ use Rattle.sc_base.specs.Definitions.{Among, Each, Arc, client_actor, key_of, sa
 use Rattle.sc_node_table.specs.Values.{Draw, Op, Get, Reply, Got, Link, AnswerBody, Value, NotLeader, NotMine, Gone, Stale, Mail, MailBody, Request, Answer}
 use Rattle.sc_base.proofs.Lemmas.{draw_is, same_name}
 use Rattle.sc_actor.specs.declared.rows.Input.TheVariants.{Go}
-use Rattle.sc_words.specs.ideal.Definitions.{holds_key}
-use Rattle.sc_client_table.specs.lookup.Definitions.{KnownGroups, chosen, target_in, learnt_from_not_mine}
-use Rattle.sc_client_table.specs.table.Definitions.{Client, request_at, waiting_request, ClientStep, asked_of, sent_where, chosen_for, request_sent, started, waits_for, was_asked, answer_taken, got, table}
+use Rattle.sc_words.specs.ideal.IdealDefinitions.{holds_key}
+use Rattle.sc_client_table.specs.lookup.LookupDefinitions.{KnownGroups, chosen, target_in, learnt_from_not_mine}
+use Rattle.sc_client_table.specs.table.TableDefinitions.{Client, request_at, waiting_request, ClientStep, asked_of, sent_where, chosen_for, request_sent, started, waits_for, was_asked, answer_taken, got, table}
 use Rattle.sc_scenario.specs.declared.scenario.scenarios.Asks.{Asks}
-use Rattle.sc_live_plain.specs.Definitions.{Frame, body_owes, mail_owes, waiting_ones, begun_ones, client_owes, way_of, IsWaiting, IsResting, IsPlainClient, Requests, IsPlainBody, IsPlainMail}
+use Rattle.sc_live_plain.specs.PlainDefinitions.{Frame, body_owes, mail_owes, waiting_ones, begun_ones, client_owes, way_of, IsWaiting, IsResting, IsPlainClient, Requests, IsPlainBody, IsPlainMail}
 use Rattle.sc_live_plain.proofs.PlainProofs.PlainKnownGroups.{IsRound, chosen_frame, target_leads, one_chosen, known_grows, among_first}
 use Rattle.sc_live_plain.proofs.PlainRowsProofs.RepeatedMail.{mail_of}
 use Rattle.sc_live_plain.proofs.PlainRowsProofs.Lists.{some_is}

@@ -3,16 +3,16 @@ use Rattle.std.proofs.Common.{◌≡◌, ℕ, ◌+◌, ◌≤◌, length}
 use Rattle.sc_base.specs.Definitions.{Among, Each, client_actor}
 use Rattle.sc_node_table.specs.Values.{Mail, Node, Client}
 use Rattle.sc_actor.specs.Definitions.{mails, value, has_started}
-use Rattle.sc_node_table.specs.Definitions.{NodeState}
-use Rattle.sc_client_table.specs.table.Definitions.{Client as ClientState}
+use Rattle.sc_node_table.specs.NodeDefinitions.{NodeState}
+use Rattle.sc_client_table.specs.table.TableDefinitions.{Client as ClientState}
 use Rattle.sc_scenario.specs.declared.scenario.scenarios.Asks.{Asks}
 use Rattle.sc_scenario.specs.declared.scenario.scenarios.Scenario.{Scenario}
-use Rattle.sc_meaning.specs.sound.Definitions.{Player, player_table, node_seat, client_seat, route_of, system_of, as_nodes}
-use Rattle.sc_live_orderly.specs.Definitions.{deliveries, Owing, owed, owed_at_birth}
-use Rattle.sc_live_plain.specs.Definitions.{IsGroupAt, Frame, player_owes, mail_owes, IsBegun, IsPlainClient, IsPlainMail, IsPlainNode}
+use Rattle.sc_meaning.specs.sound.SoundDefinitions.{Player, player_table, node_seat, client_seat, route_of, system_of, as_nodes}
+use Rattle.sc_live_orderly.specs.OrderlyDefinitions.{deliveries, Owing, owed, owed_at_birth}
+use Rattle.sc_live_plain.specs.PlainDefinitions.{IsGroupAt, Frame, player_owes, mail_owes, IsBegun, IsPlainClient, IsPlainMail, IsPlainNode}
 use Rattle.sc_live_plain.proofs.PlainProofs.PlainBeginnings.{frames_of, IsStage}
 use Rattle.sc_live_plain.proofs.PlainRowsProofs.RowViews.{Journal}
-use Rattle.sc_law_groups.proofs.GroupProofs.Lemmas.{EachClient}
+use Rattle.sc_law_groups.proofs.GroupProofs.GroupLemmas.{EachClient}
 
 -- what players and mail owe, by the number of groups
 abbrev pub owing_of : Scenario → Owing Player Mail

@@ -8,12 +8,12 @@ use Rattle.std.proofs.lemmas.List.{length-take-le, take-map}
 use Rattle.sc_base.specs.Definitions.{Among, Each, holds, end_of, same_draw, least_of}
 use Rattle.sc_node_table.specs.Values.{Draw}
 use Rattle.sc_base.proofs.Lemmas.{draw_is, same_name}
-use Rattle.sc_words.proofs.PaxosProofs.Lemmas.{Each-among}
+use Rattle.sc_words.proofs.PaxosProofs.PaxosLemmas.{Each-among}
 use Rattle.sc_client_table.specs.declared.lookup.ways.Way.{Way}
-use Rattle.sc_client_table.specs.lookup.Definitions.{far, target_of, KnownGroups, way_to, nearer, better, chosen, target_in, changed, starting, group_learnt, learnt_from_not_mine}
+use Rattle.sc_client_table.specs.lookup.LookupDefinitions.{far, target_of, KnownGroups, way_to, nearer, better, chosen, target_in, changed, starting, group_learnt, learnt_from_not_mine}
 use Rattle.sc_paxos_law.proofs.Lemmas.{from_map}
 use Rattle.sc_paxos_law.proofs.Lemmas.{Among-left}
-use Rattle.sc_live_plain.specs.Definitions.{Frame, AreNamedApart, way_of}
+use Rattle.sc_live_plain.specs.PlainDefinitions.{Frame, AreNamedApart, way_of}
 use Rattle.sc_live_plain.proofs.PlainRowsProofs.Lists.{map_among}
 
 -- ---- the nearest

@@ -7,13 +7,13 @@ use Rattle.sc_base.specs.Definitions.{Each, client_actor}
 use Rattle.sc_node_table.specs.Values.{Op, OrderLine, Mail, Seat, Event, Deliver, Go, Got, Node}
 use Rattle.sc_actor.specs.declared.rows.Input.TheVariants.{Go as GoInput}
 use Rattle.sc_actor.specs.Definitions.{mails, value, acted, input_of, System, row_of, has_started, waiting, kth}
-use Rattle.sc_words.proofs.PaxosProofs.Lemmas.{Each-weaker}
-use Rattle.sc_node_table.specs.Definitions.{is_node, node_table, last_slot}
+use Rattle.sc_words.proofs.PaxosProofs.PaxosLemmas.{Each-weaker}
+use Rattle.sc_node_table.specs.NodeDefinitions.{is_node, node_table, last_slot}
 use Rattle.sc_scenario.specs.declared.scenario.scenarios.Scenario.{Scenario}
-use Rattle.sc_meaning.specs.sound.Definitions.{Player, player_table, node_seat, births, system_of, as_nodes}
-use Rattle.sc_live_orderly.specs.Definitions.{IsTidy, IsOrderly, IsInOrder, rest, mail_for, taken, deliveries, owed, owed_at_birth, owed_by}
-use Rattle.sc_live_orderly.proofs.Lemmas.{IsPaid, pays, TakesFirst, takes_first, is_born-from, rest-row}
-use Rattle.sc_live_plain.specs.Definitions.{mark, marks_for, marks_at, next_in, replica_at, IsOther, player_owes, mail_owes, IsBegun, IsPlainMail}
+use Rattle.sc_meaning.specs.sound.SoundDefinitions.{Player, player_table, node_seat, births, system_of, as_nodes}
+use Rattle.sc_live_orderly.specs.OrderlyDefinitions.{IsTidy, IsOrderly, IsInOrder, rest, mail_for, taken, deliveries, owed, owed_at_birth, owed_by}
+use Rattle.sc_live_orderly.proofs.OrderlyLemmas.{IsPaid, pays, TakesFirst, takes_first, is_born-from, rest-row}
+use Rattle.sc_live_plain.specs.PlainDefinitions.{mark, marks_for, marks_at, next_in, replica_at, IsOther, player_owes, mail_owes, IsBegun, IsPlainMail}
 use Rattle.sc_live_plain.proofs.PlainProofs.PlainInduction.{owing_of, IsNodeAt, IsPlainJournal}
 use Rattle.sc_live_plain.proofs.PlainProofs.MorePlainRequests.{mail_more, node_more}
 use Rattle.sc_live_plain.proofs.PlainRowsProofs.LeaderMailOfGroups.{due, group_idle, group_after}

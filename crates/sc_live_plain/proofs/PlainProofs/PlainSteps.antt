@@ -9,14 +9,14 @@ use Rattle.sc_base.specs.Definitions.{Among, Each, client_actor, most_nodes, sam
 use Rattle.sc_node_table.specs.Values.{Base, OrderLine, Mail, Seat, Row, Node}
 use Rattle.sc_actor.specs.Definitions.{mails, numbered, value, acted, input_of, System, has_started, is_go}
 use Rattle.sc_actor.proofs.Lemmas.{value-snoc, mails-snoc}
-use Rattle.sc_words.proofs.PaxosProofs.Lemmas.{Each-append, Each-weaker, find_found}
-use Rattle.sc_node_table.specs.Definitions.{replica_of, is_node, ReplicaState, name_of, next, last_slot, numbers_from, slots_ahead}
+use Rattle.sc_words.proofs.PaxosProofs.PaxosLemmas.{Each-append, Each-weaker, find_found}
+use Rattle.sc_node_table.specs.NodeDefinitions.{replica_of, is_node, ReplicaState, name_of, next, last_slot, numbers_from, slots_ahead}
 use Rattle.sc_scenario.specs.declared.scenario.scenarios.Asks.{Asks}
 use Rattle.sc_scenario.specs.declared.scenario.scenarios.Scenario.{Scenario}
-use Rattle.sc_meaning.specs.sound.Definitions.{Player, player_table, node_seat, client_seat, route_of, births, system_of, as_nodes}
-use Rattle.sc_live_orderly.specs.Definitions.{owed, owed_at_birth}
+use Rattle.sc_meaning.specs.sound.SoundDefinitions.{Player, player_table, node_seat, client_seat, route_of, births, system_of, as_nodes}
+use Rattle.sc_live_orderly.specs.OrderlyDefinitions.{owed, owed_at_birth}
 use Rattle.sc_paxos_law.proofs.Lemmas.{Among-left}
-use Rattle.sc_live_plain.specs.Definitions.{replica_at, next_in, Frame, replica_owes, player_owes, begun_of, IsBegun, IsPlainClient, IsPlainMail}
+use Rattle.sc_live_plain.specs.PlainDefinitions.{replica_at, next_in, Frame, replica_owes, player_owes, begun_of, IsBegun, IsPlainClient, IsPlainMail}
 use Rattle.sc_live_plain.proofs.PlainProofs.PlainInduction.{owing_of, IsNodeAt, IsClientAt, IsPlainJournal}
 use Rattle.sc_live_plain.proofs.PlainProofs.MorePlainRequests.{IsMore, mail_more, node_more}
 use Rattle.sc_live_plain.proofs.PlainProofs.PlainBeginnings.{frames_of, IsStage}

@@ -6,9 +6,9 @@ use Rattle.sc_node_table.specs.Values.{OrderLine}
 use Rattle.sc_scenario.specs.declared.scenario.scenarios.Scenario.{Scenario}
 use Rattle.sc_scenario.specs.declared.scenario.scenarios.SchedLine.{SchedLine}
 use Rattle.sc_scenario.specs.declared.scenario.scenarios.SchedLine.TheVariants.{Go, Deliver, Drop, Again, Tick, Crash, Told, Settle, Free, Storm}
-use Rattle.sc_meaning.specs.sound.Definitions.{line_of}
-use Rattle.sc_live_orderly.specs.Definitions.{HasRoom, Said, Nothing, Goes, AnOrder, MayGo, MayOrder, AreSpaced}
-use Rattle.sc_live_plain.specs.Definitions.{delivers, budget_of, gives_order, starts, are_parted, AllowsDeliveries, AllowsCalmly, IsCalm, CalmLinesAreSpaced, RoomyScenariosAreCalm}
+use Rattle.sc_meaning.specs.sound.SoundDefinitions.{line_of}
+use Rattle.sc_live_orderly.specs.OrderlyDefinitions.{HasRoom, Said, Nothing, Goes, AnOrder, MayGo, MayOrder, AreSpaced}
+use Rattle.sc_live_plain.specs.PlainDefinitions.{delivers, budget_of, gives_order, starts, are_parted, AllowsDeliveries, AllowsCalmly, IsCalm, CalmLinesAreSpaced, RoomyScenariosAreCalm}
 
 -- whether what was said keeps a line from coming without deliveries between
 abbrev bars : Said → SchedLine → Bool

@@ -5,11 +5,11 @@ use Rattle.sc_base.specs.Definitions.{Among, Each, same_draw, is_member}
 use Rattle.sc_node_table.specs.Values.{Draw, OrderLine, Mail, MailBody, Request, Accept, Accepted, Learn, Row, Node}
 use Rattle.sc_base.proofs.Lemmas.{draw_is, same_name}
 use Rattle.sc_actor.specs.Definitions.{is_delivery, value}
-use Rattle.sc_node_table.specs.Definitions.{NodeState, replica_of, is_node, ReplicaState, next, numbers_from}
+use Rattle.sc_node_table.specs.NodeDefinitions.{NodeState, replica_of, is_node, ReplicaState, next, numbers_from}
 use Rattle.sc_scenario.specs.declared.scenario.scenarios.Scenario.{Scenario}
-use Rattle.sc_meaning.specs.sound.Definitions.{player_table, node_seat, system_of, as_nodes}
-use Rattle.sc_live_orderly.specs.Definitions.{rest, mail_for, taken}
-use Rattle.sc_live_plain.specs.Definitions.{Frame, IsFrame, AreNamedApart, Mark, Asks, Votes, Teaches, Other, mark_of, mark, taught_slots, AreInOrder, marks_for, replica_at, next_in, votes_in, view_at, marks_at, IsGroupAt, IsOther, How, IsTaken, Requests, IsPlainBody, AreTaken, IsPlainAt, IsPlainNode, IsDue}
+use Rattle.sc_meaning.specs.sound.SoundDefinitions.{player_table, node_seat, system_of, as_nodes}
+use Rattle.sc_live_orderly.specs.OrderlyDefinitions.{rest, mail_for, taken}
+use Rattle.sc_live_plain.specs.PlainDefinitions.{Frame, IsFrame, AreNamedApart, Mark, Asks, Votes, Teaches, Other, mark_of, mark, taught_slots, AreInOrder, marks_for, replica_at, next_in, votes_in, view_at, marks_at, IsGroupAt, IsOther, How, IsTaken, Requests, IsPlainBody, AreTaken, IsPlainAt, IsPlainNode, IsDue}
 use Rattle.sc_live_plain.proofs.PlainRowsProofs.MailMarks.{does_moves, marked_here}
 use Rattle.sc_live_plain.proofs.PlainRowsProofs.LeaderMarks.{each_mark}
 use Rattle.sc_live_plain.proofs.PlainRowsProofs.RowViews.{Journal, between_after, replica_others, replica_is}

@@ -2,9 +2,9 @@
 use Rattle.std.proofs.Common.{◌≡◌, ℕ, zero, suc, ◌+◌, ◌<◌, ◌≤◌, max, true, List, [], ◌∷◌, ◌++◌, Some, ◌⊎◌, inl, inr, refl, sym, ◌∙◌, ap, subst, arith, append-nil}
 use Rattle.std.proofs.lemmas.Bool.{cases_eq}
 use Rattle.sc_base.specs.Definitions.{Among, Each, is_member}
-use Rattle.sc_node_table.specs.Definitions.{numbers_from}
+use Rattle.sc_node_table.specs.NodeDefinitions.{numbers_from}
 use Rattle.sc_paxos_law.proofs.Lemmas.{Among-left, Among-right, Among-either}
-use Rattle.sc_live_plain.specs.Definitions.{Frame, Mark, Asks, Votes, Teaches, Other, AreInOrder, IsBelow, taught_slots, View, IsLearning, IsVoting, IsBetween, IsNew, IsIdle, Accepts, Learns, IsCount, IsElsewhere, IsOffered, IsCounted, Leads, Moves, IsTaken}
+use Rattle.sc_live_plain.specs.PlainDefinitions.{Frame, Mark, Asks, Votes, Teaches, Other, AreInOrder, IsBelow, taught_slots, View, IsLearning, IsVoting, IsBetween, IsNew, IsIdle, Accepts, Learns, IsCount, IsElsewhere, IsOffered, IsCounted, Leads, Moves, IsTaken}
 use Rattle.sc_live_plain.proofs.PlainRowsProofs.MarkLists.{order-lower, order-tail, order-asks, order-append, order-raise, order-new, below-append, below-among, other-new, other-asks, asks≢other, votes≢other, told-append, told-other, numbers-append}
 
 -- ---- what is left after the first is taken

@@ -7,11 +7,11 @@ use Rattle.std.proofs.lemmas.Bool.{cases_lt, cond_both, cond-true, cond-false, e
 use Rattle.sc_base.specs.Definitions.{Among, Each, same_draw, is_member}
 use Rattle.sc_node_table.specs.Values.{Draw, Command, Mail, MailBody, Answer, Accept, Accepted, Learn, Flight}
 use Rattle.sc_base.proofs.Lemmas.{same_name}
-use Rattle.sc_words.specs.paxos.Definitions.{flight_at, kept_voters}
-use Rattle.sc_words.proofs.PaxosProofs.Lemmas.{Each-among, find_found}
-use Rattle.sc_node_table.specs.Definitions.{Place, next, numbers_from}
+use Rattle.sc_words.specs.paxos.PaxosDefinitions.{flight_at, kept_voters}
+use Rattle.sc_words.proofs.PaxosProofs.PaxosLemmas.{Each-among, find_found}
+use Rattle.sc_node_table.specs.NodeDefinitions.{Place, next, numbers_from}
 use Rattle.sc_paxos_law.proofs.Lemmas.{member-among}
-use Rattle.sc_live_plain.specs.Definitions.{Frame, Mark, Asks, Votes, Teaches, Other, mark_of, mark, taught_slots, View, voters_in, marks_for, IsNew as IsNewMark, IsCount, IsElsewhere, Leads as LeadsTo, Requests, takers}
+use Rattle.sc_live_plain.specs.PlainDefinitions.{Frame, Mark, Asks, Votes, Teaches, Other, mark_of, mark, taught_slots, View, voters_in, marks_for, IsNew as IsNewMark, IsCount, IsElsewhere, Leads as LeadsTo, Requests, takers}
 use Rattle.sc_live_plain.proofs.PlainRowsProofs.SlotCounts.{one_yes, one_no, count-cons, find_some, found_one, entries_at}
 use Rattle.sc_live_plain.proofs.LeadersProofs.LeadingReplicas.{in_range, range_yes, range_before, range_behind, InRow, IsSaid, IsNew, Leads}
 use Rattle.sc_live_plain.proofs.PlainRowsProofs.RepeatedMail.{mail_of, learns_of, learns_to}

@@ -1,6 +1,6 @@
 -- Facts of lists and options that several proofs use.
 use Rattle.std.proofs.Common.{◌≡◌, List, [], ◌∷◌, drop, Some, refl}
-pub use Rattle.sc_law_walks.proofs.Lemmas.{map_among}
+pub use Rattle.sc_law_walks.proofs.WalkLemmas.{map_among}
 
 -- what is given twice is the same
 pub some_is : {A : Type 0} {x y : A} → Some x ≡ Some y → x ≡ y

@@ -5,8 +5,8 @@ use Rattle.sc_base.specs.Definitions.{Each, client_actor, same_draw}
 use Rattle.sc_node_table.specs.Values.{Draw, Mail, MailBody, Request, Answer, Accept, Accepted, Learn}
 use Rattle.sc_base.proofs.Lemmas.{same_name}
 use Rattle.sc_mail.specs.declared.bodies.AnswerBody.TheVariants as Says
-use Rattle.sc_node_table.specs.Definitions.{ReplicaState, Place, next}
-use Rattle.sc_live_plain.specs.Definitions.{Frame, IsFrame, Mark, Asks, Votes, Teaches, Other, mark_of, mark, marks_for, IsOther, MovesBy, Requests, IsPlainBody, AreTaken}
+use Rattle.sc_node_table.specs.NodeDefinitions.{ReplicaState, Place, next}
+use Rattle.sc_live_plain.specs.PlainDefinitions.{Frame, IsFrame, Mark, Asks, Votes, Teaches, Other, mark_of, mark, marks_for, IsOther, MovesBy, Requests, IsPlainBody, AreTaken}
 use Rattle.sc_live_plain.proofs.PlainRowsProofs.LeaderMarks.{each_mark}
 use Rattle.sc_live_plain.proofs.PlainRowsProofs.ReplicaRowMarks.{idle_moves, accept_moves, learn_moves, counted_moves, asked_moves}
 use Rattle.sc_live_plain.proofs.PlainRowsProofs.SlotCounts.{one_yes, one_no}

@@ -1,9 +1,9 @@
 -- Marks in order: the first is taken, and others come behind.
 use Rattle.std.proofs.Common.{◌≡◌, ℕ, zero, suc, ◌+◌, ◌≤◌, max, List, [], ◌∷◌, ◌++◌, inl, inr, refl, sym, ◌∙◌, ap, subst, arith}
 use Rattle.sc_base.specs.Definitions.{Among, Each}
-use Rattle.sc_words.proofs.PaxosProofs.Lemmas.{Each-append, Each-weaker}
-use Rattle.sc_node_table.specs.Definitions.{numbers_from}
-use Rattle.sc_live_plain.specs.Definitions.{Mark, Asks, Votes, Teaches, Other, AreInOrder, IsBelow, taught_slots, IsNew, IsOther}
+use Rattle.sc_words.proofs.PaxosProofs.PaxosLemmas.{Each-append, Each-weaker}
+use Rattle.sc_node_table.specs.NodeDefinitions.{numbers_from}
+use Rattle.sc_live_plain.specs.PlainDefinitions.{Mark, Asks, Votes, Teaches, Other, AreInOrder, IsBelow, taught_slots, IsNew, IsOther}
 
 -- ---- order
 

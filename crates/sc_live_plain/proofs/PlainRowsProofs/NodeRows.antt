@@ -4,9 +4,9 @@ use Rattle.std.proofs.lemmas.Bool.{cond-true, cases_Bool, both_ways}
 use Rattle.sc_base.specs.Definitions.{Among, Each, client_actor, same_draw, is_member}
 use Rattle.sc_node_table.specs.Values.{Draw, Op, Got, Base, Mail, MailBody, Request, Answer, Accept, Accepted, Learn}
 use Rattle.sc_base.proofs.Lemmas.{draw_is, same_name}
-use Rattle.sc_words.proofs.PaxosProofs.Lemmas.{Each-weaker}
-use Rattle.sc_node_table.specs.Definitions.{NodeState, replica_of, with_replica, group_of_mail, is_node, may_come, with_children, taken_by, routed, on_mail, node_table, ReplicaState, Place, name_of, next, last_slot, mailed, slots_ahead}
-use Rattle.sc_live_plain.specs.Definitions.{Frame, IsFrame, AreNamedApart, mail_owes, node_owes, Requests, IsPlainBody, IsPlainMail, IsPlainAt, IsPlainNode, IsDue}
+use Rattle.sc_words.proofs.PaxosProofs.PaxosLemmas.{Each-weaker}
+use Rattle.sc_node_table.specs.NodeDefinitions.{NodeState, replica_of, with_replica, group_of_mail, is_node, may_come, with_children, taken_by, routed, on_mail, node_table, ReplicaState, Place, name_of, next, last_slot, mailed, slots_ahead}
+use Rattle.sc_live_plain.specs.PlainDefinitions.{Frame, IsFrame, AreNamedApart, mail_owes, node_owes, Requests, IsPlainBody, IsPlainMail, IsPlainAt, IsPlainNode, IsDue}
 use Rattle.sc_live_plain.proofs.PlainRowsProofs.Replicas.{put_owes, put_found, put_others}
 use Rattle.sc_live_plain.proofs.PlainRowsProofs.ReplicaRows.{ReplicaRow, replica_row}
 

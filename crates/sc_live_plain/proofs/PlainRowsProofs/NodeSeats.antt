@@ -2,8 +2,8 @@
 use Rattle.std.proofs.Common.{◌≡◌, ℕ, zero, suc, ◌+◌, ◌<◌, ◌≤◌, eqb, Bool, List, ◌++◌, map, find, Option, Some, sym, ◌∙◌, ap, arith}
 use Rattle.std.proofs.lemmas.Bool.{cond_both, eqb-true, eq-eqb, true≢false}
 use Rattle.sc_node_table.specs.Values.{Base, Seat}
-use Rattle.sc_node_table.specs.Definitions.{numbers_from}
-use Rattle.sc_meaning.specs.sound.Definitions.{Player, as_nodes, node_seat}
+use Rattle.sc_node_table.specs.NodeDefinitions.{numbers_from}
+use Rattle.sc_meaning.specs.sound.SoundDefinitions.{Player, as_nodes, node_seat}
 
 module _ (groups : List Base) (policy : Bool) where
   pub seat_in : (count from who : ℕ) (others : List (Seat Player)) → from ≤ who → who < from + count → find (λ (seat : Seat Player). eqb seat.who who) (map (node_seat as_nodes groups policy) (numbers_from from count) ++ others) ≡ Some (node_seat as_nodes groups policy who)

@@ -6,12 +6,12 @@ use Rattle.std.proofs.lemmas.Bool.{cond_both, cond-true, cond-false, eq-eqb, lt-
 use Rattle.sc_node_table.specs.Values.{Ballot, Draw, Op, Command, Call, Core, Mail, Accepted, AcceptAnswer, Flight, Report}
 use Rattle.sc_base.specs.Definitions.{is_majority, is_member}
 use Rattle.sc_words.specs.declared.paxos.answers.AcceptAnswer.TheVariants as Asked
-use Rattle.sc_words.specs.paxos.Definitions.{accepted as accepted_by, AcceptorState, may_accept, after_accept, below, IsAtLeast, flight_at, without_flight}
-use Rattle.sc_words.proofs.PaxosProofs.Lemmas.{at_least_itself}
-use Rattle.sc_group_table.specs.machine.Definitions.{applied}
-use Rattle.sc_node_table.specs.Definitions.{stopped, saw, entered, is_among, executed_one, executed_ready, all_ready, executed, install_to, pumped_from, pumped, ReplicaState, Place, Executed, childless, name_of, next, members, settled, flying, forgotten, last_slot, learn_row, without_slot, hinted, accepted_to, took, accept_row}
-use Rattle.sc_law_walks.proofs.Lemmas.{cleared, entered_next}
-use Rattle.sc_live_plain.specs.Definitions.{Frame, IsFrame, replica_owes, Requests, IsPlainCall, AreTaken, IsPlainLeader, IsPlainFollower, IsPlainVoter, IsPlainReplica, HasOffered}
+use Rattle.sc_words.specs.paxos.PaxosDefinitions.{accepted as accepted_by, AcceptorState, may_accept, after_accept, below, IsAtLeast, flight_at, without_flight}
+use Rattle.sc_words.proofs.PaxosProofs.PaxosLemmas.{at_least_itself}
+use Rattle.sc_group_table.specs.machine.MachineDefinitions.{applied}
+use Rattle.sc_node_table.specs.NodeDefinitions.{stopped, saw, entered, is_among, executed_one, executed_ready, all_ready, executed, install_to, pumped_from, pumped, ReplicaState, Place, Executed, childless, name_of, next, members, settled, flying, forgotten, last_slot, learn_row, without_slot, hinted, accepted_to, took, accept_row}
+use Rattle.sc_law_walks.proofs.WalkLemmas.{cleared, entered_next}
+use Rattle.sc_live_plain.specs.PlainDefinitions.{Frame, IsFrame, replica_owes, Requests, IsPlainCall, AreTaken, IsPlainLeader, IsPlainFollower, IsPlainVoter, IsPlainReplica, HasOffered}
 use Rattle.sc_live_plain.proofs.LeadersProofs.PlainEntries.{entered_plain, learnt_call}
 use Rattle.sc_live_plain.proofs.LeadersProofs.LeadingReplicas.{IsHeld}
 use Rattle.sc_live_plain.proofs.PlainRowsProofs.RepeatedMail.{mail_of}

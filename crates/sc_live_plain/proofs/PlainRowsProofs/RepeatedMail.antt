@@ -9,9 +9,9 @@ use Rattle.std.proofs.Math.Nat.{suc-mul}
 use Rattle.sc_base.proofs.Lemmas.{same_name, AllPairs-head, AllPairs-tail}
 use Rattle.sc_base.specs.Definitions.{Among, Each, same_draw, is_member, IsRoster}
 use Rattle.sc_node_table.specs.Values.{Draw, Command, Mail, MailBody, Learn}
-use Rattle.sc_words.proofs.PaxosProofs.Lemmas.{Each-push, Each-from_All}
-use Rattle.sc_node_table.specs.Definitions.{sent, sent_all, sent_others, numbers_from}
-use Rattle.sc_live_plain.specs.Definitions.{body_owes, mail_owes}
+use Rattle.sc_words.proofs.PaxosProofs.PaxosLemmas.{Each-push, Each-from_All}
+use Rattle.sc_node_table.specs.NodeDefinitions.{sent, sent_all, sent_others, numbers_from}
+use Rattle.sc_live_plain.specs.PlainDefinitions.{body_owes, mail_owes}
 use Rattle.sc_live_plain.proofs.PlainRowsProofs.SlotCounts.{one_yes, one_no, count-cons}
 
 -- ---- which slots the Learns among mails name

@@ -5,9 +5,9 @@ use Rattle.std.proofs.lemmas.Bool.{cases_eq, cond-true, cond-false, eq-eqb, ne_e
 use Rattle.sc_base.specs.Definitions.{Each, same_draw, is_member}
 use Rattle.sc_base.proofs.Lemmas.{same_name}
 use Rattle.sc_node_table.specs.Values.{Command, Mail, Accepted, Flight}
-use Rattle.sc_words.specs.paxos.Definitions.{flight_at, kept_voters}
-use Rattle.sc_node_table.specs.Definitions.{ReplicaState, Place, next}
-use Rattle.sc_live_plain.specs.Definitions.{Frame, Mark, Asks, Votes, Teaches, Other, mark, voters_in, marks_for, IsOther, IsCount, MovesBy, Requests, AreTaken}
+use Rattle.sc_words.specs.paxos.PaxosDefinitions.{flight_at, kept_voters}
+use Rattle.sc_node_table.specs.NodeDefinitions.{ReplicaState, Place, next}
+use Rattle.sc_live_plain.specs.PlainDefinitions.{Frame, Mark, Asks, Votes, Teaches, Other, mark, voters_in, marks_for, IsOther, IsCount, MovesBy, Requests, AreTaken}
 use Rattle.sc_live_plain.proofs.PlainRowsProofs.LeaderMarks.{IsHeldOn, held_same, leads_moves}
 use Rattle.sc_live_plain.proofs.PlainRowsProofs.SlotCounts.{one_no, find_none}
 use Rattle.sc_live_plain.proofs.LeadersProofs.LeadingReplicas.{in_range, range_behind, Leads}

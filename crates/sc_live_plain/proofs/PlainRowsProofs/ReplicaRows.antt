@@ -3,12 +3,12 @@ use Rattle.std.proofs.Common.{◌≡◌, ℕ, ◌+◌, ◌≤◌, ◌&&◌, true
 use Rattle.std.proofs.lemmas.Bool.{cases_Bool, both_ways, and_left, and_right}
 use Rattle.sc_base.specs.Definitions.{Each, client_actor, is_member}
 use Rattle.sc_node_table.specs.Values.{Ballot, Draw, Op, Command, Call, Core, Mail, MailBody, Request, Answer, Accept, Accepted, Learn}
-use Rattle.sc_words.specs.ideal.Definitions.{key_of, holds_key}
+use Rattle.sc_words.specs.ideal.IdealDefinitions.{key_of, holds_key}
 use Rattle.sc_mail.specs.declared.bodies.AnswerBody.TheVariants as Says
-use Rattle.sc_words.specs.paxos.Definitions.{below}
-use Rattle.sc_words.proofs.PaxosProofs.Lemmas.{at_least_itself, Each-weaker}
-use Rattle.sc_node_table.specs.Definitions.{ReplicaState, Place, name_of, next, last_slot, mailed, slots_ahead}
-use Rattle.sc_live_plain.specs.Definitions.{Frame, IsFrame, body_owes, mail_owes, replica_owes, Requests, IsPlainCall, IsPlainCommand, IsPlainBody, AreTaken, IsPlainLeader, IsPlainFollower, IsPlainVoter, IsPlainReplica, HasOffered, IsLeading, IsSettled, IsPlainAt, IsDue}
+use Rattle.sc_words.specs.paxos.PaxosDefinitions.{below}
+use Rattle.sc_words.proofs.PaxosProofs.PaxosLemmas.{at_least_itself, Each-weaker}
+use Rattle.sc_node_table.specs.NodeDefinitions.{ReplicaState, Place, name_of, next, last_slot, mailed, slots_ahead}
+use Rattle.sc_live_plain.specs.PlainDefinitions.{Frame, IsFrame, body_owes, mail_owes, replica_owes, Requests, IsPlainCall, IsPlainCommand, IsPlainBody, AreTaken, IsPlainLeader, IsPlainFollower, IsPlainVoter, IsPlainReplica, HasOffered, IsLeading, IsSettled, IsPlainAt, IsDue}
 use Rattle.sc_live_plain.proofs.LeadersProofs.LeaderRequests.{request_refused, request_run}
 use Rattle.sc_live_plain.proofs.LeadersProofs.LeadingReplicas.{IsHeld, IsSaid}
 use Rattle.sc_live_plain.proofs.LeadersProofs.PlainPumps.{call_is}

@@ -4,8 +4,8 @@ use Rattle.std.proofs.lemmas.Bool.{cond-true, cond-false, cases_Bool}
 use Rattle.std.proofs.lemmas.List.Sums.{sum_by-cons}
 use Rattle.sc_base.specs.Definitions.{same_draw}
 use Rattle.sc_node_table.specs.Values.{Draw}
-use Rattle.sc_node_table.specs.Definitions.{replica_of, with_replica, ReplicaState, name_of}
-use Rattle.sc_live_plain.specs.Definitions.{replica_owes}
+use Rattle.sc_node_table.specs.NodeDefinitions.{replica_of, with_replica, ReplicaState, name_of}
+use Rattle.sc_live_plain.specs.PlainDefinitions.{replica_owes}
 pub use Rattle.sc_live_steps.proofs.CalmStepsProofs.PartyPotential.{put_found, put_others}
 
 -- the one that is found is the one that is changed

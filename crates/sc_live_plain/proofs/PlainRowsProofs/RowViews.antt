@@ -1,17 +1,17 @@
 -- What one row makes of the marks that are under way, and of the view of a group.
 use Rattle.sc_live_plain.proofs.PlainRowsProofs.Lists.{at_zero}
-use Rattle.sc_client_table.specs.table.Definitions.{Client as ClientState}
+use Rattle.sc_client_table.specs.table.TableDefinitions.{Client as ClientState}
 use Rattle.std.proofs.Common.{inr, inl, ◌≡◌, ℕ, ◌&&◌, true, false, cond, List, [], ◌∷◌, ◌++◌, map, drop, None, refl, sym, ◌∙◌, ap}
 use Rattle.std.proofs.lemmas.Bool.{cases_eq, cond-true, cond-false, ne_eqb, eq-eqb}
 use Rattle.std.proofs.lemmas.List.{map-append, drop-map}
 use Rattle.sc_node_table.specs.Values.{Event, Seat, Client, Draw, OrderLine, Mail, Row}
 use Rattle.sc_actor.specs.Definitions.{row_of, mails, is_delivery, value, acted, input_of}
 use Rattle.sc_actor.proofs.Lemmas.{value-snoc}
-use Rattle.sc_node_table.specs.Definitions.{replica_of, is_node, next}
+use Rattle.sc_node_table.specs.NodeDefinitions.{replica_of, is_node, next}
 use Rattle.sc_scenario.specs.declared.scenario.scenarios.Scenario.{Scenario}
-use Rattle.sc_meaning.specs.sound.Definitions.{Player, player_table, node_seat, system_of, as_nodes}
-use Rattle.sc_live_orderly.specs.Definitions.{rest, mail_for, taken}
-use Rattle.sc_live_plain.specs.Definitions.{Frame, Mark, mark, IsBetween, marks_for, replicas_of, replica_at, view_at, marks_at, Moves, IsTaken}
+use Rattle.sc_meaning.specs.sound.SoundDefinitions.{Player, player_table, node_seat, system_of, as_nodes}
+use Rattle.sc_live_orderly.specs.OrderlyDefinitions.{rest, mail_for, taken}
+use Rattle.sc_live_plain.specs.PlainDefinitions.{Frame, Mark, mark, IsBetween, marks_for, replicas_of, replica_at, view_at, marks_at, Moves, IsTaken}
 use Rattle.sc_live_plain.proofs.PlainRowsProofs.LeaderMailRows.{between-row}
 
 -- rows of the system

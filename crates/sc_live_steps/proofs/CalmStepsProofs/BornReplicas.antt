@@ -1,9 +1,9 @@
 -- What replicas are at birth, computed: nothing is under way, and the first member leads.
 use Rattle.std.proofs.Common.{◌&&◌, not, eq-eqb, true, Some, refl, ◌∙◌, ap}
-use Rattle.sc_words.specs.paxos.Definitions.{below}
-use Rattle.sc_words.proofs.PaxosProofs.Lemmas.{at_least_itself}
-use Rattle.sc_node_table.specs.Definitions.{first_ballot}
-use Rattle.sc_live_steps.specs.calm.Definitions.{ReplicasBeginAtRest, FirstMembersLead}
+use Rattle.sc_words.specs.paxos.PaxosDefinitions.{below}
+use Rattle.sc_words.proofs.PaxosProofs.PaxosLemmas.{at_least_itself}
+use Rattle.sc_node_table.specs.NodeDefinitions.{first_ballot}
+use Rattle.sc_live_steps.specs.calm.CalmDefinitions.{ReplicasBeginAtRest, FirstMembersLead}
 
 -- At birth a replica is at rest, as in a quiet journal: it waits for nothing, nothing is in flight or ready, and it has promised no later ballot than its own.
 pub begin_at_rest : ReplicasBeginAtRest

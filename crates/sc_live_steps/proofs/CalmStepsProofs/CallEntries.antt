@@ -4,13 +4,13 @@ use Rattle.std.specs.FinMap.{get}
 use Rattle.std.specs.List.{filter}
 use Rattle.sc_node_table.specs.Values.{Draw, Noted, Op, Call, Lock, Free, Coordinating, Promised, Watching, Effect, Route, AnswerBody, Mail, Answer}
 use Rattle.sc_base.specs.Definitions.{client_actor, is_member}
-use Rattle.sc_words.specs.ideal.Definitions.{key_of, holds_key}
+use Rattle.sc_words.specs.ideal.IdealDefinitions.{key_of, holds_key}
 use Rattle.sc_words.specs.declared.commands.effects.Effect.TheVariants as Was
 use Rattle.sc_mail.specs.declared.bodies.AnswerBody.TheVariants as Says
-use Rattle.sc_group_table.specs.machine.Definitions.{Group, applied, called, served, served_by_note, done}
+use Rattle.sc_group_table.specs.machine.MachineDefinitions.{Group, applied, called, served, served_by_note, done}
 use Rattle.sc_node_table.specs.declared.Before.{Before}
-use Rattle.sc_node_table.specs.Definitions.{entered, effect_reported, answered_or_put_back, announced, answer_of, executed_one, admits_requests, ReplicaState, Place, name_of, members, forgotten, before_of, went_on, spoken_mails, spoken}
-use Rattle.sc_live_steps.specs.calm.Definitions.{IsServed, said_place, newcomers, IsCounting, LeadsOn, Ways, answer_owes, mail_owes, place_owes}
+use Rattle.sc_node_table.specs.NodeDefinitions.{entered, effect_reported, answered_or_put_back, announced, answer_of, executed_one, admits_requests, ReplicaState, Place, name_of, members, forgotten, before_of, went_on, spoken_mails, spoken}
+use Rattle.sc_live_steps.specs.calm.CalmDefinitions.{IsServed, said_place, newcomers, IsCounting, LeadsOn, Ways, answer_owes, mail_owes, place_owes}
 use Rattle.sc_live_steps.proofs.CalmStepsProofs.PotentialSums.{sent_owes}
 use Rattle.sc_live_steps.proofs.CalmStepsProofs.LearntPotential.{begun_owes}
 use Rattle.sc_live_steps.proofs.CalmStepsProofs.CountedPotential.{counted_owes}

@@ -2,11 +2,11 @@
 use Rattle.std.proofs.Common.{◌≡◌, ℕ, ◌≤◌, eqb, ltb, Bool, true, false, cond, List, [], ◌∷◌, length, Option, Some, None, refl, sym, ◌∙◌, ap, subst}
 use Rattle.sc_base.specs.Definitions.{Each, is_member}
 use Rattle.sc_node_table.specs.Values.{Op, Command, Noop, Call, Core, Flight}
-use Rattle.sc_group_table.specs.machine.Definitions.{Group}
-use Rattle.sc_words.specs.paxos.Definitions.{flight_at, without_flight}
-use Rattle.sc_node_table.specs.Definitions.{entered, looked, executed_one, next_ready, ReplicaState, Place, next, members, at_slot, with_slot, without_slot}
-use Rattle.sc_law_walks.specs.Definitions.{IfThere}
-use Rattle.sc_live_steps.specs.calm.Definitions.{AreBounded, IsServed, IsServedCall, ServesAll, IsPaid, MayGoOn, ArePaid, AllPaid, IsCounting, readied_at, DecidesFreely, Ways}
+use Rattle.sc_group_table.specs.machine.MachineDefinitions.{Group}
+use Rattle.sc_words.specs.paxos.PaxosDefinitions.{flight_at, without_flight}
+use Rattle.sc_node_table.specs.NodeDefinitions.{entered, looked, executed_one, next_ready, ReplicaState, Place, next, members, at_slot, with_slot, without_slot}
+use Rattle.sc_law_walks.specs.WalkDefinitions.{IfThere}
+use Rattle.sc_live_steps.specs.calm.CalmDefinitions.{AreBounded, IsServed, IsServedCall, ServesAll, IsPaid, MayGoOn, ArePaid, AllPaid, IsCounting, readied_at, DecidesFreely, Ways}
 use Rattle.sc_live_steps.proofs.CalmStepsProofs.CountedPotential.{counted_ends, left_stays, looked_stays}
 use Rattle.sc_live_steps.proofs.CalmStepsProofs.CallEntries.{call_core, call_leads, call_said}
 use Rattle.sc_live_steps.proofs.CalmStepsProofs.PaidEntries.{near, after_counting, execution_owes}

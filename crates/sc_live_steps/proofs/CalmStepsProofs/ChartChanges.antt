@@ -4,9 +4,9 @@ use Rattle.std.proofs.lemmas.List.Sums.{sum_by-cons, sum_by-append}
 use Rattle.sc_base.specs.Definitions.{Each}
 use Rattle.sc_node_table.specs.Values.{Draw, Node, Client, Seat}
 use Rattle.sc_actor.specs.Definitions.{value}
-use Rattle.sc_live_orderly.specs.Definitions.{under_way}
-use Rattle.sc_meaning.specs.sound.Definitions.{Player, player_table}
-use Rattle.sc_live_steps.specs.calm.Definitions.{players, Chart, player_owes, SeeksNoMore, ChartsMayChange, node_owes, mail_owes, election, Rows, is_led, group_idles}
+use Rattle.sc_live_orderly.specs.OrderlyDefinitions.{under_way}
+use Rattle.sc_meaning.specs.sound.SoundDefinitions.{Player, player_table}
+use Rattle.sc_live_steps.specs.calm.CalmDefinitions.{players, Chart, player_owes, SeeksNoMore, ChartsMayChange, node_owes, mail_owes, election, Rows, is_led, group_idles}
 
 each_less : {X : Type 0} (f g : X → ℕ) (xs : List X) → Each (λ x. f x ≤ g x) xs → sum_by f xs ≤ sum_by g xs
 each_less f g [] each = omega arith

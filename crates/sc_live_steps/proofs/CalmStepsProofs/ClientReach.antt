@@ -9,11 +9,11 @@ use Rattle.std.proofs.Math.Nat.{suc-mul}
 use Rattle.sc_base.specs.Definitions.{Each, same_draw, Arc, end_of}
 use Rattle.sc_node_table.specs.Values.{Draw, Op, Reply, Link, Route, AnswerBody, Answer}
 use Rattle.sc_base.proofs.Lemmas.{draw_is}
-use Rattle.sc_client_table.specs.lookup.Definitions.{KnownGroups, way_to, target_in, changed, preferring, passed_on, starting, group_learnt, learnt_from_not_mine, learnt_from_gone, new_way, next_target}
+use Rattle.sc_client_table.specs.lookup.LookupDefinitions.{KnownGroups, way_to, target_in, changed, preferring, passed_on, starting, group_learnt, learnt_from_not_mine, learnt_from_gone, new_way, next_target}
 use Rattle.sc_client_table.specs.declared.lookup.ways.Way.{Way}
 use Rattle.sc_mail.specs.declared.bodies.AnswerBody.TheVariants as Says
-use Rattle.sc_client_table.specs.table.Definitions.{Client as ClientState, waiting_request, ClientStep, asked_of, sent_where, chosen_for, request_sent, started, waits_for, was_asked, redirected, got}
-use Rattle.sc_live_steps.specs.calm.Definitions.{waiting_one, requests_owe, step_owes, IsInTurn, unknown_one, unknown, AreBounded, Ways, answer_owes, Reach, sent_on, search_owes, client_owes, client_turn_owes, IsUnbegun, LearnsOf, LeavesFor, MayHear, ClientsPay}
+use Rattle.sc_client_table.specs.table.TableDefinitions.{Client as ClientState, waiting_request, ClientStep, asked_of, sent_where, chosen_for, request_sent, started, waits_for, was_asked, redirected, got}
+use Rattle.sc_live_steps.specs.calm.CalmDefinitions.{waiting_one, requests_owe, step_owes, IsInTurn, unknown_one, unknown, AreBounded, Ways, answer_owes, Reach, sent_on, search_owes, client_owes, client_turn_owes, IsUnbegun, LearnsOf, LeavesFor, MayHear, ClientsPay}
 use Rattle.sc_live_steps.proofs.CalmStepsProofs.ClientRows.{clients, request_owes}
 use Rattle.sc_live_steps.proofs.CalmStepsProofs.TeachingAnswers.{set_knows, sent_knows, told_one, gone_one, gone_known}
 

@@ -7,11 +7,11 @@ use Rattle.std.proofs.lemmas.List.{length_push}
 use Rattle.std.proofs.lemmas.List.Sums.{sum_by-cons}
 use Rattle.sc_base.specs.Definitions.{same_draw}
 use Rattle.sc_node_table.specs.Values.{Draw, Op, Reply, Answer}
-use Rattle.sc_client_table.specs.lookup.Definitions.{KnownGroups, way_to, target_in, changed, preferring, passed_on, target_of}
+use Rattle.sc_client_table.specs.lookup.LookupDefinitions.{KnownGroups, way_to, target_in, changed, preferring, passed_on, target_of}
 use Rattle.sc_client_table.specs.declared.lookup.ways.Way.{Way}
 use Rattle.sc_mail.specs.declared.bodies.AnswerBody.TheVariants as Says
-use Rattle.sc_client_table.specs.table.Definitions.{Client as ClientState, waiting_request, request_of, asked_of, sent_where, chosen_for, request_sent, started, waits_for, was_asked, redirected, got}
-use Rattle.sc_live_steps.specs.calm.Definitions.{waiting_one, requests_owe, step_owes, AsksWithin, IsInTurn, ClientsLower, AreBounded, Ways, answer_owes, mail_owes}
+use Rattle.sc_client_table.specs.table.TableDefinitions.{Client as ClientState, waiting_request, request_of, asked_of, sent_where, chosen_for, request_sent, started, waits_for, was_asked, redirected, got}
+use Rattle.sc_live_steps.specs.calm.CalmDefinitions.{waiting_one, requests_owe, step_owes, AsksWithin, IsInTurn, ClientsLower, AreBounded, Ways, answer_owes, mail_owes}
 
 module _ (ways : Ways) where
   -- ---- a request goes out

@@ -4,13 +4,13 @@ use Rattle.std.specs.List.{filter}
 use Rattle.sc_node_table.specs.Values.{Command, Route, Mail, MailBody, Learn, Prepare, Install}
 use Rattle.sc_mail.specs.declared.bodies.AnswerBody.TheVariants as Says
 use Rattle.sc_base.specs.Definitions.{is_member, least_of}
-use Rattle.sc_group_table.specs.machine.Definitions.{Group, base_of}
-use Rattle.sc_words.specs.paxos.Definitions.{LeaderState, without_flight, without_flight_at}
-use Rattle.sc_node_table.specs.Definitions.{ended, stopped, entered, learnt_to, welcomed, slot_lost, landed, left_gone, left, looked_for, looked, executed_one, install_to, asked_to_promise, welcomed_all, sent, sent_others, answered_all, dismissed_all, ReplicaState, Place, name_of, next, members, flying, forgotten, open_slots, under_way, at_slot, without_slot}
-use Rattle.sc_live_steps.specs.calm.Definitions.{IsCounting, newcomers, said_place, Ways, offered_owes, body_owes, mail_owes, replica_owes, idle_owes, election, place_owes}
+use Rattle.sc_group_table.specs.machine.MachineDefinitions.{Group, base_of}
+use Rattle.sc_words.specs.paxos.PaxosDefinitions.{LeaderState, without_flight, without_flight_at}
+use Rattle.sc_node_table.specs.NodeDefinitions.{ended, stopped, entered, learnt_to, welcomed, slot_lost, landed, left_gone, left, looked_for, looked, executed_one, install_to, asked_to_promise, welcomed_all, sent, sent_others, answered_all, dismissed_all, ReplicaState, Place, name_of, next, members, flying, forgotten, open_slots, under_way, at_slot, without_slot}
+use Rattle.sc_live_steps.specs.calm.CalmDefinitions.{IsCounting, newcomers, said_place, Ways, offered_owes, body_owes, mail_owes, replica_owes, idle_owes, election, place_owes}
 use Rattle.sc_live_steps.proofs.CalmStepsProofs.PotentialSums.{sent_owes, without_flight_owes, taken_slot_owes}
 use Rattle.sc_live_steps.proofs.CalmStepsProofs.LearntPotential.{entered_owes, entered_running, entered_flights, entered_ready, looked_owes}
-pub use Rattle.sc_law_walks.proofs.Lemmas.{entered_me}
+pub use Rattle.sc_law_walks.proofs.WalkLemmas.{entered_me}
 pub use Rattle.sc_live_steps.proofs.PumpProofs.Pumping.{none_from as taken_none}
 
 entered_calls : (command : Command) (r : ReplicaState) → (entered command r).backlog ≡ r.backlog

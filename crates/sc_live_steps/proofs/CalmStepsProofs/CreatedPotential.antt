@@ -2,8 +2,8 @@
 use Rattle.std.proofs.Common.{◌≡◌, ℕ, ◌+◌, ◌≤◌, Bool, true, false, cond, List, [], sum_by, Option, Some, None, refl, ◌∙◌, ap, arith}
 use Rattle.sc_node_table.specs.Values.{Base, Route, Mail}
 use Rattle.sc_base.specs.Definitions.{is_member}
-use Rattle.sc_node_table.specs.Definitions.{looked, named, ReplicaState, Place, members, forgotten, installed_replica, looked_up, made_by}
-use Rattle.sc_live_steps.specs.calm.Definitions.{MadeReplicasOwe, Ways, mail_owes, replica_owes, idle_owes, place_owes}
+use Rattle.sc_node_table.specs.NodeDefinitions.{looked, named, ReplicaState, Place, members, forgotten, installed_replica, looked_up, made_by}
+use Rattle.sc_live_steps.specs.calm.CalmDefinitions.{MadeReplicasOwe, Ways, mail_owes, replica_owes, idle_owes, place_owes}
 use Rattle.sc_live_steps.proofs.CalmStepsProofs.InstallRows.{looks_up}
 use Rattle.sc_live_steps.proofs.CalmStepsProofs.GoneLeaders.{looked_gone}
 

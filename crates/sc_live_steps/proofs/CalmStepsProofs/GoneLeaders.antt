@@ -5,9 +5,9 @@ use Rattle.sc_base.specs.Definitions.{client_actor}
 use Rattle.sc_node_table.specs.Values.{Draw, Command, Noop, Call, Join, Leave, Split, Begin, Prepared, RecordVote, GiveUp, Finish, Watched, RecordWatch, Route, Refused, Mail, Answer}
 use Rattle.sc_words.specs.declared.commands.orders.OrderRefusal.TheVariants.{NotLeader}
 use Rattle.sc_mail.specs.declared.bodies.AnswerBody.TheVariants as Says
-use Rattle.sc_group_table.specs.machine.Definitions.{Group}
-use Rattle.sc_node_table.specs.Definitions.{ended, entered, left_gone, left, looked_for, looked, executed_one, answered_all, dismissed, dismissed_all, order_number, order_reported, ReplicaState, Place, name_of, open_slots}
-use Rattle.sc_live_steps.specs.calm.Definitions.{EndsAfter, ArePaid, said_place, newcomers, Ways, command_owes, offered_owes, mail_owes, idle_owes, place_owes}
+use Rattle.sc_group_table.specs.machine.MachineDefinitions.{Group}
+use Rattle.sc_node_table.specs.NodeDefinitions.{ended, entered, left_gone, left, looked_for, looked, executed_one, answered_all, dismissed, dismissed_all, order_number, order_reported, ReplicaState, Place, name_of, open_slots}
+use Rattle.sc_live_steps.specs.calm.CalmDefinitions.{EndsAfter, ArePaid, said_place, newcomers, Ways, command_owes, offered_owes, mail_owes, idle_owes, place_owes}
 use Rattle.sc_live_steps.proofs.CalmStepsProofs.PotentialSums.{sent_owes}
 use Rattle.sc_live_steps.proofs.CalmStepsProofs.LearntPotential.{desk_owes}
 use Rattle.sc_live_steps.proofs.CalmStepsProofs.CountedPotential.{counted_ends, taken_none}

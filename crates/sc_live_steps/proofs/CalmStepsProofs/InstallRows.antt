@@ -4,8 +4,8 @@ use Rattle.std.specs.Prelude.{nat_lt, ◌==◌}
 use Rattle.sc_node_table.specs.Values.{Draw, Body, Base, Lock, Free, Coordinating, Promised, Watching, Heard, Mail}
 use Rattle.sc_base.proofs.Lemmas.{draw_is}
 use Rattle.sc_base.specs.Definitions.{same_draw, is_member}
-use Rattle.sc_node_table.specs.Definitions.{stopped, looked, jumped, question, asked_node, ReplicaState, Place, next, members, settled, last_slot, forgotten, looked_up, took_over, install_row, asked_next, elsewhere_row}
-use Rattle.sc_live_steps.specs.calm.Definitions.{AsksAs, Ways, body_owes, asked_owes, mail_owes, replica_owes, idle_owes, election, place_owes}
+use Rattle.sc_node_table.specs.NodeDefinitions.{stopped, looked, jumped, question, asked_node, ReplicaState, Place, next, members, settled, last_slot, forgotten, looked_up, took_over, install_row, asked_next, elsewhere_row}
+use Rattle.sc_live_steps.specs.calm.CalmDefinitions.{AsksAs, Ways, body_owes, asked_owes, mail_owes, replica_owes, idle_owes, election, place_owes}
 use Rattle.sc_live_steps.proofs.CalmStepsProofs.PotentialSums.{sent_owes, idle_most}
 use Rattle.sc_live_steps.proofs.CalmStepsProofs.LearntPotential.{looked_owes}
 

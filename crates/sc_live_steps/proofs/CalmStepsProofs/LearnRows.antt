@@ -4,10 +4,10 @@ use Rattle.std.proofs.lemmas.Bool.{ltb-true, eqb-true}
 use Rattle.sc_node_table.specs.Values.{Ballot, Command, Route, Mail, Prepare, Ask, Report}
 use Rattle.sc_base.specs.Definitions.{least_of}
 use Rattle.sc_words.specs.declared.paxos.answers.Must.TheVariants.{Free as Open}
-use Rattle.sc_words.specs.paxos.Definitions.{LeaderState, new_leader, must}
-use Rattle.sc_node_table.specs.Definitions.{open_nodes, elected, is_among, looked_for, looked, executed_one, executed_ready, all_ready, executed, sent, sent_all, pumped, ReplicaState, Place, Executed, childless, name_of, next, members, last_slot, learn_row}
-use Rattle.sc_law_walks.proofs.Lemmas.{idle_ready, idle_pump}
-use Rattle.sc_live_steps.specs.calm.Definitions.{AreNines, Follows, Ways, place_owes}
+use Rattle.sc_words.specs.paxos.PaxosDefinitions.{LeaderState, new_leader, must}
+use Rattle.sc_node_table.specs.NodeDefinitions.{open_nodes, elected, is_among, looked_for, looked, executed_one, executed_ready, all_ready, executed, sent, sent_all, pumped, ReplicaState, Place, Executed, childless, name_of, next, members, last_slot, learn_row}
+use Rattle.sc_law_walks.proofs.WalkLemmas.{idle_ready, idle_pump}
+use Rattle.sc_live_steps.specs.calm.CalmDefinitions.{AreNines, Follows, Ways, place_owes}
 use Rattle.sc_live_steps.proofs.CalmStepsProofs.PumpPotential.{pump_owes}
 use Rattle.sc_live_steps.proofs.CalmStepsProofs.LearntPotential.{learnt_ends, learnt_owes}
 

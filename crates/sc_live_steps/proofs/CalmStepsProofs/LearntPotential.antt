@@ -4,16 +4,16 @@ use Rattle.std.specs.Option.{option_map}
 use Rattle.std.proofs.lemmas.List.Sums.{length-filter, count_by-le-length}
 use Rattle.sc_base.specs.Definitions.{most_nodes, least_of}
 use Rattle.sc_node_table.specs.Values.{Ballot, Command, Effect, Route, OrderResult, Mail, Prepare, Told, Flight}
-use Rattle.sc_group_table.specs.policy.Definitions.{is_reported}
-use Rattle.sc_words.specs.paxos.Definitions.{LeaderState, new_leader, flight_at, without_flight_at}
-use Rattle.sc_group_table.specs.machine.Definitions.{applied}
+use Rattle.sc_group_table.specs.policy.PolicyDefinitions.{is_reported}
+use Rattle.sc_words.specs.paxos.PaxosDefinitions.{LeaderState, new_leader, flight_at, without_flight_at}
+use Rattle.sc_group_table.specs.machine.MachineDefinitions.{applied}
 use Rattle.sc_node_table.specs.declared.Before.{Before}
-use Rattle.sc_node_table.specs.Definitions.{is_in_some, nodes_to, open_nodes, elected, entered, order_result, effect_reported, announced, learnt_to, welcomed, slot_lost, landed, is_among, looked_for, looked, executed_one, order_reported, result_sent, sent_all, order_number, ReplicaState, Place, name_of, next, members, flying, forgotten, numbers_from, without_slot, before_of, begun_result, spoken_number, result_reported, begun_reported, spoken_mails, spoken}
-use Rattle.sc_live_steps.specs.calm.Definitions.{Ways, mail_owes, replica_owes, idle_owes, election, place_owes}
+use Rattle.sc_node_table.specs.NodeDefinitions.{is_in_some, nodes_to, open_nodes, elected, entered, order_result, effect_reported, announced, learnt_to, welcomed, slot_lost, landed, is_among, looked_for, looked, executed_one, order_reported, result_sent, sent_all, order_number, ReplicaState, Place, name_of, next, members, flying, forgotten, numbers_from, without_slot, before_of, begun_result, spoken_number, result_reported, begun_reported, spoken_mails, spoken}
+use Rattle.sc_live_steps.specs.calm.CalmDefinitions.{Ways, mail_owes, replica_owes, idle_owes, election, place_owes}
 use Rattle.sc_live_steps.proofs.CalmStepsProofs.PotentialSums.{sent_owes, all_owe, without_flight_owes, without_slot_owes, idle_most as idle_low}
 use Rattle.sc_live_steps.proofs.FollowingProofs.FollowerTables.{left_same as left_learnt, learnt_same as learnt_learnt, welcomed_same as welcomed_learnt}
 use Rattle.std.proofs.lemmas.List.Sums.{length-filter, count_by-le-length}
-pub use Rattle.sc_law_walks.proofs.Lemmas.{entered_running, entered_ready}
+pub use Rattle.sc_law_walks.proofs.WalkLemmas.{entered_running, entered_ready}
 
 -- ---- the nodes of an election
 

@@ -3,10 +3,10 @@ use Rattle.std.proofs.Common.{◌≡◌, ℕ, ◌+◌, ◌-◌, ◌^◌, ◌≤�
 use Rattle.std.proofs.lemmas.Bool.{ltb-true}
 use Rattle.sc_node_table.specs.Values.{Ballot, Command, Route, Mail, Prepare, Ask}
 use Rattle.sc_base.specs.Definitions.{least_of}
-use Rattle.sc_words.specs.paxos.Definitions.{new_leader}
-use Rattle.sc_node_table.specs.Definitions.{open_nodes, elected, is_among, looked_for, looked, executed_one, executed, sent, sent_all, pumped, ReplicaState, Place, Executed, childless, name_of, next, members, last_slot, learn_row, mailed}
-use Rattle.sc_live_steps.specs.calm.Definitions.{led_owes, StaysBehind, LearnsLed, LedLearnsLower, Ways}
-use Rattle.sc_law_walks.proofs.Lemmas.{idle_ready, idle_pump}
+use Rattle.sc_words.specs.paxos.PaxosDefinitions.{new_leader}
+use Rattle.sc_node_table.specs.NodeDefinitions.{open_nodes, elected, is_among, looked_for, looked, executed_one, executed, sent, sent_all, pumped, ReplicaState, Place, Executed, childless, name_of, next, members, last_slot, learn_row, mailed}
+use Rattle.sc_live_steps.specs.calm.CalmDefinitions.{led_owes, StaysBehind, LearnsLed, LedLearnsLower, Ways}
+use Rattle.sc_law_walks.proofs.WalkLemmas.{idle_ready, idle_pump}
 use Rattle.sc_live_steps.proofs.CalmStepsProofs.LearntPotential.{learnt_ends}
 
 module _ (ways : Ways) where

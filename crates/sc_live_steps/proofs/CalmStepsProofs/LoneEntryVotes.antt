@@ -2,9 +2,9 @@
 use Rattle.std.proofs.Common.{◌≡◌, ℕ, eqb, Bool, true, false, cond, List, [], ◌∷◌, Option, Some, None, sym, ◌∙◌, ap, subst}
 use Rattle.std.proofs.lemmas.Bool.{cond-true, eq-eqb}
 use Rattle.sc_node_table.specs.Values.{Command, Flight}
-use Rattle.sc_words.specs.paxos.Definitions.{flight_at}
-use Rattle.sc_node_table.specs.Definitions.{Place, next, with_slot, without_slot}
-use Rattle.sc_live_steps.specs.calm.Definitions.{AreBounded, FliesAlone, readied_at, MayPump, ExecutesFreely, DecidesFreely, Ways}
+use Rattle.sc_words.specs.paxos.PaxosDefinitions.{flight_at}
+use Rattle.sc_node_table.specs.NodeDefinitions.{Place, next, with_slot, without_slot}
+use Rattle.sc_live_steps.specs.calm.CalmDefinitions.{AreBounded, FliesAlone, readied_at, MayPump, ExecutesFreely, DecidesFreely, Ways}
 use Rattle.sc_live_steps.proofs.CalmStepsProofs.PaidEntries.{execution_owes, lone_paid}
 
 -- the one that flies is found

@@ -1,6 +1,6 @@
 -- What the rows of mail lower, by the body of the mail.
-use Rattle.sc_node_table.specs.Definitions.{mailed}
-use Rattle.sc_live_steps.specs.calm.Definitions.{AnswersLower, AsksLower, CountsLower, LearnsLower, MovesLower, OldLearnsLower, VotesLower}
+use Rattle.sc_node_table.specs.NodeDefinitions.{mailed}
+use Rattle.sc_live_steps.specs.calm.CalmDefinitions.{AnswersLower, AsksLower, CountsLower, LearnsLower, MovesLower, OldLearnsLower, VotesLower}
 use Rattle.sc_live_steps.proofs.CalmStepsProofs.RequestPotential.{promise_lowers, request_lowers, offer_lowers, watch_lowers}
 use Rattle.sc_live_steps.proofs.CalmStepsProofs.InstallRows.{install_lowers, elsewhere_lowers}
 use Rattle.sc_live_steps.proofs.CalmStepsProofs.LearnRows.{learn_lowers, old_lowers}

@@ -5,10 +5,10 @@ use Rattle.std.proofs.lemmas.Bool.{eq-eqb, or_right}
 use Rattle.std.proofs.lemmas.List.Elements.{filter-append}
 use Rattle.sc_base.specs.Definitions.{Among, is_member, with_member}
 use Rattle.sc_node_table.specs.Values.{Command, Noop, Join, Leave, Effect, Route, OrderRefusal, AnswerBody, Mail}
-use Rattle.sc_group_table.specs.machine.Definitions.{Group, applied, ordered, refusal_of, with_node, without_node}
+use Rattle.sc_group_table.specs.machine.MachineDefinitions.{Group, applied, ordered, refusal_of, with_node, without_node}
 use Rattle.sc_node_table.specs.declared.Before.{Before}
-use Rattle.sc_node_table.specs.Definitions.{entered, order_result, effect_reported, answered_or_put_back, announced, answer_of, executed_one, ReplicaState, Place, members, forgotten, before_of, begun_reported, went_on, spoken_mails, spoken}
-use Rattle.sc_live_steps.specs.calm.Definitions.{said_place, newcomers, IsChange, LeadsOn, StopsAfter, Ways, offered_owes, mail_owes, place_owes}
+use Rattle.sc_node_table.specs.NodeDefinitions.{entered, order_result, effect_reported, answered_or_put_back, announced, answer_of, executed_one, ReplicaState, Place, members, forgotten, before_of, begun_reported, went_on, spoken_mails, spoken}
+use Rattle.sc_live_steps.specs.calm.CalmDefinitions.{said_place, newcomers, IsChange, LeadsOn, StopsAfter, Ways, offered_owes, mail_owes, place_owes}
 use Rattle.sc_live_steps.proofs.CalmStepsProofs.LearntPotential.{effect_owes, begun_owes}
 use Rattle.sc_live_steps.proofs.CalmStepsProofs.CountedPotential.{counted_owes, leaving_owes}
 

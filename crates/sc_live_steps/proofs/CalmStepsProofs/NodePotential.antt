@@ -6,8 +6,8 @@ use Rattle.sc_base.specs.Definitions.{same_draw}
 use Rattle.sc_node_table.specs.Values.{Draw, Base, OrderLine, Refused, AnswerBody, Mail, MailBody, Request, Answer, Prepare, Accept, Learn, Ask, Install, TxPrepare, TxElsewhere, TxWatch, Told}
 use Rattle.sc_words.specs.declared.commands.orders.OrderRefusal.TheVariants.{NotLeader}
 use Rattle.sc_mail.specs.declared.bodies.AnswerBody.TheVariants as Says
-use Rattle.sc_node_table.specs.Definitions.{NodeState, replica_of, with_replica, is_before, with_new, group_of_mail, with_made, unknown, may_come, with_born, with_children, taken_by, routed, on_mail, group_of_order, ordered_of, on_order, ordered_row, ReplicaState, Place, Executed, name_of, born_replica, last_slot, mailed, made_by, slots_ahead}
-use Rattle.sc_live_steps.specs.calm.Definitions.{Lowers, MayPump, node_owes, group_owes, turn_owes, IsTaken, after_mail, IsDelivered, MayMiss, NodesLower, NodesRaiseLittle, Ways, answer_owes, elsewhere_owes, body_owes, mail_owes, replica_owes, idle_owes}
+use Rattle.sc_node_table.specs.NodeDefinitions.{NodeState, replica_of, with_replica, is_before, with_new, group_of_mail, with_made, unknown, may_come, with_born, with_children, taken_by, routed, on_mail, group_of_order, ordered_of, on_order, ordered_row, ReplicaState, Place, Executed, name_of, born_replica, last_slot, mailed, made_by, slots_ahead}
+use Rattle.sc_live_steps.specs.calm.CalmDefinitions.{Lowers, MayPump, node_owes, group_owes, turn_owes, IsTaken, after_mail, IsDelivered, MayMiss, NodesLower, NodesRaiseLittle, Ways, answer_owes, elsewhere_owes, body_owes, mail_owes, replica_owes, idle_owes}
 use Rattle.sc_live_steps.proofs.CalmStepsProofs.CreatedPotential.{made_owe}
 use Rattle.sc_live_steps.proofs.CalmStepsProofs.OrderPotential.{order_raises}
 use Rattle.sc_live_steps.proofs.CalmStepsProofs.PotentialSums.{sent_owes}

@@ -4,8 +4,8 @@ use Rattle.std.proofs.lemmas.List.Sums.{sum_by_push}
 use Rattle.sc_base.specs.Definitions.{Drawer, next_name}
 use Rattle.sc_node_table.specs.Values.{Draw, Command, Order, OrderLine, OrderRefusal, Refused, Mail, Told}
 use Rattle.sc_words.specs.declared.commands.orders.Order.TheVariants as An
-use Rattle.sc_node_table.specs.Definitions.{ordered_command, untaken, queued_or_refused, ordered_row, with_order_queued, ReplicaState, Place}
-use Rattle.sc_live_steps.specs.calm.Definitions.{MayPump, Ways, command_owes, place_owes}
+use Rattle.sc_node_table.specs.NodeDefinitions.{ordered_command, untaken, queued_or_refused, ordered_row, with_order_queued, ReplicaState, Place}
+use Rattle.sc_live_steps.specs.calm.CalmDefinitions.{MayPump, Ways, command_owes, place_owes}
 use Rattle.sc_live_steps.proofs.CalmStepsProofs.PotentialSums.{sent_owes}
 use Rattle.sc_live_steps.proofs.CalmStepsProofs.PumpPotential.{pump_owes}
 

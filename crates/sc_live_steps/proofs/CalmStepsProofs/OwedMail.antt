@@ -6,10 +6,10 @@ use Rattle.sc_base.specs.Definitions.{Each}
 use Rattle.sc_node_table.specs.Values.{Mail, Seat}
 use Rattle.sc_actor.specs.Definitions.{waiting, kth, is_quiet}
 use Rattle.sc_actor.proofs.Lemmas.{waiting_any}
-use Rattle.sc_live_orderly.specs.Definitions.{IsTidy, is_born, under_way}
-use Rattle.sc_live_orderly.proofs.Lemmas.{delivered, may-born}
-use Rattle.sc_meaning.specs.sound.Definitions.{Player, receiver_of}
-use Rattle.sc_live_steps.specs.calm.Definitions.{players, IsDelivered, Ways, mail_owes, Rows}
+use Rattle.sc_live_orderly.specs.OrderlyDefinitions.{IsTidy, is_born, under_way}
+use Rattle.sc_live_orderly.proofs.OrderlyLemmas.{delivered, may-born}
+use Rattle.sc_meaning.specs.sound.SoundDefinitions.{Player, receiver_of}
+use Rattle.sc_live_steps.specs.calm.CalmDefinitions.{players, IsDelivered, Ways, mail_owes, Rows}
 use Rattle.sc_live_steps.proofs.CalmStepsProofs.NodePotential.{body_most}
 
 -- each owes one at least

@@ -2,15 +2,15 @@
 use Rattle.std.proofs.Common.{◌≡◌, ℕ, ◌+◌, ◌*◌, ◌≤◌, Bool, true, false, List, [], ◌∷◌, length, sum_by, Option, Some, None, ◌⊎◌, inl, inr, refl, sym, ◌∙◌, ap, subst, arith}
 use Rattle.sc_node_table.specs.Values.{Draw, Command, Noop, Call, Join, Leave, Split, Begin, Prepared, RecordVote, GiveUp, Finish, Watched, RecordWatch, Past, Vote, Mail, Report}
 use Rattle.sc_words.specs.declared.commands.votes.Past.TheVariants as Cast
-use Rattle.sc_words.specs.commands.Definitions.{is_changed}
+use Rattle.sc_words.specs.commands.CommandDefinitions.{is_changed}
 use Rattle.sc_base.specs.Definitions.{is_member, least_of}
-use Rattle.sc_group_table.specs.machine.Definitions.{Group, applied}
-use Rattle.sc_words.specs.paxos.Definitions.{must, LogState, next_of}
-use Rattle.sc_node_table.specs.Definitions.{ended, stopped, entered, looked, executed_one, next_child, next_ready, ending, executed_ready, executed, pumped, ReplicaState, Place, Executed, childless, next, members, without_slot}
-use Rattle.sc_law_walks.specs.Definitions.{IfThere}
-use Rattle.sc_live_steps.specs.calm.Definitions.{AreBounded, EndsAfter, LeavesFew, IsWatchPaid, IsPaid, MayGoOn, ArePaid, AllPaid, said_place, newcomers, AreNines, MayPump, IsChange, LeadsOn, StopsAfter, ExecutesFreely, Ways, election, offered_owes, mail_owes, place_owes}
+use Rattle.sc_group_table.specs.machine.MachineDefinitions.{Group, applied}
+use Rattle.sc_words.specs.paxos.PaxosDefinitions.{must, LogState, next_of}
+use Rattle.sc_node_table.specs.NodeDefinitions.{ended, stopped, entered, looked, executed_one, next_child, next_ready, ending, executed_ready, executed, pumped, ReplicaState, Place, Executed, childless, next, members, without_slot}
+use Rattle.sc_law_walks.specs.WalkDefinitions.{IfThere}
+use Rattle.sc_live_steps.specs.calm.CalmDefinitions.{AreBounded, EndsAfter, LeavesFew, IsWatchPaid, IsPaid, MayGoOn, ArePaid, AllPaid, said_place, newcomers, AreNines, MayPump, IsChange, LeadsOn, StopsAfter, ExecutesFreely, Ways, election, offered_owes, mail_owes, place_owes}
 use Rattle.sc_live_steps.proofs.CalmStepsProofs.PumpPotential.{pump_owes}
-use Rattle.sc_law_walks.proofs.Lemmas.{entered_next, idle_pump}
+use Rattle.sc_law_walks.proofs.WalkLemmas.{entered_next, idle_pump}
 use Rattle.sc_live_steps.proofs.CalmStepsProofs.LearnRows.{IsFresh, looked_fresh, unbound_new}
 use Rattle.sc_live_steps.proofs.CalmStepsProofs.CountedPotential.{Counts, counted_ends, counted_owes, leaving_owes, left_stays, looked_stays, left_stops, stops_idle}
 use Rattle.sc_live_steps.proofs.CalmStepsProofs.MemberChanges.{silent_said, changes_owe, leader_leaves}

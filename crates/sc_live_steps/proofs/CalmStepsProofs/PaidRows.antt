@@ -8,12 +8,12 @@ use Rattle.sc_actor.specs.declared.rows.Event.TheVariants.{Told}
 use Rattle.sc_actor.specs.declared.rows.Input.TheVariants.{Go as GoInput, Told as ToldInput}
 use Rattle.sc_actor.specs.Definitions.{mails, copies, counts_at, is_delivery, value, acted, input_of, are_apart, row_of, IsLawful, is_quiet}
 use Rattle.sc_actor.proofs.Lemmas.{waiting_one, lawful-prefix}
-use Rattle.sc_live_orderly.specs.Definitions.{IsCalmEvent, mail_with, is_born, is_told, deliveries, under_way, AreInTime}
-use Rattle.sc_live_orderly.proofs.Lemmas.{in_time_before, in_time_tidy, last_in_time, by_rows, count_push, delivered, filter_sum, after-row, is_born-from}
-use Rattle.sc_node_table.specs.Definitions.{NodeState, on_mail, ordered_of, on_order}
-use Rattle.sc_client_table.specs.table.Definitions.{Client as ClientState, started, got}
-use Rattle.sc_meaning.specs.sound.Definitions.{Player, player_table, receiver_of}
-use Rattle.sc_live_steps.specs.calm.Definitions.{players, Chart, player_owes, run_owes, AreBounded, TakenMailLowers, IsCalmMailAt, Takes, Learns, Makes, Misses, Strays, IsBarred, IsCalmFor, MayGoNow, MayBeOrdered, FindsCalm, KeepCalm, KeptCalmIsMeasured, Lowers, Points, LowersLed, Ways, body_owes, mail_owes, Elsewhere, groups_owe, client_owes, client_turn_owes, PartyLowers, Rows, led_elsewhere}
+use Rattle.sc_live_orderly.specs.OrderlyDefinitions.{IsCalmEvent, mail_with, is_born, is_told, deliveries, under_way, AreInTime}
+use Rattle.sc_live_orderly.proofs.OrderlyLemmas.{in_time_before, in_time_tidy, last_in_time, by_rows, count_push, delivered, filter_sum, after-row, is_born-from}
+use Rattle.sc_node_table.specs.NodeDefinitions.{NodeState, on_mail, ordered_of, on_order}
+use Rattle.sc_client_table.specs.table.TableDefinitions.{Client as ClientState, started, got}
+use Rattle.sc_meaning.specs.sound.SoundDefinitions.{Player, player_table, receiver_of}
+use Rattle.sc_live_steps.specs.calm.CalmDefinitions.{players, Chart, player_owes, run_owes, AreBounded, TakenMailLowers, IsCalmMailAt, Takes, Learns, Makes, Misses, Strays, IsBarred, IsCalmFor, MayGoNow, MayBeOrdered, FindsCalm, KeepCalm, KeptCalmIsMeasured, Lowers, Points, LowersLed, Ways, body_owes, mail_owes, Elsewhere, groups_owe, client_owes, client_turn_owes, PartyLowers, Rows, led_elsewhere}
 use Rattle.sc_live_steps.proofs.CalmStepsProofs.ChartChanges.{charts_may_change}
 use Rattle.sc_live_steps.proofs.CalmStepsProofs.LedReplicas.{led_learns}
 use Rattle.sc_live_steps.proofs.CalmStepsProofs.LoneEntryVotes.{lone_decides}

@@ -5,8 +5,8 @@ use Rattle.std.proofs.lemmas.List.Sums.{sum_by-cons}
 use Rattle.sc_base.specs.Definitions.{Each, same_draw}
 use Rattle.sc_node_table.specs.Values.{Draw, Base, OrderLine, Mail, MailBody}
 use Rattle.sc_base.proofs.Lemmas.{draw_is, same_name}
-use Rattle.sc_node_table.specs.Definitions.{NodeState, replica_of, with_replica, is_before, with_new, with_born, with_children, taken_by, on_mail, group_of_order, ordered_of, on_order, ordered_row, ReplicaState, Place, Executed, name_of, born_replica, mailed, slots_ahead}
-use Rattle.sc_live_steps.specs.calm.Definitions.{IsLedMail, LedPartiesLower, group_owes, IsTaken, after_mail, Ways, body_owes, mail_owes, idle_with, Elsewhere, party_owes, party_turn_owes, StandsOnce, IsCalmMail, IsCalmOrder, PartiesLower, PartiesRaiseLittle}
+use Rattle.sc_node_table.specs.NodeDefinitions.{NodeState, replica_of, with_replica, is_before, with_new, with_born, with_children, taken_by, on_mail, group_of_order, ordered_of, on_order, ordered_row, ReplicaState, Place, Executed, name_of, born_replica, mailed, slots_ahead}
+use Rattle.sc_live_steps.specs.calm.CalmDefinitions.{IsLedMail, LedPartiesLower, group_owes, IsTaken, after_mail, Ways, body_owes, mail_owes, idle_with, Elsewhere, party_owes, party_turn_owes, StandsOnce, IsCalmMail, IsCalmOrder, PartiesLower, PartiesRaiseLittle}
 use Rattle.sc_live_steps.proofs.CalmStepsProofs.NodePotential.{taken_turn, taken_owes, raise_little}
 pub use Rattle.sc_meaning.proofs.EntriesProofs.Names.{other_name as apart}
 pub use Rattle.sc_live_steps.proofs.CalmStepsProofs.PotentialSums.{idle_most}

@@ -3,9 +3,9 @@ use Rattle.std.proofs.Common.{◌≡◌, ℕ, suc, ◌+◌, ◌*◌, ◌≤◌, 
 use Rattle.std.proofs.lemmas.List.Sums.{sum_by_push, sum_by-cons}
 use Rattle.std.proofs.Math.Nat.{suc-mul}
 use Rattle.sc_node_table.specs.Values.{Command, Noop, Route, Mail, MailBody, Flight}
-use Rattle.sc_words.specs.paxos.Definitions.{without_flight}
-use Rattle.sc_node_table.specs.Definitions.{sent, sent_all, at_slot, with_slot, without_slot}
-use Rattle.sc_live_steps.specs.calm.Definitions.{idle_owes, election, Ways, command_owes, offered_owes, body_owes, mail_owes, flights_owe, ready_owes}
+use Rattle.sc_words.specs.paxos.PaxosDefinitions.{without_flight}
+use Rattle.sc_node_table.specs.NodeDefinitions.{sent, sent_all, at_slot, with_slot, without_slot}
+use Rattle.sc_live_steps.specs.calm.CalmDefinitions.{idle_owes, election, Ways, command_owes, offered_owes, body_owes, mail_owes, flights_owe, ready_owes}
 use Rattle.std.specs.Prelude.{Option, Some, None}
 
 -- each command owes a round of agreement and an answer at least

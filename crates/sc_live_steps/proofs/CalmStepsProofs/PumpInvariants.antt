@@ -1,9 +1,9 @@
 -- What a pump and an entry leave as it is.
 use Rattle.std.proofs.Common.{◌≡◌, ℕ, ◌≤◌, List, [], ◌∷◌, ◌++◌, length, refl, sym, subst}
 use Rattle.sc_node_table.specs.Values.{Command}
-use Rattle.sc_node_table.specs.Definitions.{entered, offered, pumped, ReplicaState, Place, next, members, forgotten, rest_of}
-use Rattle.sc_live_steps.specs.calm.Definitions.{MayGoOn, AreNines}
-use Rattle.sc_law_walks.proofs.Lemmas.{pumped_freely}
+use Rattle.sc_node_table.specs.NodeDefinitions.{entered, offered, pumped, ReplicaState, Place, next, members, forgotten, rest_of}
+use Rattle.sc_live_steps.specs.calm.CalmDefinitions.{MayGoOn, AreNines}
+use Rattle.sc_law_walks.proofs.WalkLemmas.{pumped_freely}
 
 -- ---- a pump leaves all but what is in flight and the queues
 

@@ -4,13 +4,13 @@ use Rattle.std.specs.Prelude.{is_some, nat_le}
 use Rattle.std.specs.List.{list_any}
 use Rattle.std.proofs.lemmas.List.Sums.{sum_by_push, sum_by-cons}
 use Rattle.sc_node_table.specs.Values.{Draw, Op, Command, Noop, Call, Core, Route, AnswerBody, Mail, Accept, Answer, Flight}
-use Rattle.sc_words.specs.ideal.Definitions.{key_of, holds_key}
+use Rattle.sc_words.specs.ideal.IdealDefinitions.{key_of, holds_key}
 use Rattle.sc_mail.specs.declared.bodies.AnswerBody.TheVariants as Says
 use Rattle.sc_words.specs.declared.paxos.answers.Must.TheVariants.{Free as Open}
-use Rattle.sc_words.specs.paxos.Definitions.{must}
+use Rattle.sc_words.specs.paxos.PaxosDefinitions.{must}
 use Rattle.sc_base.specs.Definitions.{client_actor}
-use Rattle.sc_node_table.specs.Definitions.{answered, Found, is_act, waits, refused_by, turned_down, next_queued, from_backlog, from_acts, from_queues, found_for, offered, pumped_from, pumped, ReplicaState, Place, name_of, next, settled, may_offer, taken_at, under_way, is_idle, last_slot}
-use Rattle.sc_live_steps.specs.calm.Definitions.{IsUnbound, AreNines, Ways, command_owes, offered_owes, answer_owes, mail_owes, place_owes}
+use Rattle.sc_node_table.specs.NodeDefinitions.{answered, Found, is_act, waits, refused_by, turned_down, next_queued, from_backlog, from_acts, from_queues, found_for, offered, pumped_from, pumped, ReplicaState, Place, name_of, next, settled, may_offer, taken_at, under_way, is_idle, last_slot}
+use Rattle.sc_live_steps.specs.calm.CalmDefinitions.{IsUnbound, AreNines, Ways, command_owes, offered_owes, answer_owes, mail_owes, place_owes}
 use Rattle.sc_live_steps.proofs.CalmStepsProofs.PotentialSums.{command_most, sent_owes, all_owe}
 use Rattle.sc_live_steps.proofs.PumpProofs.Pumping.{open_found as found_is}
 

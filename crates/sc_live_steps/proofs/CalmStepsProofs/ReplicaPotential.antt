@@ -5,12 +5,12 @@ use Rattle.std.proofs.lemmas.List.Sums.{sum_by_push}
 use Rattle.sc_node_table.specs.Values.{Ballot, Draw, Command, RecordVote, Finish, RecordWatch, Outcome, Past, Vote, Mail, Promise, Accepted, Nack, Install, TxOutcome, AcceptAnswer, PrepareAnswer, Report}
 use Rattle.sc_words.specs.declared.commands.votes.Past.TheVariants as Cast
 use Rattle.sc_words.specs.declared.commands.votes.Vote.TheVariants as Says
-use Rattle.sc_group_table.specs.machine.Definitions.{base_of}
+use Rattle.sc_group_table.specs.machine.MachineDefinitions.{base_of}
 use Rattle.sc_words.specs.declared.paxos.answers.AcceptAnswer.TheVariants as Asked
 use Rattle.sc_words.specs.declared.paxos.answers.PrepareAnswer.TheVariants as Answers
-use Rattle.sc_words.specs.paxos.Definitions.{accepted as accepted_by, AcceptorState, below, prepared}
-use Rattle.sc_node_table.specs.Definitions.{has_act, act_queued, saw, stopped, install_to, sent, pumped, ReplicaState, Place, name_of, next, noted_outcome, awaits_vote, awaits_watch, is_bound, vote_queued, vote_met, vote_row, watch_queued, watch_met, watched_row, outcome_row, hinted, promise_to, promised, prepare_row, accepted_to, took, accept_row, nack_row}
-use Rattle.sc_live_steps.specs.calm.Definitions.{MayPump, Ways, command_owes, place_owes}
+use Rattle.sc_words.specs.paxos.PaxosDefinitions.{accepted as accepted_by, AcceptorState, below, prepared}
+use Rattle.sc_node_table.specs.NodeDefinitions.{has_act, act_queued, saw, stopped, install_to, sent, pumped, ReplicaState, Place, name_of, next, noted_outcome, awaits_vote, awaits_watch, is_bound, vote_queued, vote_met, vote_row, watch_queued, watch_met, watched_row, outcome_row, hinted, promise_to, promised, prepare_row, accepted_to, took, accept_row, nack_row}
+use Rattle.sc_live_steps.specs.calm.CalmDefinitions.{MayPump, Ways, command_owes, place_owes}
 use Rattle.sc_live_steps.proofs.CalmStepsProofs.PotentialSums.{sent_owes}
 use Rattle.sc_live_steps.proofs.CalmStepsProofs.PumpPotential.{pump_owes}
 

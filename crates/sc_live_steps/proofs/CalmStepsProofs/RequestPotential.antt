@@ -4,14 +4,14 @@ use Rattle.std.specs.Prelude.{nat_le}
 use Rattle.std.proofs.lemmas.List.Sums.{sum_by_push, sum_by-cons}
 use Rattle.sc_base.specs.Definitions.{client_actor, same_ballot, is_member}
 use Rattle.sc_node_table.specs.Values.{Ballot, Draw, Op, Offer, Watch, Command, Call, Prepared, Watched, Route, Past, AnswerBody, Mail, Answer, TxVote, TxWatched, TxElsewhere, Report}
-use Rattle.sc_words.specs.ideal.Definitions.{key_of, holds_key}
+use Rattle.sc_words.specs.ideal.IdealDefinitions.{key_of, holds_key}
 use Rattle.sc_words.specs.declared.commands.votes.Past.TheVariants as Cast
 use Rattle.sc_words.specs.declared.commands.votes.Vote.TheVariants as Votes
 use Rattle.sc_mail.specs.declared.bodies.AnswerBody.TheVariants as Says
-use Rattle.sc_group_table.specs.machine.Definitions.{locked_in, frozen_of, is_locked_in}
-use Rattle.sc_words.specs.paxos.Definitions.{LeaderState, must, promise_counted}
-use Rattle.sc_node_table.specs.Definitions.{act_queued, admits_requests, pumped, queued_number, is_request_of, without_request, ReplicaState, Place, name_of, request_refusal, refused_at, queued, requested, request_row, standing_by, standing_vote, noted_vote, voted_to, sent_elsewhere, offered_by, offer_row, watched_to, watched_by, watch_row, leads, promise_row}
-use Rattle.sc_live_steps.specs.calm.Definitions.{MayPump, IsUnbound, Points, Ways, command_owes, answer_owes, prepare_owes, watch_owes, asked_owes, elsewhere_owes, mail_owes, flights_owe, place_owes}
+use Rattle.sc_group_table.specs.machine.MachineDefinitions.{locked_in, frozen_of, is_locked_in}
+use Rattle.sc_words.specs.paxos.PaxosDefinitions.{LeaderState, must, promise_counted}
+use Rattle.sc_node_table.specs.NodeDefinitions.{act_queued, admits_requests, pumped, queued_number, is_request_of, without_request, ReplicaState, Place, name_of, request_refusal, refused_at, queued, requested, request_row, standing_by, standing_vote, noted_vote, voted_to, sent_elsewhere, offered_by, offer_row, watched_to, watched_by, watch_row, leads, promise_row}
+use Rattle.sc_live_steps.specs.calm.CalmDefinitions.{MayPump, IsUnbound, Points, Ways, command_owes, answer_owes, prepare_owes, watch_owes, asked_owes, elsewhere_owes, mail_owes, flights_owe, place_owes}
 use Rattle.sc_live_steps.proofs.CalmStepsProofs.PotentialSums.{sent_owes}
 use Rattle.sc_live_steps.proofs.CalmStepsProofs.PumpPotential.{pump_owes}
 use Rattle.sc_live_steps.proofs.CalmStepsProofs.ReplicaPotential.{queued_owes}

@@ -6,12 +6,12 @@ use Rattle.sc_base.specs.Definitions.{Each}
 use Rattle.sc_node_table.specs.Values.{OrderLine, Mail, Node, Client, Seat, Input}
 use Rattle.sc_actor.specs.Definitions.{mails, copies, is_for, value, replay, acted, input_of, numbers_of, is_quiet}
 use Rattle.sc_actor.proofs.Lemmas.{wide_none}
-use Rattle.sc_live_orderly.specs.Definitions.{IsTidy, is_born, under_way}
-use Rattle.sc_live_orderly.proofs.Lemmas.{empty_by, in_time_tidy, may-born, ends_quiet}
-use Rattle.sc_node_table.specs.Definitions.{ReplicaState}
+use Rattle.sc_live_orderly.specs.OrderlyDefinitions.{IsTidy, is_born, under_way}
+use Rattle.sc_live_orderly.proofs.OrderlyLemmas.{empty_by, in_time_tidy, may-born, ends_quiet}
+use Rattle.sc_node_table.specs.NodeDefinitions.{ReplicaState}
 use Rattle.sc_client_table.proofs.TableProofs.TurnLemmas.{sends_in_turn}
-use Rattle.sc_meaning.specs.sound.Definitions.{Player, player_table, receiver_of}
-use Rattle.sc_live_steps.specs.calm.Definitions.{players, Chart, player_owes, run_owes, waiting_one, command_owes, mail_owes, flights_owe, ready_owes, replica_owes, IsAtRest, search_owes, IsResting, birth_owes, births_owe, RestingOwesLittle, KeptCalmEndsQuiet, Rows}
+use Rattle.sc_meaning.specs.sound.SoundDefinitions.{Player, player_table, receiver_of}
+use Rattle.sc_live_steps.specs.calm.CalmDefinitions.{players, Chart, player_owes, run_owes, waiting_one, command_owes, mail_owes, flights_owe, ready_owes, replica_owes, IsAtRest, search_owes, IsResting, birth_owes, births_owe, RestingOwesLittle, KeptCalmEndsQuiet, Rows}
 use Rattle.sc_live_steps.proofs.CalmStepsProofs.ChartChanges.{led_idle}
 use Rattle.sc_live_steps.proofs.CalmStepsProofs.PaidRows.{kept_calm}
 

@@ -6,10 +6,10 @@ use Rattle.std.proofs.lemmas.List.Sums.{sum_by-cons}
 use Rattle.sc_base.specs.Definitions.{Among, Arc, end_of, same_draw}
 use Rattle.sc_node_table.specs.Values.{Draw, Op, Link, Route}
 use Rattle.sc_base.proofs.Lemmas.{same_name}
-use Rattle.sc_client_table.specs.lookup.Definitions.{KnownGroups, way_to, target_in, changed, starting, group_learnt, learnt_from_not_mine, learnt_from_gone, new_way}
+use Rattle.sc_client_table.specs.lookup.LookupDefinitions.{KnownGroups, way_to, target_in, changed, starting, group_learnt, learnt_from_not_mine, learnt_from_gone, new_way}
 use Rattle.sc_client_table.specs.declared.lookup.ways.Way.{Way}
-use Rattle.sc_client_table.specs.table.Definitions.{Client as ClientState, waiting_request, asked_of, sent_where, chosen_for, request_sent}
-use Rattle.sc_live_steps.specs.calm.Definitions.{unknown_one, unknown, LearnsOneGroup, IsSentOn, AreBounded, Ways}
+use Rattle.sc_client_table.specs.table.TableDefinitions.{Client as ClientState, waiting_request, asked_of, sent_where, chosen_for, request_sent}
+use Rattle.sc_live_steps.specs.calm.CalmDefinitions.{unknown_one, unknown, LearnsOneGroup, IsSentOn, AreBounded, Ways}
 use Rattle.sc_live_steps.proofs.CalmStepsProofs.ClientRows.{request_owes}
 
 -- ---- whom a client knows

@@ -7,10 +7,10 @@ use Rattle.std.proofs.lemmas.List.Sums.{sum_by-cons}
 use Rattle.sc_node_table.specs.Values.{Draw, Route, OrderLine, Node, Seat, Event}
 use Rattle.sc_actor.specs.Definitions.{mails, value, acted, input_of, are_apart, row_of}
 use Rattle.sc_actor.proofs.Lemmas.{value-snoc}
-use Rattle.sc_node_table.specs.Definitions.{NodeState, replica_of, ReplicaState}
-use Rattle.sc_live_orderly.proofs.Lemmas.{one_changes}
-use Rattle.sc_meaning.specs.sound.Definitions.{Player, player_table}
-use Rattle.sc_live_steps.specs.calm.Definitions.{idle_owes, election, idle_with, Elsewhere, groups_owe, Rows, is_leading, leads, is_led, led_elsewhere, group_idles, players_owe}
+use Rattle.sc_node_table.specs.NodeDefinitions.{NodeState, replica_of, ReplicaState}
+use Rattle.sc_live_orderly.proofs.OrderlyLemmas.{one_changes}
+use Rattle.sc_meaning.specs.sound.SoundDefinitions.{Player, player_table}
+use Rattle.sc_live_steps.specs.calm.CalmDefinitions.{idle_owes, election, idle_with, Elsewhere, groups_owe, Rows, is_leading, leads, is_led, led_elsewhere, group_idles, players_owe}
 
 -- ---- any of some seats, of which one stands apart
 

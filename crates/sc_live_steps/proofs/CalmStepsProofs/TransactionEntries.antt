@@ -4,16 +4,16 @@ use Rattle.std.specs.List.{filter}
 use Rattle.std.proofs.lemmas.List.Sums.{length-filter, count_by-le-length}
 use Rattle.sc_base.specs.Definitions.{Among, is_member, with_member, least_of, united}
 use Rattle.sc_node_table.specs.Values.{Draw, Body, Offer, Watch, Command, Noop, Call, Join, Leave, Split, Begin, Prepared, RecordVote, GiveUp, Finish, Watched, RecordWatch, Core, Lock, Free, Promised, Watching, Effect, Link, Route, OrderRefusal, OrderResult, Heard, No, Outcome, Past, Vote, AnswerBody, Mail, TxPrepare, TxVote, TxOutcome, TxWatched}
-use Rattle.sc_words.specs.commands.Definitions.{is_alone, is_changed, decided_in, cast_in}
+use Rattle.sc_words.specs.commands.CommandDefinitions.{is_alone, is_changed, decided_in, cast_in}
 use Rattle.sc_words.specs.declared.commands.bodies.Body.TheVariants as At
 use Rattle.sc_words.specs.declared.commands.effects.Effect.TheVariants as Was
 use Rattle.sc_words.specs.declared.commands.orders.OrderRefusal.TheVariants.{NotLeader}
 use Rattle.sc_words.specs.declared.commands.votes.Past.TheVariants as Cast
 use Rattle.sc_words.specs.declared.commands.votes.Vote.TheVariants as Says
-use Rattle.sc_group_table.specs.machine.Definitions.{finished, Group, applied, ordered_by, split_group, refusal_of, ordered, frozen_of, staying, has_named, left_group, begun_group, decided_group, heard_group, vote_recorded, has_voted, voted_on, vote_of, watch_vote_of}
-use Rattle.sc_node_table.specs.Definitions.{sent, entered, order_result, effect_reported, answered_or_put_back, announced, answer_of, is_act, offer_of, asked_link, question, asked_first, ReplicaState, Place, members, forgotten, before_of, asked_on, vote_sent, watch_sent, released_to, vote_answered, watch_answered_by, begun_reported, went_on, spoken_mails, spoken}
-use Rattle.sc_law_walks.proofs.Lemmas.{vote_step, decided_walk, finish_step}
-use Rattle.sc_live_steps.specs.calm.Definitions.{AreBounded, said_place, newcomers, Ways, mail_owes}
+use Rattle.sc_group_table.specs.machine.MachineDefinitions.{finished, Group, applied, ordered_by, split_group, refusal_of, ordered, frozen_of, staying, has_named, left_group, begun_group, decided_group, heard_group, vote_recorded, has_voted, voted_on, vote_of, watch_vote_of}
+use Rattle.sc_node_table.specs.NodeDefinitions.{sent, entered, order_result, effect_reported, answered_or_put_back, announced, answer_of, is_act, offer_of, asked_link, question, asked_first, ReplicaState, Place, members, forgotten, before_of, asked_on, vote_sent, watch_sent, released_to, vote_answered, watch_answered_by, begun_reported, went_on, spoken_mails, spoken}
+use Rattle.sc_law_walks.proofs.WalkLemmas.{vote_step, decided_walk, finish_step}
+use Rattle.sc_live_steps.specs.calm.CalmDefinitions.{AreBounded, said_place, newcomers, Ways, mail_owes}
 use Rattle.sc_live_steps.proofs.CalmStepsProofs.PotentialSums.{sent_owes}
 use Rattle.sc_live_steps.proofs.CalmStepsProofs.LearntPotential.{begun_owes}
 use Rattle.sc_live_steps.proofs.CalmStepsProofs.MemberChanges.{among_member, same_new, one_new, entered_members, ordered_members}

@@ -4,10 +4,10 @@ use Rattle.std.proofs.lemmas.Bool.{cond_both, cond-true, cond-false, cases_Bool}
 use Rattle.sc_base.specs.Definitions.{same_draw, is_member, least_of}
 use Rattle.sc_node_table.specs.Values.{Ballot, Draw, Base, Route, Mail, MailBody, Request, Prepare, Learn, Install, Told}
 use Rattle.sc_base.proofs.Lemmas.{draw_is, same_name}
-use Rattle.sc_group_table.specs.machine.Definitions.{Group}
-use Rattle.sc_words.specs.paxos.Definitions.{new_leader}
-use Rattle.sc_node_table.specs.Definitions.{open_nodes, elected, is_among, looked_for, looked, named, sent_all, NodeState, replica_of, is_before, with_new, group_of_mail, with_made, unknown, may_come, taken_by, routed, on_mail, ReplicaState, Place, name_of, next, members, forgotten, installed_replica, last_slot, looked_up, made_by, slots_ahead}
-use Rattle.sc_live_steps.specs.calm.Definitions.{led_owes, IsDelivered, MayMiss, Ways, idle_with, Elsewhere, groups_owe, party_owes, party_turn_owes, StandsOnce, PartyLowers, IsMadeBehind, StrangersLower}
+use Rattle.sc_group_table.specs.machine.MachineDefinitions.{Group}
+use Rattle.sc_words.specs.paxos.PaxosDefinitions.{new_leader}
+use Rattle.sc_node_table.specs.NodeDefinitions.{open_nodes, elected, is_among, looked_for, looked, named, sent_all, NodeState, replica_of, is_before, with_new, group_of_mail, with_made, unknown, may_come, taken_by, routed, on_mail, ReplicaState, Place, name_of, next, members, forgotten, installed_replica, last_slot, looked_up, made_by, slots_ahead}
+use Rattle.sc_live_steps.specs.calm.CalmDefinitions.{led_owes, IsDelivered, MayMiss, Ways, idle_with, Elsewhere, groups_owe, party_owes, party_turn_owes, StandsOnce, PartyLowers, IsMadeBehind, StrangersLower}
 use Rattle.sc_live_steps.proofs.CalmStepsProofs.LedReplicas.{looked_led}
 use Rattle.sc_live_steps.proofs.CalmStepsProofs.CreatedPotential.{installed_idle, made_owe}
 use Rattle.sc_live_steps.proofs.CalmStepsProofs.NodePotential.{new_owes, nodes_lower}

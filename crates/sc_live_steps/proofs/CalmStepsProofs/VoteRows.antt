@@ -4,9 +4,9 @@ use Rattle.std.proofs.lemmas.Bool.{eqb-true, and_parts}
 use Rattle.std.proofs.lemmas.List.Sums.{sum_by-cons}
 use Rattle.sc_node_table.specs.Values.{Ballot, Command, Mail, Chosen, NotYet, Flight}
 use Rattle.sc_base.specs.Definitions.{same_ballot, is_majority}
-use Rattle.sc_words.specs.paxos.Definitions.{flight_at, without_flight, without_flight_at, kept_voters, voters_after, with_voters, tallied, vote_at}
-use Rattle.sc_node_table.specs.Definitions.{has_room, executed, ReplicaState, Place, Executed, childless, next, set_at, readied, vote_tallied, voted, accepted_row}
-use Rattle.sc_live_steps.specs.calm.Definitions.{readied_at, DecidesFreely, Ways, offered_owes, flights_owe, place_owes}
+use Rattle.sc_words.specs.paxos.PaxosDefinitions.{flight_at, without_flight, without_flight_at, kept_voters, voters_after, with_voters, tallied, vote_at}
+use Rattle.sc_node_table.specs.NodeDefinitions.{has_room, executed, ReplicaState, Place, Executed, childless, next, set_at, readied, vote_tallied, voted, accepted_row}
+use Rattle.sc_live_steps.specs.calm.CalmDefinitions.{readied_at, DecidesFreely, Ways, offered_owes, flights_owe, place_owes}
 use Rattle.sc_live_steps.proofs.CalmStepsProofs.PotentialSums.{with_slot_owes}
 
 -- ---- what is in flight

@@ -4,11 +4,11 @@ use Rattle.std.proofs.lemmas.Bool.{cond_both}
 use Rattle.sc_node_table.specs.Values.{Draw, Body, Command, Begin, Prepared, Watched, Core, Lock, Promised, Watching, Effect, Route, OrderRefusal, Heard, No}
 use Rattle.sc_words.specs.declared.commands.bodies.Body.TheVariants as At
 use Rattle.sc_words.specs.declared.commands.effects.Effect.TheVariants as Was
-use Rattle.sc_group_table.specs.machine.Definitions.{Group, applied, refusal_of, ordered, has_named, begun_group, has_voted, vote_of, watch_vote_of, voted_on}
+use Rattle.sc_group_table.specs.machine.MachineDefinitions.{Group, applied, refusal_of, ordered, has_named, begun_group, has_voted, vote_of, watch_vote_of, voted_on}
 use Rattle.sc_base.specs.Definitions.{is_member}
-use Rattle.sc_node_table.specs.Definitions.{entered, question, asked_link, ReplicaState, forgotten}
-use Rattle.sc_live_steps.specs.calm.Definitions.{IsCounting, LeadsOn, Ways, asked_owes, body_owes}
-use Rattle.sc_live_steps.specs.orders.Definitions.{is_watch, Asking, turn_of, bond_in}
+use Rattle.sc_node_table.specs.NodeDefinitions.{entered, question, asked_link, ReplicaState, forgotten}
+use Rattle.sc_live_steps.specs.calm.CalmDefinitions.{IsCounting, LeadsOn, Ways, asked_owes, body_owes}
+use Rattle.sc_live_steps.specs.orders.OrderDefinitions.{is_watch, Asking, turn_of, bond_in}
 use Rattle.sc_live_steps.specs.entries.StageEntries.{BondsAsk, KeepsMembers}
 
 -- ---- what a coordinator asks

@@ -3,11 +3,11 @@ use Rattle.std.proofs.Common.{◌≡◌, ℕ, true, false, true≢false, List, r
 use Rattle.std.proofs.lemmas.Bool.{cond_both}
 use Rattle.sc_base.specs.Definitions.{is_member, with_any, with_member}
 use Rattle.sc_node_table.specs.Values.{Draw, Command, Join, Leave, Split, RecordVote, Finish, RecordWatch, Effect, Outcome, Vote}
-use Rattle.sc_words.specs.commands.Definitions.{is_alone, is_changed}
+use Rattle.sc_words.specs.commands.CommandDefinitions.{is_alone, is_changed}
 use Rattle.sc_words.specs.declared.commands.votes.Past.TheVariants as Cast
-use Rattle.sc_group_table.specs.machine.Definitions.{Group, applied}
-use Rattle.sc_law_walks.proofs.Lemmas.{MachineWalk, machine_step}
-use Rattle.sc_live_steps.proofs.FollowingProofs.Lemmas.{with_kept}
+use Rattle.sc_group_table.specs.machine.MachineDefinitions.{Group, applied}
+use Rattle.sc_law_walks.proofs.WalkLemmas.{MachineWalk, machine_step}
+use Rattle.sc_live_steps.proofs.FollowingProofs.FollowingLemmas.{with_kept}
 
 -- of more members each is one
 pub any_kept : (members : List ℕ) (node who : ℕ) → is_member members who ≡ true → is_member (with_any members node) who ≡ true

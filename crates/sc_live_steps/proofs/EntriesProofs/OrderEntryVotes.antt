@@ -2,13 +2,13 @@
 use Rattle.std.proofs.Common.{◌≡◌, ℕ, ◌≤◌, Bool, true, false, cond, [], ◌∷◌, length, Option, Some, None, ◌⊎◌, inl, inr, refl, sym, ◌∙◌, ap}
 use Rattle.std.proofs.lemmas.Bool.{eq-eqb}
 use Rattle.sc_node_table.specs.Values.{Draw, Command, Noop, Call, Join, Leave, Split, Begin, Prepared, RecordVote, GiveUp, Finish, Watched, RecordWatch, Route, Outcome, Vote}
-use Rattle.sc_words.specs.commands.Definitions.{is_alone, is_changed}
+use Rattle.sc_words.specs.commands.CommandDefinitions.{is_alone, is_changed}
 use Rattle.sc_words.specs.declared.commands.votes.Past.TheVariants as Cast
-use Rattle.sc_group_table.specs.machine.Definitions.{applied}
+use Rattle.sc_group_table.specs.machine.MachineDefinitions.{applied}
 use Rattle.sc_base.specs.Definitions.{is_member}
-use Rattle.sc_node_table.specs.Definitions.{entered, ReplicaState, next, members, forgotten, at_slot, with_slot, without_slot, before_of}
-use Rattle.sc_words.specs.paxos.Definitions.{without_flight}
-use Rattle.sc_live_steps.specs.calm.Definitions.{IsPaid, LeavesFew, EndsAfter, newcomers, IsCounting, LeadsOn, StopsAfter, readied_at}
+use Rattle.sc_node_table.specs.NodeDefinitions.{entered, ReplicaState, next, members, forgotten, at_slot, with_slot, without_slot, before_of}
+use Rattle.sc_words.specs.paxos.PaxosDefinitions.{without_flight}
+use Rattle.sc_live_steps.specs.calm.CalmDefinitions.{IsPaid, LeavesFew, EndsAfter, newcomers, IsCounting, LeadsOn, StopsAfter, readied_at}
 use Rattle.sc_live_steps.specs.entries.StageEntries.{IsEntry, OrderEntriesCount}
 use Rattle.sc_live_steps.proofs.EntriesProofs.EntryMembers.{join-stands, join-keeps, leave-stands, split-stands, split-keeps, vote-waits, watch-stands, finish-keeps}
 use Rattle.sc_live_steps.proofs.EntriesProofs.CoordinatorQuestions.{leads_on}

@@ -5,9 +5,9 @@ use Rattle.std.specs.Option.{option_map}
 use Rattle.std.proofs.lemmas.Bool.{cases_eq, cases_lt}
 use Rattle.sc_base.specs.Definitions.{Each}
 use Rattle.sc_node_table.specs.Values.{Draw, Mail}
-use Rattle.sc_node_table.specs.Definitions.{listed}
-use Rattle.sc_words.proofs.PaxosProofs.Lemmas.{Each-split}
-use Rattle.sc_live_steps.specs.following.Definitions.{Dated, from_slot_of, dated_of, marks_in, IsLow, AreLow, IsNoPrepare, IsAskedLow, IsDatedRow, AsksFromNext, SlotsAreKept, PreparesAreKnown, Mark, Votes, Prepares, Promises, mark_of, marks_of, next_by, reached, Progress, Sets, IsFollowing, IsCount, Leads}
+use Rattle.sc_node_table.specs.NodeDefinitions.{listed}
+use Rattle.sc_words.proofs.PaxosProofs.PaxosLemmas.{Each-split}
+use Rattle.sc_live_steps.specs.following.FollowingDefinitions.{Dated, from_slot_of, dated_of, marks_in, IsLow, AreLow, IsNoPrepare, IsAskedLow, IsDatedRow, AsksFromNext, SlotsAreKept, PreparesAreKnown, Mark, Votes, Prepares, Promises, mark_of, marks_of, next_by, reached, Progress, Sets, IsFollowing, IsCount, Leads}
 use Rattle.sc_live_steps.proofs.FollowingProofs.ElectionRows.{last_next}
 use Rattle.sc_live_steps.proofs.FollowingProofs.NodeMarks.{counts_of}
 

@@ -3,15 +3,15 @@ use Rattle.std.proofs.Common.{◌≡◌, ℕ, not, eqb, Bool, true, false, cond,
 use Rattle.std.specs.List.{filter}
 use Rattle.sc_node_table.specs.Values.{Command, Route, AnswerBody, Mail}
 use Rattle.sc_mail.specs.declared.bodies.AnswerBody.TheVariants as Says
-use Rattle.sc_group_table.specs.machine.Definitions.{applied}
+use Rattle.sc_group_table.specs.machine.MachineDefinitions.{applied}
 use Rattle.sc_base.specs.Definitions.{IsRoster, is_member, least_of}
-use Rattle.sc_words.specs.paxos.Definitions.{new_leader, without_flight_at}
-use Rattle.sc_node_table.specs.Definitions.{elected, ended, stopped, entered, learnt_to, welcomed, slot_lost, landed, left_gone, left, looked_for, looked, executed_one, install_to, welcomed_all, ReplicaState, Place, name_of, next, members, flying, forgotten, without_slot, before_of, spoken}
-use Rattle.sc_live_steps.specs.following.Definitions.{Course, Sets, IsLed, IsNext, led_on, led_off, LeadsPast, EntriesLead, marks_for, IsLeader, reported_of}
+use Rattle.sc_words.specs.paxos.PaxosDefinitions.{new_leader, without_flight_at}
+use Rattle.sc_node_table.specs.NodeDefinitions.{elected, ended, stopped, entered, learnt_to, welcomed, slot_lost, landed, left_gone, left, looked_for, looked, executed_one, install_to, welcomed_all, ReplicaState, Place, name_of, next, members, flying, forgotten, without_slot, before_of, spoken}
+use Rattle.sc_live_steps.specs.following.FollowingDefinitions.{Course, Sets, IsLed, IsNext, led_on, led_off, LeadsPast, EntriesLead, marks_for, IsLeader, reported_of}
 use Rattle.sc_live_steps.proofs.FollowingProofs.EntryMail.{with_state, with_both, entries_report}
 use Rattle.sc_live_steps.proofs.FollowingProofs.LeaderRows.{least_in}
 use Rattle.sc_live_steps.proofs.FollowingProofs.OutsideMail.{spoken_same, ended_same, announced_keeps}
-use Rattle.sc_law_walks.proofs.Lemmas.{entered_next}
+use Rattle.sc_law_walks.proofs.WalkLemmas.{entered_next}
 
 -- ---- the parts that leave the replica as it is
 

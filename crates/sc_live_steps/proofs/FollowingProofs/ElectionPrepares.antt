@@ -4,9 +4,9 @@ use Rattle.std.specs.List.{filter}
 use Rattle.std.specs.Option.{option_map}
 use Rattle.sc_base.specs.Definitions.{Each}
 use Rattle.sc_node_table.specs.Values.{Draw, Command, Mail, MailBody, Prepare}
-use Rattle.sc_words.proofs.PaxosProofs.Lemmas.{Each-append, Each-split}
-use Rattle.sc_node_table.specs.Definitions.{open_nodes, entered, executed_ready, executed, sent, sent_all, pumped, ReplicaState, Place, listed, name_of, next, mailed}
-use Rattle.sc_live_steps.specs.following.Definitions.{Dated, from_slot_of, dated_of, dated_for, ElectionsAskNext, Mark, mark_of, MayElect, next_ballot}
+use Rattle.sc_words.proofs.PaxosProofs.PaxosLemmas.{Each-append, Each-split}
+use Rattle.sc_node_table.specs.NodeDefinitions.{open_nodes, entered, executed_ready, executed, sent, sent_all, pumped, ReplicaState, Place, listed, name_of, next, mailed}
+use Rattle.sc_live_steps.specs.following.FollowingDefinitions.{Dated, from_slot_of, dated_of, dated_for, ElectionsAskNext, Mark, mark_of, MayElect, next_ballot}
 use Rattle.sc_live_steps.proofs.FollowingProofs.AskedSlots.{nothing, prepares_are_known}
 use Rattle.sc_live_steps.proofs.FollowingProofs.LeastMembers.{last, mails, leading, one_is, next_is, no_pump}
 use Rattle.sc_live_steps.proofs.FollowingProofs.FollowerTables.{silent, told_is}

@@ -3,10 +3,10 @@ use Rattle.std.proofs.Common.{◌≡◌, ℕ, ◌+◌, ◌<◌, ◌≤◌, true,
 use Rattle.std.proofs.lemmas.Bool.{cases_eq}
 use Rattle.sc_base.specs.Definitions.{Among, Each, IsRoster, is_member}
 use Rattle.sc_node_table.specs.Values.{Ballot}
-use Rattle.sc_node_table.specs.Definitions.{listed}
-use Rattle.sc_words.specs.paxos.Definitions.{IsAtLeast}
-use Rattle.sc_words.proofs.PaxosProofs.Lemmas.{at_least_below, at_least_from_below, at_least_itself, not_both, Each-among, Each-weaker}
-use Rattle.sc_live_steps.specs.following.Definitions.{Mark, Asks, Prepares, next_by, promise_by, reached, pledged, AreFit, AreAskedFirst, Progress, Sets, members_at, IsOpen, IsKnown, IsFollowing, IsRow, IsLast, Elects}
+use Rattle.sc_node_table.specs.NodeDefinitions.{listed}
+use Rattle.sc_words.specs.paxos.PaxosDefinitions.{IsAtLeast}
+use Rattle.sc_words.proofs.PaxosProofs.PaxosLemmas.{at_least_below, at_least_from_below, at_least_itself, not_both, Each-among, Each-weaker}
+use Rattle.sc_live_steps.specs.following.FollowingDefinitions.{Mark, Asks, Prepares, next_by, promise_by, reached, pledged, AreFit, AreAskedFirst, Progress, Sets, members_at, IsOpen, IsKnown, IsFollowing, IsRow, IsLast, Elects}
 use Rattle.sc_live_steps.proofs.FollowingProofs.Marks.{known_later, reached-append, pledged-append, fit-append, fit-asks, pledged-most, IsLater}
 use Rattle.sc_live_steps.proofs.FollowingProofs.NodeMarks.{GoAsFar, AreAllFit, goes, each-row, promise-row, asked-row}
 use Rattle.sc_live_steps.proofs.FollowingProofs.LeaderRows.{least_in}

@@ -4,14 +4,14 @@ use Rattle.std.specs.List.{AllPairs, filter}
 use Rattle.std.proofs.lemmas.Bool.{cases_Bool, cases_eq, cond_both, cond-true, cond-false, eqb-true, eq-eqb, ne_eqb, or_left, or_from, not_from_true, not_from_false}
 use Rattle.std.proofs.lemmas.List.Kept.{AllPairs-filter, AllPairs-from_increasing}
 use Rattle.sc_node_table.specs.Values.{Draw, Command, Mail, MailBody, Learn, Install, Prepare}
-use Rattle.sc_group_table.specs.machine.Definitions.{base_of}
+use Rattle.sc_group_table.specs.machine.MachineDefinitions.{base_of}
 use Rattle.sc_base.specs.Definitions.{is_member}
 use Rattle.sc_base.proofs.Lemmas.{AllPairs-head, AllPairs-tail}
-use Rattle.sc_node_table.specs.Definitions.{learnt_to, welcomed, install_to, welcomed_all, sent, sent_others, ReplicaState, Place, name_of, next, members}
-use Rattle.sc_live_steps.specs.following.Definitions.{Mark, Teaches, Installs, Prepares, mark_of, Course, Sets, members_at, marks_for, IsLeader, EntriesReport, welcome, reported_of}
+use Rattle.sc_node_table.specs.NodeDefinitions.{learnt_to, welcomed, install_to, welcomed_all, sent, sent_others, ReplicaState, Place, name_of, next, members}
+use Rattle.sc_live_steps.specs.following.FollowingDefinitions.{Mark, Teaches, Installs, Prepares, mark_of, Course, Sets, members_at, marks_for, IsLeader, EntriesReport, welcome, reported_of}
 use Rattle.sc_live_steps.proofs.FollowingProofs.LeastMembers.{append_one, pushed}
 use Rattle.sc_live_steps.proofs.FollowingProofs.MailTables.{same_mark}
-use Rattle.sc_law_walks.proofs.Lemmas.{none_below}
+use Rattle.sc_law_walks.proofs.WalkLemmas.{none_below}
 
 -- ---- several nodes, each once
 

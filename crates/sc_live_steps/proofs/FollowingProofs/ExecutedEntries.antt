@@ -5,17 +5,17 @@ use Rattle.std.specs.Option.{option_map}
 use Rattle.std.proofs.lemmas.Bool.{cond_both, cases_eq, cases_lt}
 use Rattle.sc_base.specs.Definitions.{Each, is_member}
 use Rattle.sc_node_table.specs.Values.{Command, Route, Flight}
-use Rattle.sc_words.specs.paxos.Definitions.{flight_at, without_flight}
-use Rattle.sc_words.proofs.PaxosProofs.Lemmas.{Each-append, Each-weaker}
-use Rattle.sc_node_table.specs.Definitions.{entered, executed_one, next_child, has_room, next_ready, ending, executed_ready, executed, pumped, ReplicaState, Place, Executed, childless, name_of, next, members, forgotten, either, taken_at, flying, rest_of, at_slot, without_slot, slots_ahead}
-use Rattle.sc_law_walks.specs.Definitions.{IfThere}
-use Rattle.sc_live_steps.specs.following.Definitions.{Mark, Asks, Course, Sets, members_at, IsLed, IsNext, led_on, IsOn, IsOff, LeadsPast, AreNext, FliesOn, IsStill, IsStopped, LeadsBy, ExecutionsLead, marks_for, AreAt, MayOffer, IsBegun, to_bound, OffersBy, IsOffer, reported_of, taught_from}
+use Rattle.sc_words.specs.paxos.PaxosDefinitions.{flight_at, without_flight}
+use Rattle.sc_words.proofs.PaxosProofs.PaxosLemmas.{Each-append, Each-weaker}
+use Rattle.sc_node_table.specs.NodeDefinitions.{entered, executed_one, next_child, has_room, next_ready, ending, executed_ready, executed, pumped, ReplicaState, Place, Executed, childless, name_of, next, members, forgotten, either, taken_at, flying, rest_of, at_slot, without_slot, slots_ahead}
+use Rattle.sc_law_walks.specs.WalkDefinitions.{IfThere}
+use Rattle.sc_live_steps.specs.following.FollowingDefinitions.{Mark, Asks, Course, Sets, members_at, IsLed, IsNext, led_on, IsOn, IsOff, LeadsPast, AreNext, FliesOn, IsStill, IsStopped, LeadsBy, ExecutionsLead, marks_for, AreAt, MayOffer, IsBegun, to_bound, OffersBy, IsOffer, reported_of, taught_from}
 use Rattle.sc_live_steps.proofs.FollowingProofs.CountedEntries.{entered_keeps, entries_lead}
 use Rattle.sc_live_steps.proofs.FollowingProofs.LeastMembers.{append_one}
 use Rattle.sc_live_steps.proofs.FollowingProofs.FlightSlots.{flight_out, slot_out}
 use Rattle.sc_live_steps.proofs.FollowingProofs.Marks.{among-left, among-right}
 use Rattle.sc_live_steps.proofs.FollowingProofs.Offers.{pumps_offer}
-use Rattle.sc_law_walks.proofs.Lemmas.{entered_next, idle_ready, idle_pump}
+use Rattle.sc_law_walks.proofs.WalkLemmas.{entered_next, idle_ready, idle_pump}
 use Rattle.sc_law_walks.proofs.Queues.{turned_sets as still_four}
 
 -- ---- the members of the open slots

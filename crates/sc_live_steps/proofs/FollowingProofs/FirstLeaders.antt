@@ -2,8 +2,8 @@
 use Rattle.std.proofs.Common.{◌≡◌, ◌∙◌, ℕ, ◌||◌, not, eqb, ltb, false, true≢false, List, Option, Some, None, inl, refl, sym, arith}
 use Rattle.std.proofs.lemmas.Bool.{cond_both, cond-true, eq-eqb}
 use Rattle.sc_base.specs.Definitions.{is_member}
-use Rattle.sc_node_table.specs.Definitions.{next, first_ballot, born_replica, slots_ahead}
-use Rattle.sc_live_steps.specs.following.Definitions.{LeadersBegin, voters_of, IsLeadOf, IsOrderly, begun}
+use Rattle.sc_node_table.specs.NodeDefinitions.{next, first_ballot, born_replica, slots_ahead}
+use Rattle.sc_live_steps.specs.following.FollowingDefinitions.{LeadersBegin, voters_of, IsLeadOf, IsOrderly, begun}
 
 -- The first leader of a group leads in its progress from its birth on, with nothing in flight or ready.
 pub leaders_begin : LeadersBegin

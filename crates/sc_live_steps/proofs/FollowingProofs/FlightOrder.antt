@@ -8,9 +8,9 @@ use Rattle.std.proofs.lemmas.List.Folds.{list_any-append}
 use Rattle.std.proofs.lemmas.List.Sums.{sum_by-cons}
 use Rattle.sc_node_table.specs.Values.{Command, Noop, Call, Core, AnswerBody, Mail, Accept, Flight, Report}
 use Rattle.sc_base.specs.Definitions.{votes_of, is_majority, is_member}
-use Rattle.sc_words.specs.paxos.Definitions.{below, chosen_value, names_above, must_without, flight_at, without_flight, with_voters}
-use Rattle.sc_node_table.specs.Definitions.{answered, sent_all, Found, is_act, waits, turned_down, next_queued, from_backlog, from_acts, from_queues, found_by, found_for, offered, pumped_from, pumped, ReplicaState, Place, listed, name_of, next, settled, may_offer, either, taken_at, flying, taken_from, under_way, is_idle, first_set, last_slot, at_slot, with_slot, numbers_from}
-use Rattle.sc_live_steps.specs.following.Definitions.{AreApart, HasBallot, IsOrderly}
+use Rattle.sc_words.specs.paxos.PaxosDefinitions.{below, chosen_value, names_above, must_without, flight_at, without_flight, with_voters}
+use Rattle.sc_node_table.specs.NodeDefinitions.{answered, sent_all, Found, is_act, waits, turned_down, next_queued, from_backlog, from_acts, from_queues, found_by, found_for, offered, pumped_from, pumped, ReplicaState, Place, listed, name_of, next, settled, may_offer, either, taken_at, flying, taken_from, under_way, is_idle, first_set, last_slot, at_slot, with_slot, numbers_from}
+use Rattle.sc_live_steps.specs.following.FollowingDefinitions.{AreApart, HasBallot, IsOrderly}
 use Rattle.sc_live_steps.proofs.FollowingProofs.FlightSlots.{flight_out, slot_in, slot_over, polled_here, polled_out}
 use Rattle.sc_live_steps.proofs.FollowingProofs.LeaderTables.{none_taken}
 use Rattle.sc_live_steps.proofs.FollowingProofs.Offers.{offered_is}

@@ -6,11 +6,11 @@ use Rattle.std.proofs.lemmas.Bool.{cases_lt, or_left}
 use Rattle.std.proofs.lemmas.List.Folds.{list_any-append}
 use Rattle.sc_node_table.specs.Values.{Ballot, Command, Mail, Flight}
 use Rattle.sc_base.specs.Definitions.{is_member}
-use Rattle.sc_words.specs.paxos.Definitions.{LeaderState, flight_at, promise_counted}
-use Rattle.sc_node_table.specs.Definitions.{executed_one, next_child, next_ready, ending, executed_ready, executed, pumped, ReplicaState, Place, Executed, childless, next, either, taken_at, flying, mailed, at_slot, leads, promise_row}
-use Rattle.sc_law_walks.specs.Definitions.{IfThere}
-use Rattle.sc_law_walks.proofs.Lemmas.{idle_ready, idle_pump}
-use Rattle.sc_live_steps.specs.following.Definitions.{Course, Progress, Sets, IsLed, IsNext, IsOn, LeadsPast, AreNext, LeadsBy, IsLeadOf, ActsAlone, MayOffer, AreApart, HasBallot, IsOrderly, OrderIsKept}
+use Rattle.sc_words.specs.paxos.PaxosDefinitions.{LeaderState, flight_at, promise_counted}
+use Rattle.sc_node_table.specs.NodeDefinitions.{executed_one, next_child, next_ready, ending, executed_ready, executed, pumped, ReplicaState, Place, Executed, childless, next, either, taken_at, flying, mailed, at_slot, leads, promise_row}
+use Rattle.sc_law_walks.specs.WalkDefinitions.{IfThere}
+use Rattle.sc_law_walks.proofs.WalkLemmas.{idle_ready, idle_pump}
+use Rattle.sc_live_steps.specs.following.FollowingDefinitions.{Course, Progress, Sets, IsLed, IsNext, IsOn, LeadsPast, AreNext, LeadsBy, IsLeadOf, ActsAlone, MayOffer, AreApart, HasBallot, IsOrderly, OrderIsKept}
 use Rattle.sc_live_steps.proofs.FollowingProofs.QueueingRows.{aside_is, order_is}
 use Rattle.sc_live_steps.proofs.FollowingProofs.CountedEntries.{entries_lead}
 use Rattle.sc_live_steps.proofs.FollowingProofs.ExecutedEntries.{on_leads, on_next, on_ready, ready_of, ready_leads}

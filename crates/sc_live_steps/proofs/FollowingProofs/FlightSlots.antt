@@ -3,8 +3,8 @@ use Rattle.std.proofs.Common.{◌≡◌, ℕ, eqb, ltb, Bool, true, false, cond,
 use Rattle.std.specs.Option.{option_map}
 use Rattle.std.proofs.lemmas.Bool.{ne_eqb, eq-eqb, eqb-true}
 use Rattle.sc_node_table.specs.Values.{Command, Flight}
-use Rattle.sc_words.specs.paxos.Definitions.{flight_at, without_flight, with_voters}
-use Rattle.sc_node_table.specs.Definitions.{at_slot, with_slot, without_slot}
+use Rattle.sc_words.specs.paxos.PaxosDefinitions.{flight_at, without_flight, with_voters}
+use Rattle.sc_node_table.specs.NodeDefinitions.{at_slot, with_slot, without_slot}
 
 -- ---- a slot that is over
 

@@ -4,14 +4,14 @@ use Rattle.std.specs.Option.{option_map}
 use Rattle.std.proofs.lemmas.Bool.{eqb-true, eq-eqb, le-ltb}
 use Rattle.sc_node_table.specs.Values.{Draw, Command, Effect, Route, OrderResult, Mail, Ask, Told, Flight}
 use Rattle.sc_base.specs.Definitions.{least_of}
-use Rattle.sc_group_table.specs.policy.Definitions.{is_reported}
-use Rattle.sc_words.specs.paxos.Definitions.{LeaderState, flight_at, without_flight_at}
-use Rattle.sc_group_table.specs.machine.Definitions.{applied}
+use Rattle.sc_group_table.specs.policy.PolicyDefinitions.{is_reported}
+use Rattle.sc_words.specs.paxos.PaxosDefinitions.{LeaderState, flight_at, without_flight_at}
+use Rattle.sc_group_table.specs.machine.MachineDefinitions.{applied}
 use Rattle.sc_node_table.specs.declared.Before.{Before}
-use Rattle.sc_node_table.specs.Definitions.{elected, entered, order_result, effect_reported, announced, learnt_to, welcomed, slot_lost, landed, left_gone, left, is_among, looked_for, looked, executed_one, executed_ready, executed, sent, order_reported, result_sent, order_number, pumped, ReplicaState, Place, Executed, childless, name_of, next, members, last_slot, floor_of, forgotten, learn_row, mailed, without_slot, before_of, begun_result, spoken_number, result_reported, begun_reported, spoken_mails, spoken}
-use Rattle.sc_live_steps.specs.following.Definitions.{Teaches, marks_for, StepsBy, IsInTime, Stays, TablesFollow}
+use Rattle.sc_node_table.specs.NodeDefinitions.{elected, entered, order_result, effect_reported, announced, learnt_to, welcomed, slot_lost, landed, left_gone, left, is_among, looked_for, looked, executed_one, executed_ready, executed, sent, order_reported, result_sent, order_number, pumped, ReplicaState, Place, Executed, childless, name_of, next, members, last_slot, floor_of, forgotten, learn_row, mailed, without_slot, before_of, begun_result, spoken_number, result_reported, begun_reported, spoken_mails, spoken}
+use Rattle.sc_live_steps.specs.following.FollowingDefinitions.{Teaches, marks_for, StepsBy, IsInTime, Stays, TablesFollow}
 use Rattle.sc_live_steps.proofs.FollowingProofs.MailTables.{marks-push, floor_low, accept_steps, prepare_steps, install_steps}
-use Rattle.sc_law_walks.proofs.Lemmas.{entered_next, idle_ready, idle_pump}
+use Rattle.sc_law_walks.proofs.WalkLemmas.{entered_next, idle_ready, idle_pump}
 
 -- ---- what the desk is sent is nothing to a group
 

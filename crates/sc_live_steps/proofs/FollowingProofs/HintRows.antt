@@ -3,10 +3,10 @@ use Rattle.std.proofs.Common.{◌≡◌, ℕ, suc, ◌+◌, ◌-◌, ◌<◌, �
 use Rattle.std.proofs.lemmas.Bool.{cases_Bool, cases_eq, cases_lt, cond-true}
 use Rattle.sc_base.specs.Definitions.{Each, IsRoster, is_member, least_of}
 use Rattle.sc_node_table.specs.Values.{Ballot}
-use Rattle.sc_node_table.specs.Definitions.{is_among, listed, slots_ahead}
-use Rattle.sc_words.specs.paxos.Definitions.{below}
-use Rattle.sc_words.proofs.PaxosProofs.Lemmas.{at_least_below}
-use Rattle.sc_live_steps.specs.following.Definitions.{Mark, promise_by, reached, pledged, Course, Progress, Sets, members_at, IsOpen, IsFollowing, SlotLeaders, hint_by, hinted, MayLeave, AreHeeded, IsOther, IsHeeding, GoesBy, LeavesLast, HintsAreKept, NodesHeed, IsRow, IsIdle, IsCount, Takes, taught_from, Leads, Elects, begun}
+use Rattle.sc_node_table.specs.NodeDefinitions.{is_among, listed, slots_ahead}
+use Rattle.sc_words.specs.paxos.PaxosDefinitions.{below}
+use Rattle.sc_words.proofs.PaxosProofs.PaxosLemmas.{at_least_below}
+use Rattle.sc_live_steps.specs.following.FollowingDefinitions.{Mark, promise_by, reached, pledged, Course, Progress, Sets, members_at, IsOpen, IsFollowing, SlotLeaders, hint_by, hinted, MayLeave, AreHeeded, IsOther, IsHeeding, GoesBy, LeavesLast, HintsAreKept, NodesHeed, IsRow, IsIdle, IsCount, Takes, taught_from, Leads, Elects, begun}
 use Rattle.sc_live_steps.proofs.FollowingProofs.Hints.{hinted-append, heeded-append, heeded-change, no_more, count-heeded, count-hinted, offers-heeded, offers-hinted, told-heeded, told-hinted}
 use Rattle.sc_live_steps.proofs.FollowingProofs.NodeMarks.{counts_of, idle_promise, idle_marks, takes-keeps}
 use Rattle.sc_live_steps.proofs.FollowingProofs.LeaderRows.{leads-keeps}

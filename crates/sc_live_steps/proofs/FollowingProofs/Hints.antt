@@ -3,9 +3,9 @@ use Rattle.std.proofs.Common.{◌≡◌, ℕ, zero, suc, ◌+◌, ◌<◌, ◌�
 use Rattle.std.proofs.lemmas.Bool.{cond_both, cond-true}
 use Rattle.sc_base.specs.Definitions.{Each, is_member, least_of}
 use Rattle.sc_node_table.specs.Values.{Ballot}
-use Rattle.sc_node_table.specs.Definitions.{is_among}
-use Rattle.sc_words.specs.paxos.Definitions.{below}
-use Rattle.sc_live_steps.specs.following.Definitions.{Mark, Asks, Votes, Teaches, Installs, Prepares, Promises, promise_by, reached, pledged, AreFit, Course, Sets, members_at, SlotLeaders, hint_by, hinted, MayLeave, IsHeeded, AreHeeded, IsCount, IsOffer, reported_of, taught_from}
+use Rattle.sc_node_table.specs.NodeDefinitions.{is_among}
+use Rattle.sc_words.specs.paxos.PaxosDefinitions.{below}
+use Rattle.sc_live_steps.specs.following.FollowingDefinitions.{Mark, Asks, Votes, Teaches, Installs, Prepares, Promises, promise_by, reached, pledged, AreFit, Course, Sets, members_at, SlotLeaders, hint_by, hinted, MayLeave, IsHeeded, AreHeeded, IsCount, IsOffer, reported_of, taught_from}
 use Rattle.sc_live_steps.proofs.FollowingProofs.Marks.{reached-least, told-cases}
 
 module _ (at : Sets) (by : SlotLeaders) where

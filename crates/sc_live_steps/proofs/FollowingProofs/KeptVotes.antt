@@ -5,7 +5,7 @@ use Rattle.std.proofs.lemmas.List.Folds.{list_any-append}
 use Rattle.std.proofs.lemmas.List.Sums.{sum_by-cons}
 use Rattle.sc_base.specs.Definitions.{votes_of, is_majority, is_member, with_member, IsRoster}
 use Rattle.sc_base.proofs.Lemmas.{length_with as with_one}
-use Rattle.sc_words.specs.paxos.Definitions.{kept_voters, add_voter, voters_after}
+use Rattle.sc_words.specs.paxos.PaxosDefinitions.{kept_voters, add_voter, voters_after}
 use Rattle.sc_paxos_law.proofs.Among.{count_by-le as more_pass}
 
 -- ---- a set with one more

@@ -6,13 +6,13 @@ use Rattle.std.specs.Option.{option_map}
 use Rattle.std.proofs.lemmas.Bool.{cond_both}
 use Rattle.sc_base.specs.Definitions.{same_draw, is_member}
 use Rattle.sc_node_table.specs.Values.{Ballot, Draw, Command, Core, AnswerBody, Mail, MailBody, Prepare, Accept, Learn, Install, Must, Gap, Report}
-use Rattle.sc_group_table.specs.machine.Definitions.{base_of, applied}
+use Rattle.sc_group_table.specs.machine.MachineDefinitions.{base_of, applied}
 use Rattle.sc_words.specs.declared.paxos.answers.Must.TheVariants.{Value, Free as Open}
-use Rattle.sc_words.specs.paxos.Definitions.{must, promise_counted, without_flight_at}
-use Rattle.sc_node_table.specs.Definitions.{entered, learnt_to, welcomed, landed, left, looked, executed_one, next_child, next_ready, ending, executed_ready, executed, install_to, welcomed_all, sent, sent_all, sent_others, answered, Found, is_act, waits, turned_down, next_queued, from_backlog, from_acts, from_queues, found_by, found_for, offered, pumped_from, pumped, ReplicaState, Place, Executed, childless, listed, name_of, next, members, settled, may_offer, taken_at, under_way, is_idle, last_slot, mailed, at_slot, without_slot, before_of, spoken, leads, promise_row}
-use Rattle.sc_law_walks.specs.Definitions.{IfThere}
-use Rattle.sc_law_walks.proofs.Lemmas.{idle_ready}
-use Rattle.sc_live_steps.specs.following.Definitions.{Dated, marks_in, from_slot_of, dated_of, dated_for, AreLow, IsNoPrepare, AsksLow, RowsAskNext, Mark, Asks, Teaches, Installs, Prepares, mark_of, reached, Course, Sets, IsLed, IsNext, AreNext, marks_for}
+use Rattle.sc_words.specs.paxos.PaxosDefinitions.{must, promise_counted, without_flight_at}
+use Rattle.sc_node_table.specs.NodeDefinitions.{entered, learnt_to, welcomed, landed, left, looked, executed_one, next_child, next_ready, ending, executed_ready, executed, install_to, welcomed_all, sent, sent_all, sent_others, answered, Found, is_act, waits, turned_down, next_queued, from_backlog, from_acts, from_queues, found_by, found_for, offered, pumped_from, pumped, ReplicaState, Place, Executed, childless, listed, name_of, next, members, settled, may_offer, taken_at, under_way, is_idle, last_slot, mailed, at_slot, without_slot, before_of, spoken, leads, promise_row}
+use Rattle.sc_law_walks.specs.WalkDefinitions.{IfThere}
+use Rattle.sc_law_walks.proofs.WalkLemmas.{idle_ready}
+use Rattle.sc_live_steps.specs.following.FollowingDefinitions.{Dated, marks_in, from_slot_of, dated_of, dated_for, AreLow, IsNoPrepare, AsksLow, RowsAskNext, Mark, Asks, Teaches, Installs, Prepares, mark_of, reached, Course, Sets, IsLed, IsNext, AreNext, marks_for}
 use Rattle.sc_live_steps.proofs.FollowingProofs.QueueingRows.{aside_is, order_is}
 use Rattle.sc_live_steps.proofs.FollowingProofs.CountedEntries.{entered_keeps, landed_told, ends, entries_lead}
 use Rattle.sc_live_steps.proofs.FollowingProofs.AskedSlots.{low-append, none_low, nothing, prepares_are_known}

@@ -3,10 +3,10 @@ use Rattle.std.proofs.Common.{◌≡◌, ℕ, ◌+◌, ◌-◌, ◌<◌, ◌≤�
 use Rattle.std.proofs.lemmas.Bool.{cases_eq, cases_lt, eq-eqb, or_left}
 use Rattle.sc_base.specs.Definitions.{Among, Each, IsRoster, is_member, least_of}
 use Rattle.sc_node_table.specs.Values.{Ballot}
-use Rattle.sc_node_table.specs.Definitions.{listed, slots_ahead}
-use Rattle.sc_words.specs.paxos.Definitions.{IsAtLeast}
-use Rattle.sc_words.proofs.PaxosProofs.Lemmas.{at_least_itself, Each-append, Each-weaker}
-use Rattle.sc_live_steps.specs.following.Definitions.{Mark, Asks, Votes, Teaches, Installs, Prepares, Promises, reached, pledged, AreFit, AreAskedFirst, Progress, Sets, members_at, IsOpen, IsKnown, IsVoting, HasPromised, IsPromising, IsFollowing, IsRow, IsCount, IsElsewhere, taught_from, IsCounted, IsKept, Leads}
+use Rattle.sc_node_table.specs.NodeDefinitions.{listed, slots_ahead}
+use Rattle.sc_words.specs.paxos.PaxosDefinitions.{IsAtLeast}
+use Rattle.sc_words.proofs.PaxosProofs.PaxosLemmas.{at_least_itself, Each-append, Each-weaker}
+use Rattle.sc_live_steps.specs.following.FollowingDefinitions.{Mark, Asks, Votes, Teaches, Installs, Prepares, Promises, reached, pledged, AreFit, AreAskedFirst, Progress, Sets, members_at, IsOpen, IsKnown, IsVoting, HasPromised, IsPromising, IsFollowing, IsRow, IsCount, IsElsewhere, taught_from, IsCounted, IsKept, Leads}
 use Rattle.sc_live_steps.proofs.FollowingProofs.Marks.{known_later, among-left, among-right, among-either, reached-append, pledged-append, fit-append, reached-least, pledged-most, stands, count-reached, count-pledged, IsLater, IsNoVote, asked-none, asked-votes, offers-fit, offers-reached, offers-pledged, offers-each, told-each, told-own, told-prepares, IsTold, told-all}
 use Rattle.sc_live_steps.proofs.FollowingProofs.NodeMarks.{promise-row, goes, stays, each-row, asked-row}
 

@@ -5,14 +5,14 @@ use Rattle.std.specs.Option.{option_map}
 use Rattle.std.proofs.lemmas.Bool.{cases_lt, cond-true, cond-false, eqb-true, eq-eqb, le-ltb, lt-ltb, or_parts, or_from}
 use Rattle.sc_base.specs.Definitions.{Among, Each, is_member}
 use Rattle.sc_node_table.specs.Values.{Ballot, Command, Mail, Flight}
-use Rattle.sc_words.specs.paxos.Definitions.{flight_at, kept_voters}
-use Rattle.sc_words.proofs.PaxosProofs.Lemmas.{Each-among, Each-weaker, find_found}
-use Rattle.sc_node_table.specs.Definitions.{ReplicaState, Place, listed, name_of, next, members, either, taken_at, flying, at_slot}
-use Rattle.sc_live_steps.specs.following.Definitions.{Mark, Asks, Promises, Course, Progress, Sets, IsInFlight, members_at, IsLed, IsStill, IsStopped, LeadsBy, voters_of, IsPolled, IsLeadOf, progress_by, LeadsInto, StopsAlone, marks_for, to_bound, IsCount, IsElsewhere, IsOffer, IsOffered, IsCounted, IsKept, Leads, taught_from}
+use Rattle.sc_words.specs.paxos.PaxosDefinitions.{flight_at, kept_voters}
+use Rattle.sc_words.proofs.PaxosProofs.PaxosLemmas.{Each-among, Each-weaker, find_found}
+use Rattle.sc_node_table.specs.NodeDefinitions.{ReplicaState, Place, listed, name_of, next, members, either, taken_at, flying, at_slot}
+use Rattle.sc_live_steps.specs.following.FollowingDefinitions.{Mark, Asks, Promises, Course, Progress, Sets, IsInFlight, members_at, IsLed, IsStill, IsStopped, LeadsBy, voters_of, IsPolled, IsLeadOf, progress_by, LeadsInto, StopsAlone, marks_for, to_bound, IsCount, IsElsewhere, IsOffer, IsOffered, IsCounted, IsKept, Leads, taught_from}
 use Rattle.sc_live_steps.proofs.FollowingProofs.LeastMembers.{none_decided}
 use Rattle.sc_live_steps.proofs.FollowingProofs.Marks.{among-right}
 use Rattle.std.proofs.lemmas.Option.{same_Some}
-pub use Rattle.sc_law_walks.proofs.Lemmas.{none_there}
+pub use Rattle.sc_law_walks.proofs.WalkLemmas.{none_there}
 
 -- ---- the votes for what is in flight
 

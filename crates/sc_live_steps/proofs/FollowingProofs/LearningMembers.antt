@@ -3,9 +3,9 @@ use Rattle.std.proofs.Common.{◌≡◌, ℕ, zero, suc, ◌+◌, ◌-◌, ◌<�
 use Rattle.std.proofs.lemmas.Bool.{cases_eq, cases_lt, cond_both, cond-true}
 use Rattle.sc_base.specs.Definitions.{Among, Each, IsRoster, is_member}
 use Rattle.sc_node_table.specs.Values.{Ballot}
-use Rattle.sc_node_table.specs.Definitions.{listed}
-use Rattle.sc_words.proofs.PaxosProofs.Lemmas.{Each-append, Each-weaker}
-use Rattle.sc_live_steps.specs.following.Definitions.{Mark, Votes, Teaches, Installs, Prepares, Promises, next_by, promise_by, reached, pledged, AreFit, Course, Progress, Sets, members_at, IsFollowing, SlotLeaders, LeavesLast, IsRow, IsIdle, IsCount, Takes, reported_of, taught_from, Leads, Elects, begun, IsForMember, IsMemberBy, AreTaught, TaughtIsKept, QuietMembersKnow}
+use Rattle.sc_node_table.specs.NodeDefinitions.{listed}
+use Rattle.sc_words.proofs.PaxosProofs.PaxosLemmas.{Each-append, Each-weaker}
+use Rattle.sc_live_steps.specs.following.FollowingDefinitions.{Mark, Votes, Teaches, Installs, Prepares, Promises, next_by, promise_by, reached, pledged, AreFit, Course, Progress, Sets, members_at, IsFollowing, SlotLeaders, LeavesLast, IsRow, IsIdle, IsCount, Takes, reported_of, taught_from, Leads, Elects, begun, IsForMember, IsMemberBy, AreTaught, TaughtIsKept, QuietMembersKnow}
 use Rattle.sc_live_steps.proofs.FollowingProofs.ElectionRows.{elects-each, self_election-keeps}
 use Rattle.sc_live_steps.proofs.FollowingProofs.NodeMarks.{idle_next, idle_reached, counts_of, each-row, reached_left}
 use Rattle.sc_live_steps.proofs.FollowingProofs.LeaderRows.{leads-keeps}

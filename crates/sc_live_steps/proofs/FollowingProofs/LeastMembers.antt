@@ -5,12 +5,12 @@ use Rattle.std.specs.List.{filter}
 use Rattle.std.proofs.lemmas.Bool.{cases_eq, cond-true, cond-false, eq-eqb, ne_eqb, le-ltb, or_left, or_from}
 use Rattle.sc_base.specs.Definitions.{most_nodes, votes_of, is_majority, is_member, least_of}
 use Rattle.sc_node_table.specs.Values.{Ballot, Draw, Command, Mail, MailBody, Prepare}
-use Rattle.sc_words.specs.paxos.Definitions.{below, new_leader}
-use Rattle.sc_node_table.specs.Definitions.{is_in_some, nodes_to, open_nodes, elected, entered, looked_for, looked, executed_one, executed_ready, executed, sent, sent_all, pumped_from, pumped, ReplicaState, Place, listed, name_of, next, members, first_set, last_slot, forgotten, mailed, numbers_from}
-use Rattle.sc_live_steps.specs.following.Definitions.{Mark, Prepares, mark_of, marks_of, marks_for, MayElect, next_ballot, ElectsBy, TablesElect}
+use Rattle.sc_words.specs.paxos.PaxosDefinitions.{below, new_leader}
+use Rattle.sc_node_table.specs.NodeDefinitions.{is_in_some, nodes_to, open_nodes, elected, entered, looked_for, looked, executed_one, executed_ready, executed, sent, sent_all, pumped_from, pumped, ReplicaState, Place, listed, name_of, next, members, first_set, last_slot, forgotten, mailed, numbers_from}
+use Rattle.sc_live_steps.specs.following.FollowingDefinitions.{Mark, Prepares, mark_of, marks_of, marks_for, MayElect, next_ballot, ElectsBy, TablesElect}
 use Rattle.sc_live_steps.proofs.FollowingProofs.MailTables.{same_mark, floor_low}
 use Rattle.sc_live_steps.proofs.FollowingProofs.FollowerTables.{over, place2, silent, over_off, looks, entered_keeps, entered_floor, told_is}
-use Rattle.sc_law_walks.proofs.Lemmas.{entered_next}
+use Rattle.sc_law_walks.proofs.WalkLemmas.{entered_next}
 
 -- ---- the marks of what is sent to several nodes
 

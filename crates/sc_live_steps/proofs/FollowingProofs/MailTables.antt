@@ -7,12 +7,12 @@ use Rattle.sc_base.specs.Definitions.{same_draw, is_member}
 use Rattle.sc_base.proofs.Lemmas.{same_name}
 use Rattle.sc_words.specs.declared.paxos.answers.AcceptAnswer.TheVariants as Asked
 use Rattle.sc_words.specs.declared.paxos.answers.PrepareAnswer.TheVariants as Answers
-use Rattle.sc_words.specs.paxos.Definitions.{accepted as accepted_by, after_accept, after_promise, reports_from, below, installed, prepared}
-use Rattle.sc_words.proofs.PaxosProofs.Lemmas.{at_least_itself, same_from_at_least}
-use Rattle.sc_node_table.specs.Definitions.{saw, stopped, install_to, named, jumped, looked, sent, ReplicaState, Place, listed, name_of, next, members, first_ballot, last_slot, floor_of, forgotten, installed_replica, looked_up, took_over, install_row, made_by, hinted, promise_to, promised, prepare_row, accepted_to, took, accept_row}
-use Rattle.sc_law_walks.proofs.Lemmas.{cut_next}
-use Rattle.sc_live_steps.specs.following.Definitions.{Mark, Asks, Votes, Installs, Prepares, Promises, mark_of, marks_of, marks_for, StepsBy, IsInTime, StatesMake, answered}
-use Rattle.sc_law_walks.specs.Definitions.{GoesOn}
+use Rattle.sc_words.specs.paxos.PaxosDefinitions.{accepted as accepted_by, after_accept, after_promise, reports_from, below, installed, prepared}
+use Rattle.sc_words.proofs.PaxosProofs.PaxosLemmas.{at_least_itself, same_from_at_least}
+use Rattle.sc_node_table.specs.NodeDefinitions.{saw, stopped, install_to, named, jumped, looked, sent, ReplicaState, Place, listed, name_of, next, members, first_ballot, last_slot, floor_of, forgotten, installed_replica, looked_up, took_over, install_row, made_by, hinted, promise_to, promised, prepare_row, accepted_to, took, accept_row}
+use Rattle.sc_law_walks.proofs.WalkLemmas.{cut_next}
+use Rattle.sc_live_steps.specs.following.FollowingDefinitions.{Mark, Asks, Votes, Installs, Prepares, Promises, mark_of, marks_of, marks_for, StepsBy, IsInTime, StatesMake, answered}
+use Rattle.sc_law_walks.specs.WalkDefinitions.{GoesOn}
 
 -- ---- the marks of one mail
 

@@ -3,10 +3,10 @@ use Rattle.std.proofs.Common.{◌≡◌, ℕ, ◌<◌, ◌≤◌, ◌&&◌, true
 use Rattle.std.proofs.lemmas.Bool.{cases_eq, cond_both, cond-true, eq-eqb, and_from}
 use Rattle.sc_base.specs.Definitions.{Among, Each, least_of}
 use Rattle.sc_node_table.specs.Values.{Ballot}
-use Rattle.sc_node_table.specs.Definitions.{listed}
-use Rattle.sc_words.specs.paxos.Definitions.{below, IsAtLeast}
-use Rattle.sc_words.proofs.PaxosProofs.Lemmas.{same_from_at_least, cases_below, Each-append, Each-split, Each-weaker}
-use Rattle.sc_live_steps.specs.following.Definitions.{Mark, Asks, Votes, Prepares, Promises, next_by, promise_by, reached, pledged, IsFit, AreFit, AreAskedFirst, Course, Progress, Sets, members_at, IsKnown, IsVoting, HasPromised, IsPromising, IsFollowing, IsRow, IsIdle, answered, IsCount, Takes}
+use Rattle.sc_node_table.specs.NodeDefinitions.{listed}
+use Rattle.sc_words.specs.paxos.PaxosDefinitions.{below, IsAtLeast}
+use Rattle.sc_words.proofs.PaxosProofs.PaxosLemmas.{same_from_at_least, cases_below, Each-append, Each-split, Each-weaker}
+use Rattle.sc_live_steps.specs.following.FollowingDefinitions.{Mark, Asks, Votes, Prepares, Promises, next_by, promise_by, reached, pledged, IsFit, AreFit, AreAskedFirst, Course, Progress, Sets, members_at, IsKnown, IsVoting, HasPromised, IsPromising, IsFollowing, IsRow, IsIdle, answered, IsCount, Takes}
 use Rattle.sc_live_steps.proofs.FollowingProofs.Marks.{among-left, among-right, among-either, among-listed, reached-append, pledged-append, fit-append, no_step, promise-most, count-reached, count-pledged, count-fit, count-asks, IsLater, asked-append, asked-counts, asked-left}
 
 -- ---- what is under way before and after a row

@@ -7,10 +7,10 @@ use Rattle.std.proofs.lemmas.Bool.{cases_lt, cases_eq, cond_both, eq-eqb, ne_eqb
 use Rattle.sc_base.specs.Definitions.{Among, Each, client_actor, is_member}
 use Rattle.sc_node_table.specs.Values.{Ballot, Draw, Command, Noop, Call, Core, AnswerBody, Mail, Accept, Answer, Must, Gap, Flight}
 use Rattle.sc_words.specs.declared.paxos.answers.Must.TheVariants.{Value, Free as Open}
-use Rattle.sc_words.specs.paxos.Definitions.{must, flight_at}
-use Rattle.sc_words.proofs.PaxosProofs.Lemmas.{Each-append, Each-weaker}
-use Rattle.sc_node_table.specs.Definitions.{answered, sent_all, Found, is_act, waits, turned_down, next_queued, from_backlog, from_acts, from_queues, found_by, found_for, offered, pumped_from, pumped, ReplicaState, Place, name_of, next, settled, may_offer, either, taken_at, under_way, is_idle, last_slot, at_slot}
-use Rattle.sc_live_steps.specs.following.Definitions.{Mark, Asks, Course, Sets, marks_for, AreAt, MayOffer, IsBegun, to_bound, OffersBy, PumpsOffer, IsOffer}
+use Rattle.sc_words.specs.paxos.PaxosDefinitions.{must, flight_at}
+use Rattle.sc_words.proofs.PaxosProofs.PaxosLemmas.{Each-append, Each-weaker}
+use Rattle.sc_node_table.specs.NodeDefinitions.{answered, sent_all, Found, is_act, waits, turned_down, next_queued, from_backlog, from_acts, from_queues, found_by, found_for, offered, pumped_from, pumped, ReplicaState, Place, name_of, next, settled, may_offer, either, taken_at, under_way, is_idle, last_slot, at_slot}
+use Rattle.sc_live_steps.specs.following.FollowingDefinitions.{Mark, Asks, Course, Sets, marks_for, AreAt, MayOffer, IsBegun, to_bound, OffersBy, PumpsOffer, IsOffer}
 use Rattle.sc_live_steps.proofs.FollowingProofs.LeastMembers.{append_one, marks_to, sent_marks}
 use Rattle.sc_live_steps.proofs.FollowingProofs.Marks.{among-left, among-right}
 use Rattle.sc_live_steps.proofs.FollowingProofs.MailTables.{marks-push, same_mark}

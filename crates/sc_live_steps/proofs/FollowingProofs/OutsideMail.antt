@@ -6,12 +6,12 @@ use Rattle.sc_words.specs.declared.commands.bodies.Body.TheVariants as At
 use Rattle.sc_words.specs.declared.commands.votes.Outcome.TheVariants as Is
 use Rattle.sc_words.specs.declared.commands.votes.Past.TheVariants as Cast
 use Rattle.sc_words.specs.declared.commands.votes.Vote.TheVariants as Says
-use Rattle.sc_words.specs.commands.Definitions.{decided_in, cast_in, is_changed}
-use Rattle.sc_group_table.specs.machine.Definitions.{Group}
-use Rattle.sc_group_table.specs.policy.Definitions.{is_reported}
+use Rattle.sc_words.specs.commands.CommandDefinitions.{decided_in, cast_in, is_changed}
+use Rattle.sc_group_table.specs.machine.MachineDefinitions.{Group}
+use Rattle.sc_group_table.specs.policy.PolicyDefinitions.{is_reported}
 use Rattle.sc_node_table.specs.declared.Before.{Before}
-use Rattle.sc_node_table.specs.Definitions.{ended, answer_of, order_result, answered_or_put_back, effect_reported, announced, sent, sent_all, answered, answered_all, dismissed, dismissed_all, order_number, result_sent, order_reported, offer_of, question, asked_first, put_back, ReplicaState, Place, name_of, under_way, asked_on, begun_asks, vote_sent, watch_sent, aborted_to, aborted_watcher, given_up_by, vote_answered, released_to, watch_answered_by, went_on, begun_result, spoken_number, result_reported, begun_reported, spoken_mails, spoken, outcome_sent}
-use Rattle.sc_live_steps.specs.following.Definitions.{mark_of, marks_for}
+use Rattle.sc_node_table.specs.NodeDefinitions.{ended, answer_of, order_result, answered_or_put_back, effect_reported, announced, sent, sent_all, answered, answered_all, dismissed, dismissed_all, order_number, result_sent, order_reported, offer_of, question, asked_first, put_back, ReplicaState, Place, name_of, under_way, asked_on, begun_asks, vote_sent, watch_sent, aborted_to, aborted_watcher, given_up_by, vote_answered, released_to, watch_answered_by, went_on, begun_result, spoken_number, result_reported, begun_reported, spoken_mails, spoken, outcome_sent}
+use Rattle.sc_live_steps.specs.following.FollowingDefinitions.{mark_of, marks_for}
 use Rattle.sc_live_steps.proofs.FollowingProofs.MailTables.{marks-push}
 
 -- what a coordinator asks is no part of an agreement

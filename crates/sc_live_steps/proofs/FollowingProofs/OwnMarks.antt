@@ -3,9 +3,9 @@ use Rattle.std.proofs.Common.{◌≡◌, ℕ, zero, suc, ◌+◌, ◌<◌, ◌�
 use Rattle.std.proofs.lemmas.Bool.{cond_both}
 use Rattle.sc_base.specs.Definitions.{Each, is_member}
 use Rattle.sc_node_table.specs.Values.{Ballot}
-use Rattle.sc_node_table.specs.Definitions.{listed}
-use Rattle.sc_words.proofs.PaxosProofs.Lemmas.{Each-append, Each-weaker}
-use Rattle.sc_live_steps.specs.following.Definitions.{IsNoPrepare, Mark, Asks, Votes, Teaches, Installs, Prepares, Promises, reached, AreFit, Course, Sets, members_at, IsOtherPrepare, IsOwnPrepare, ArePromisedLast, AreLearntLast, IsCount, IsOffer, welcome, reported_of, taught_from}
+use Rattle.sc_node_table.specs.NodeDefinitions.{listed}
+use Rattle.sc_words.proofs.PaxosProofs.PaxosLemmas.{Each-append, Each-weaker}
+use Rattle.sc_live_steps.specs.following.FollowingDefinitions.{IsNoPrepare, Mark, Asks, Votes, Teaches, Installs, Prepares, Promises, reached, AreFit, Course, Sets, members_at, IsOtherPrepare, IsOwnPrepare, ArePromisedLast, AreLearntLast, IsCount, IsOffer, welcome, reported_of, taught_from}
 use Rattle.sc_live_steps.proofs.FollowingProofs.Marks.{reached-least, offers-each}
 pub use Rattle.sc_live_steps.proofs.FollowingProofs.AskedSlots.{count_none}
 use Rattle.sc_live_steps.proofs.FollowingProofs.LeastMembers.{append_one as append_marks}

@@ -3,10 +3,10 @@ use Rattle.std.proofs.Common.{◌≡◌, ℕ, ◌<◌, ◌≤◌, ◌&&◌, eqb,
 use Rattle.std.proofs.lemmas.Bool.{cases_Bool, cases_eq, cond_both, eqb-true, and_parts}
 use Rattle.sc_base.specs.Definitions.{Each}
 use Rattle.sc_node_table.specs.Values.{Ballot}
-use Rattle.sc_node_table.specs.Definitions.{listed, next}
-use Rattle.sc_words.specs.paxos.Definitions.{below, IsAtLeast}
-use Rattle.sc_words.proofs.PaxosProofs.Lemmas.{at_least_below, at_least_from_below, not_both, Each-append, Each-split, Each-weaker}
-use Rattle.sc_live_steps.specs.following.Definitions.{Course, IsNoPrepare, Mark, Asks, Votes, Teaches, Installs, Prepares, Promises, Progress, Sets, IsKnown, IsFollowing, IsOtherPrepare, IsOwnPrepare, IsHome, ArePromisedLast, AreLearntLast, IsOwnFirst, CountsOwn, CountsNone, OwnIsKept, LeadersCountOwn, IsRow, IsIdle, IsCount, answered, Takes, taught_from, Leads, Elects}
+use Rattle.sc_node_table.specs.NodeDefinitions.{listed, next}
+use Rattle.sc_words.specs.paxos.PaxosDefinitions.{below, IsAtLeast}
+use Rattle.sc_words.proofs.PaxosProofs.PaxosLemmas.{at_least_below, at_least_from_below, not_both, Each-append, Each-split, Each-weaker}
+use Rattle.sc_live_steps.specs.following.FollowingDefinitions.{Course, IsNoPrepare, Mark, Asks, Votes, Teaches, Installs, Prepares, Promises, Progress, Sets, IsKnown, IsFollowing, IsOtherPrepare, IsOwnPrepare, IsHome, ArePromisedLast, AreLearntLast, IsOwnFirst, CountsOwn, CountsNone, OwnIsKept, LeadersCountOwn, IsRow, IsIdle, IsCount, answered, Takes, taught_from, Leads, Elects}
 use Rattle.sc_live_steps.proofs.FollowingProofs.ElectionRows.{elects-each}
 use Rattle.sc_live_steps.proofs.FollowingProofs.NodeMarks.{counts_of, each-row, idle_marks}
 use Rattle.sc_live_steps.proofs.FollowingProofs.Marks.{offers-each, told-each, told-own}

@@ -8,11 +8,11 @@ use Rattle.sc_node_table.specs.Values.{Ballot, Draw, Op, Offer, Watch, Command, 
 use Rattle.sc_base.proofs.Lemmas.{ballot_is, ballot_itself}
 use Rattle.sc_words.specs.declared.commands.votes.Past.TheVariants as Cast
 use Rattle.sc_words.specs.declared.commands.votes.Vote.TheVariants as Says
-use Rattle.sc_words.specs.paxos.Definitions.{below, LeaderState, promise_counted}
+use Rattle.sc_words.specs.paxos.PaxosDefinitions.{below, LeaderState, promise_counted}
 use Rattle.sc_node_table.specs.declared.ReplicaInput.TheVariants as Given
-use Rattle.sc_node_table.specs.Definitions.{has_act, act_queued, saw, stopped, sent, ordered_command, untaken, queued_or_refused, ordered_row, pumped, queued_number, without_request, asked_link, question, asked_node, ReplicaState, Place, name_of, settled, refused_at, queued, requested, request_row, mailed, stepped, standing_vote, sent_elsewhere, offered_by, offer_row, watched_by, watch_row, awaits_vote, awaits_watch, outcome_sent, noted_outcome, vote_met, vote_row, watch_met, watched_row, next_asked, asked_next, elsewhere_row, is_bound, outcome_row, leads, promise_row, nack_row}
-use Rattle.sc_law_walks.specs.Definitions.{GoesOn}
-use Rattle.sc_live_steps.specs.following.Definitions.{Mark, Votes, Promises, Progress, Sets, voters_of, IsLeadOf, LeadsInto, IsAside, RowsLead, marks_for}
+use Rattle.sc_node_table.specs.NodeDefinitions.{has_act, act_queued, saw, stopped, sent, ordered_command, untaken, queued_or_refused, ordered_row, pumped, queued_number, without_request, asked_link, question, asked_node, ReplicaState, Place, name_of, settled, refused_at, queued, requested, request_row, mailed, stepped, standing_vote, sent_elsewhere, offered_by, offer_row, watched_by, watch_row, awaits_vote, awaits_watch, outcome_sent, noted_outcome, vote_met, vote_row, watch_met, watched_row, next_asked, asked_next, elsewhere_row, is_bound, outcome_row, leads, promise_row, nack_row}
+use Rattle.sc_law_walks.specs.WalkDefinitions.{GoesOn}
+use Rattle.sc_live_steps.specs.following.FollowingDefinitions.{Mark, Votes, Promises, Progress, Sets, voters_of, IsLeadOf, LeadsInto, IsAside, RowsLead, marks_for}
 use Rattle.sc_live_steps.proofs.FollowingProofs.ExecutedEntries.{none_leads, pump_leads}
 use Rattle.sc_live_steps.proofs.FollowingProofs.LeaderTables.{Counts, leads_into}
 use Rattle.sc_live_steps.proofs.FollowingProofs.Offers.{pumps_offer}

@@ -4,9 +4,9 @@ use Rattle.std.proofs.lemmas.Bool.{cases_Bool, cond_both, cond-true, eq-eqb, lt-
 use Rattle.std.proofs.lemmas.List.Sums.{sum_by-cons}
 use Rattle.sc_base.specs.Definitions.{Among, votes_of, is_majority, IsRoster, is_member, least_of}
 use Rattle.sc_node_table.specs.Values.{Ballot}
-use Rattle.sc_node_table.specs.Definitions.{slots_ahead}
-use Rattle.sc_words.proofs.PaxosProofs.Lemmas.{at_least_itself}
-use Rattle.sc_live_steps.specs.following.Definitions.{Mark, Asks, Votes, Prepares, Promises, reached, pledged, Progress, Sets, members_at, IsVoting, IsPromising, IsFollowing, IsEven, IsEvenLed, begun}
+use Rattle.sc_node_table.specs.NodeDefinitions.{slots_ahead}
+use Rattle.sc_words.proofs.PaxosProofs.PaxosLemmas.{at_least_itself}
+use Rattle.sc_live_steps.specs.following.FollowingDefinitions.{Mark, Asks, Votes, Prepares, Promises, reached, pledged, Progress, Sets, members_at, IsVoting, IsPromising, IsFollowing, IsEven, IsEvenLed, begun}
 use Rattle.sc_live_steps.proofs.FollowingProofs.LeaderRows.{least_in}
 
 -- ---- a group begins

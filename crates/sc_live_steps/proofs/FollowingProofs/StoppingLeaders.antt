@@ -1,12 +1,12 @@
 -- A leader stops by what is offered alone, and so has executed all that it offered.
 use Rattle.std.proofs.Common.{◌≡◌, ℕ, ◌+◌, ◌≤◌, true, false, true≢false, List, [], ◌∷◌, Option, Some, None, inl, inr, refl, sym, ◌∙◌, ap, subst, arith}
 use Rattle.sc_node_table.specs.Values.{Command, Noop, Call, Core}
-use Rattle.sc_group_table.specs.machine.Definitions.{applied}
+use Rattle.sc_group_table.specs.machine.MachineDefinitions.{applied}
 use Rattle.sc_base.specs.Definitions.{is_member}
-use Rattle.sc_node_table.specs.Definitions.{entered, executed_one, next_child, next_ready, ending, executed_ready, executed, is_act, pumped, ReplicaState, Place, Executed, childless, next, forgotten, mailed, at_slot}
-use Rattle.sc_law_walks.specs.Definitions.{IfThere}
-use Rattle.sc_law_walks.proofs.Lemmas.{entered_next, idle_ready, idle_pump}
-use Rattle.sc_live_steps.specs.following.Definitions.{Course, Sets, IsLed, IsNext, IsOn, IsOff, LeadsPast, AreNext, LeadsBy, StopsAlone, ActsStopAlone}
+use Rattle.sc_node_table.specs.NodeDefinitions.{entered, executed_one, next_child, next_ready, ending, executed_ready, executed, is_act, pumped, ReplicaState, Place, Executed, childless, next, forgotten, mailed, at_slot}
+use Rattle.sc_law_walks.specs.WalkDefinitions.{IfThere}
+use Rattle.sc_law_walks.proofs.WalkLemmas.{entered_next, idle_ready, idle_pump}
+use Rattle.sc_live_steps.specs.following.FollowingDefinitions.{Course, Sets, IsLed, IsNext, IsOn, IsOff, LeadsPast, AreNext, LeadsBy, StopsAlone, ActsStopAlone}
 use Rattle.sc_live_steps.proofs.FollowingProofs.CountedEntries.{entries_lead}
 use Rattle.sc_live_steps.proofs.FollowingProofs.ExecutedEntries.{on_leads, on_next, on_ready, ready_of, ready_leads}
 use Rattle.sc_live_steps.proofs.FollowingProofs.LeaderTables.{none_taken}

@@ -4,9 +4,9 @@ use Rattle.std.specs.Prelude.{is_some}
 use Rattle.std.proofs.lemmas.Bool.{cond_both, cases_Bool, cases_eq, cases_lt, cond-true, cond-false, eq-eqb, or_cases, or_left, or_right}
 use Rattle.sc_base.specs.Definitions.{most_nodes, is_member, least_of}
 use Rattle.sc_node_table.specs.Values.{Ballot, Command}
-use Rattle.sc_words.specs.paxos.Definitions.{below}
-use Rattle.sc_node_table.specs.Definitions.{is_in_some, nodes_to, open_nodes, entered, executed_ready, executed, pumped, ReplicaState, Place, name_of, next, members, forgotten, mailed, numbers_from}
-use Rattle.sc_live_steps.specs.following.Definitions.{MayLeadNext, elected_by, ElectsInto, ElectionsLead, Teaches, Prepares, Progress, Sets, members_at, IsOpen, voters_of, IsLeadOf, AreAt, IsOrderly, Elects, marks_for, MayElect, next_ballot, ElectsBy}
+use Rattle.sc_words.specs.paxos.PaxosDefinitions.{below}
+use Rattle.sc_node_table.specs.NodeDefinitions.{is_in_some, nodes_to, open_nodes, entered, executed_ready, executed, pumped, ReplicaState, Place, name_of, next, members, forgotten, mailed, numbers_from}
+use Rattle.sc_live_steps.specs.following.FollowingDefinitions.{MayLeadNext, elected_by, ElectsInto, ElectionsLead, Teaches, Prepares, Progress, Sets, members_at, IsOpen, voters_of, IsLeadOf, AreAt, IsOrderly, Elects, marks_for, MayElect, next_ballot, ElectsBy}
 use Rattle.sc_live_steps.proofs.FollowingProofs.LeastMembers.{last, leading, one_is, no_pump, self_election}
 use Rattle.sc_live_steps.proofs.FollowingProofs.EntryMail.{passes, fails}
 use Rattle.sc_live_steps.proofs.FollowingProofs.LeaderRows.{least_in}

@@ -6,12 +6,12 @@ use Rattle.sc_node_table.specs.Values.{Ballot, Command, Base, Route, Mail, Repor
 use Rattle.sc_base.specs.Definitions.{is_member, least_of}
 use Rattle.sc_words.specs.declared.paxos.answers.AcceptAnswer.TheVariants as Asked
 use Rattle.sc_words.specs.declared.paxos.answers.PrepareAnswer.TheVariants as Answers
-use Rattle.sc_words.specs.paxos.Definitions.{accepted as accepted_by, after_accept, after_promise, reports_from, below, prepared}
-use Rattle.sc_words.proofs.PaxosProofs.Lemmas.{at_least_itself}
-use Rattle.sc_node_table.specs.Definitions.{elected, stopped, entered, is_among, looked_for, looked, executed_one, executed_ready, executed, install_to, jumped, pumped, ReplicaState, Place, Executed, next, members, last_slot, forgotten, looked_up, took_over, install_row, mailed, promise_to, promised, prepare_row, accepted_to, took, accept_row}
-use Rattle.sc_law_walks.specs.Definitions.{GoesOn}
-use Rattle.sc_law_walks.proofs.Lemmas.{idle_ready, idle_pump}
-use Rattle.sc_live_steps.specs.following.Definitions.{Asks, Installs, members_at, HintsFollow, IsHeir, HeirsElect, LeadersLeaveLast, IsInTime, Stays}
+use Rattle.sc_words.specs.paxos.PaxosDefinitions.{accepted as accepted_by, after_accept, after_promise, reports_from, below, prepared}
+use Rattle.sc_words.proofs.PaxosProofs.PaxosLemmas.{at_least_itself}
+use Rattle.sc_node_table.specs.NodeDefinitions.{elected, stopped, entered, is_among, looked_for, looked, executed_one, executed_ready, executed, install_to, jumped, pumped, ReplicaState, Place, Executed, next, members, last_slot, forgotten, looked_up, took_over, install_row, mailed, promise_to, promised, prepare_row, accepted_to, took, accept_row}
+use Rattle.sc_law_walks.specs.WalkDefinitions.{GoesOn}
+use Rattle.sc_law_walks.proofs.WalkLemmas.{idle_ready, idle_pump}
+use Rattle.sc_live_steps.specs.following.FollowingDefinitions.{Asks, Installs, members_at, HintsFollow, IsHeir, HeirsElect, LeadersLeaveLast, IsInTime, Stays}
 use Rattle.sc_live_steps.proofs.FollowingProofs.HintRows.{nodes_heed}
 use Rattle.sc_live_steps.proofs.FollowingProofs.FollowerTables.{over, place2, over_off, looks, looked_same, told_is}
 use Rattle.sc_live_steps.proofs.FollowingProofs.MailTables.{not_refused, saw_either, jumped_keeps, made_is}

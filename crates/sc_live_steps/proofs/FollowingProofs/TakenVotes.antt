@@ -6,9 +6,9 @@ use Rattle.std.proofs.lemmas.Bool.{and_from, and_parts, cases_eq, cases_lt, cond
 use Rattle.sc_base.specs.Definitions.{Each, same_ballot, votes_of, is_majority, IsRoster, is_member}
 use Rattle.sc_node_table.specs.Values.{Ballot, Command, Counted, Chosen, NotYet, Flight, Report}
 use Rattle.sc_base.proofs.Lemmas.{ballot_is, ballot_itself}
-use Rattle.sc_words.specs.paxos.Definitions.{LeaderState, flight_at, without_flight, without_flight_at, kept_voters, add_voter, voters_after, with_voters, tallied, vote_at, counted}
-use Rattle.sc_node_table.specs.Definitions.{executed, has_room, ReplicaState, Executed, childless, listed, next, set_at, either, taken_at, flying, at_slot, with_slot, leads, readied, vote_tallied, voted, accepted_row}
-use Rattle.sc_live_steps.specs.following.Definitions.{Mark, Votes, Promises, Course, Progress, Sets, IsLed, voters_of, IsPolled, IsLeadOf, LeadsInto, AreEntries, StopsAlone, DecidesNext, AreAt, MayOffer, IsOrderly, IsCount, IsCounted}
+use Rattle.sc_words.specs.paxos.PaxosDefinitions.{LeaderState, flight_at, without_flight, without_flight_at, kept_voters, add_voter, voters_after, with_voters, tallied, vote_at, counted}
+use Rattle.sc_node_table.specs.NodeDefinitions.{executed, has_room, ReplicaState, Executed, childless, listed, next, set_at, either, taken_at, flying, at_slot, with_slot, leads, readied, vote_tallied, voted, accepted_row}
+use Rattle.sc_live_steps.specs.following.FollowingDefinitions.{Mark, Votes, Promises, Course, Progress, Sets, IsLed, voters_of, IsPolled, IsLeadOf, LeadsInto, AreEntries, StopsAlone, DecidesNext, AreAt, MayOffer, IsOrderly, IsCount, IsCounted}
 use Rattle.sc_live_steps.proofs.FollowingProofs.ExecutedEntries.{none_leads, executions_lead}
 use Rattle.sc_live_steps.proofs.FollowingProofs.FlightSlots.{flight_out, slot_in, slot_over, polled_here, polled_out}
 use Rattle.sc_live_steps.proofs.FollowingProofs.LeaderTables.{voters_fly, fly_voters, none_taken, Counts, leads_into}

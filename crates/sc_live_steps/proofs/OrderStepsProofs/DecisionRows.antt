@@ -2,7 +2,7 @@
 use Rattle.std.proofs.Common.{◌≡◌, ℕ, Bool, true, false, List, [], ◌∷◌, Option, Some, inl, inr, refl, sym, ◌∙◌, ap, subst}
 use Rattle.sc_base.specs.Definitions.{Each}
 use Rattle.sc_node_table.specs.Values.{Draw}
-use Rattle.sc_live_steps.specs.orders.Definitions.{Turn, First, Lone, Next, is_watch, Unbound, Asking, Bound, Errand, Question, Result, Answers, Records, Ends, Here, free, Scene, IsNone, IsOnly, Deal, Mailed, Filed, Party, Stage, Still, Asks, Recorded, Closes, ClosesBoth, coordinator, heard, heard_lead, bound_by, closing, party_of, IsOrder, IsAt, IsRow, results, Aborted, Decided, Heard, Ended, closed, Aborts, Hears, IsFreed, LastFreed, OneFreed, TwoFreed, Comes, StepsBy}
+use Rattle.sc_live_steps.specs.orders.OrderDefinitions.{Turn, First, Lone, Next, is_watch, Unbound, Asking, Bound, Errand, Question, Result, Answers, Records, Ends, Here, free, Scene, IsNone, IsOnly, Deal, Mailed, Filed, Party, Stage, Still, Asks, Recorded, Closes, ClosesBoth, coordinator, heard, heard_lead, bound_by, closing, party_of, IsOrder, IsAt, IsRow, results, Aborted, Decided, Heard, Ended, closed, Aborts, Hears, IsFreed, LastFreed, OneFreed, TwoFreed, Comes, StepsBy}
 use Rattle.sc_live_steps.specs.orders.StageSteps.{Decides}
 use Rattle.sc_live_steps.proofs.OrderStepsProofs.NamedValues.{AreOne, cases-draw, having}
 use Rattle.sc_live_steps.proofs.OrderStepsProofs.PartyChanges.{other-mailed, other-same, lead-stays, same_asking}

@@ -2,16 +2,16 @@
 use Rattle.std.proofs.Common.{◌≡◌, ℕ, Bool, true, false, cond, [], ◌∷◌, ◌++◌, Option, Some, None, refl, sym, ◌∙◌, ap, subst}
 use Rattle.std.specs.Prelude.{is_none}
 use Rattle.sc_node_table.specs.Values.{Draw, Body, Offer, Watch, Join, Leave, Split, Begin, Prepared, RecordVote, Watched, Core, Lock, Free, Coordinating, Promised, Watching, Effect, Route, OrderRefusal, Frozen, No, Outcome, Abort, TxPrepare, TxVote, TxOutcome, TxWatched}
-use Rattle.sc_words.specs.commands.Definitions.{is_changed, decided_in}
+use Rattle.sc_words.specs.commands.CommandDefinitions.{is_changed, decided_in}
 use Rattle.sc_words.specs.declared.commands.bodies.Body.TheVariants as At
 use Rattle.sc_words.specs.declared.commands.effects.Effect.TheVariants as Was
 use Rattle.sc_words.specs.declared.commands.votes.Past.TheVariants as Cast
 use Rattle.sc_words.specs.declared.commands.votes.Vote.TheVariants as Says
-use Rattle.sc_group_table.specs.machine.Definitions.{Group, split_group, refusal_of, ordered, with_node, without_node, Plan, frozen_of, has_named, left_group, begun_group, decided, committed, heard_group, past_of, bound_by as lock_by, voted_on}
+use Rattle.sc_group_table.specs.machine.MachineDefinitions.{Group, split_group, refusal_of, ordered, with_node, without_node, Plan, frozen_of, has_named, left_group, begun_group, decided, committed, heard_group, past_of, bound_by as lock_by, voted_on}
 use Rattle.sc_base.specs.Definitions.{least_of}
-use Rattle.sc_node_table.specs.Definitions.{offer_of, question, asked_first, before_of, went_on, sent}
+use Rattle.sc_node_table.specs.NodeDefinitions.{offer_of, question, asked_first, before_of, went_on, sent}
 use Rattle.sc_node_table.specs.declared.Before.{Before}
-use Rattle.sc_live_steps.specs.orders.Definitions.{First, Lone, Next, Unbound, Asking, Question, Reply, Result, IsOnly, bound_by, results, bond_in, errands_for, Leaves, IsBegun, OrdersLeave, VotesLeave}
+use Rattle.sc_live_steps.specs.orders.OrderDefinitions.{First, Lone, Next, Unbound, Asking, Question, Reply, Result, IsOnly, bound_by, results, bond_in, errands_for, Leaves, IsBegun, OrdersLeave, VotesLeave}
 use Rattle.sc_live_steps.proofs.OrderStepsProofs.Errands.{one-errand}
 
 -- nothing is sent

@@ -10,10 +10,10 @@ use Rattle.sc_base.proofs.Lemmas.{same_name}
 use Rattle.sc_words.specs.declared.commands.bodies.Body.TheVariants as At
 use Rattle.sc_words.specs.declared.commands.votes.Past.TheVariants as Cast
 use Rattle.sc_words.specs.declared.commands.votes.Vote.TheVariants as Says
-use Rattle.sc_group_table.specs.machine.Definitions.{asks_watcher}
-use Rattle.sc_node_table.specs.Definitions.{is_of_kind, has_act, act_queued, sent, pumped, question, asked_link, ReplicaState, Place, either, taken_at, taken_from, under_way, open_slots, name_of, listed, mailed, at_slot, standing_vote, sent_elsewhere, offered_by, offer_row, watched_by, watch_row, awaits_vote, awaits_watch, vote_queued, vote_met, vote_row, watch_queued, watch_met, watched_row, noted_outcome, is_bound, outcome_row, asked_next, elsewhere_row}
-use Rattle.sc_words.specs.paxos.Definitions.{flight_at}
-use Rattle.sc_live_steps.specs.orders.Definitions.{Turn, is_watch, Asking, Bound, Question, Elsewhere, Work, Answers, Records, Ends, IsOnly, turn_of, bond_in, is_yes, is_cast_yes, work_by, works_in, works_flying, works_ready, works, errand_by, errands_for, Works, MayFile, TablesFile, TablesPass, TablesAskOn}
+use Rattle.sc_group_table.specs.machine.MachineDefinitions.{asks_watcher}
+use Rattle.sc_node_table.specs.NodeDefinitions.{is_of_kind, has_act, act_queued, sent, pumped, question, asked_link, ReplicaState, Place, either, taken_at, taken_from, under_way, open_slots, name_of, listed, mailed, at_slot, standing_vote, sent_elsewhere, offered_by, offer_row, watched_by, watch_row, awaits_vote, awaits_watch, vote_queued, vote_met, vote_row, watch_queued, watch_met, watched_row, noted_outcome, is_bound, outcome_row, asked_next, elsewhere_row}
+use Rattle.sc_words.specs.paxos.PaxosDefinitions.{flight_at}
+use Rattle.sc_live_steps.specs.orders.OrderDefinitions.{Turn, is_watch, Asking, Bound, Question, Elsewhere, Work, Answers, Records, Ends, IsOnly, turn_of, bond_in, is_yes, is_cast_yes, work_by, works_in, works_flying, works_ready, works, errand_by, errands_for, Works, MayFile, TablesFile, TablesPass, TablesAskOn}
 use Rattle.sc_live_steps.proofs.OrderStepsProofs.Errands.{one-errand}
 use Rattle.sc_live_steps.proofs.OrderStepsProofs.LoneWorkPumps.{pumps-keep}
 

@@ -4,8 +4,8 @@ use Rattle.std.proofs.lemmas.List.{append_assoc}
 use Rattle.sc_base.specs.Definitions.{same_draw}
 use Rattle.sc_node_table.specs.Values.{Draw, Mail, MailBody}
 use Rattle.sc_base.proofs.Lemmas.{draw_is, same_name}
-use Rattle.sc_node_table.specs.Definitions.{sent, sent_all}
-use Rattle.sc_live_steps.specs.orders.Definitions.{Errand, IsOnly, errand_by, errand_for, errands_for}
+use Rattle.sc_node_table.specs.NodeDefinitions.{sent, sent_all}
+use Rattle.sc_live_steps.specs.orders.OrderDefinitions.{Errand, IsOnly, errand_by, errand_for, errands_for}
 
 -- a mail that is put last
 pub errands-push : (name : Draw) (mails : List Mail) (mail : Mail) → errands_for name (mails ++ mail ∷ []) ≡ errands_for name mails ++ errand_for name (errand_by mail.from mail.to mail.body)

@@ -5,15 +5,15 @@ use Rattle.std.specs.Prelude.{nat_lt, nat_le}
 use Rattle.sc_base.specs.Definitions.{same_ballot, is_member, least_of}
 use Rattle.sc_node_table.specs.Values.{Ballot, Draw, Command, Noop, Base, Effect, Route, OrderResult, AnswerBody, Mail, Accept, Ask, Install, Learn, Nack, Prepare, Promise, AcceptAnswer, PrepareAnswer, Flight, Report}
 use Rattle.sc_mail.specs.declared.bodies.AnswerBody.TheVariants as Says
-use Rattle.sc_group_table.specs.machine.Definitions.{applied}
-use Rattle.sc_node_table.specs.Definitions.{saw, ended, stopped, elected, open_nodes, entered, announced, order_result, effect_reported, learnt_to, welcomed, slot_lost, landed, left_gone, left, is_among, looked_for, looked, executed_one, executed, install_to, jumped, sent, sent_all, answered_all, order_number, pumped, ReplicaState, Place, Executed, childless, name_of, next, members, flying, under_way, forgotten, last_slot, listed, mailed, learn_row, looked_up, took_over, install_row, without_slot, before_of, spoken, spoken_mails, leads, promise_row, hinted, promise_to, promised, prepare_row, accepted_to, took, accept_row, nack_row}
+use Rattle.sc_group_table.specs.machine.MachineDefinitions.{applied}
+use Rattle.sc_node_table.specs.NodeDefinitions.{saw, ended, stopped, elected, open_nodes, entered, announced, order_result, effect_reported, learnt_to, welcomed, slot_lost, landed, left_gone, left, is_among, looked_for, looked, executed_one, executed, install_to, jumped, sent, sent_all, answered_all, order_number, pumped, ReplicaState, Place, Executed, childless, name_of, next, members, flying, under_way, forgotten, last_slot, listed, mailed, learn_row, looked_up, took_over, install_row, without_slot, before_of, spoken, spoken_mails, leads, promise_row, hinted, promise_to, promised, prepare_row, accepted_to, took, accept_row, nack_row}
 use Rattle.sc_words.specs.declared.paxos.answers.AcceptAnswer.TheVariants as Asked
 use Rattle.sc_words.specs.declared.paxos.answers.Must.TheVariants.{Free as Open}
 use Rattle.sc_words.specs.declared.paxos.answers.PrepareAnswer.TheVariants as Prepared
-use Rattle.sc_words.specs.paxos.Definitions.{accepted as accepted_by, AcceptorState, below, chosen_value, names_above, LeaderState, must, must_without, flight_at, new_leader, without_flight, without_flight_at, prepared}
-use Rattle.sc_law_walks.proofs.Lemmas.{idle_pump, none_ready as ready_still}
-use Rattle.sc_law_walks.specs.Definitions.{GoesOn}
-use Rattle.sc_live_steps.specs.orders.Definitions.{Work, works_in, works_flying, works_ready, works, errands_for, IsUnbound, Works, IsIdle, Rested, TablesRest, PromisesKeepWork}
+use Rattle.sc_words.specs.paxos.PaxosDefinitions.{accepted as accepted_by, AcceptorState, below, chosen_value, names_above, LeaderState, must, must_without, flight_at, new_leader, without_flight, without_flight_at, prepared}
+use Rattle.sc_law_walks.proofs.WalkLemmas.{idle_pump, none_ready as ready_still}
+use Rattle.sc_law_walks.specs.WalkDefinitions.{GoesOn}
+use Rattle.sc_live_steps.specs.orders.OrderDefinitions.{Work, works_in, works_flying, works_ready, works, errands_for, IsUnbound, Works, IsIdle, Rested, TablesRest, PromisesKeepWork}
 use Rattle.sc_live_steps.proofs.OrderStepsProofs.Errands.{errands-none, errands-all}
 use Rattle.sc_live_steps.proofs.OrderStepsProofs.LoneWorkPumps.{pump-stays, pumps-keep}
 use Rattle.sc_live_steps.proofs.OrderStepsProofs.LoneEntries.{order_none, begun_none, all_answered_none, all_dismissed_none}

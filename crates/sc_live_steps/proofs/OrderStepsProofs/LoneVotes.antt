@@ -3,9 +3,9 @@ use Rattle.std.proofs.Common.{◌≡◌, ℕ, ◌&&◌, eqb, Bool, true, false, 
 use Rattle.std.proofs.lemmas.Bool.{eqb-true, eq-eqb}
 use Rattle.sc_base.specs.Definitions.{same_ballot, is_majority}
 use Rattle.sc_node_table.specs.Values.{Ballot, Draw, Command, Accepted, Counted, Chosen, NotYet, Flight}
-use Rattle.sc_words.specs.paxos.Definitions.{LeaderState, flight_at, without_flight, without_flight_at, kept_voters, voters_after, with_voters, tallied, vote_at, counted}
-use Rattle.sc_node_table.specs.Definitions.{has_room, executed, ReplicaState, Executed, childless, next, set_at, listed, mailed, with_slot, leads, readied, vote_tallied, voted, accepted_row}
-use Rattle.sc_live_steps.specs.orders.Definitions.{work_by, works_in, works_flying, works_ready, works, Works, IsLone, FliesLone, Decides, VotesCountAlone}
+use Rattle.sc_words.specs.paxos.PaxosDefinitions.{LeaderState, flight_at, without_flight, without_flight_at, kept_voters, voters_after, with_voters, tallied, vote_at, counted}
+use Rattle.sc_node_table.specs.NodeDefinitions.{has_room, executed, ReplicaState, Executed, childless, next, set_at, listed, mailed, with_slot, leads, readied, vote_tallied, voted, accepted_row}
+use Rattle.sc_live_steps.specs.orders.OrderDefinitions.{work_by, works_in, works_flying, works_ready, works, Works, IsLone, FliesLone, Decides, VotesCountAlone}
 
 works_voters : (slot : ℕ) (voters : Option (List ℕ)) (flights : List (Flight Command)) → works_flying (with_voters slot voters flights) ≡ works_flying flights
 works_voters slot voters [] = refl

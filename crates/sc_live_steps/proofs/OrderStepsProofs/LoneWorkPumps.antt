@@ -6,9 +6,9 @@ use Rattle.std.proofs.lemmas.List.{append_assoc}
 use Rattle.sc_base.specs.Definitions.{client_actor}
 use Rattle.sc_node_table.specs.Values.{Draw, Command, Noop, Call, Core, AnswerBody, Mail, Accept, Answer, Flight}
 use Rattle.sc_words.specs.declared.paxos.answers.Must.TheVariants.{Free as Open}
-use Rattle.sc_words.specs.paxos.Definitions.{must}
-use Rattle.sc_node_table.specs.Definitions.{answered, Found, is_act, waits, turned_down, next_queued, from_backlog, from_acts, from_queues, found_for, offered, pumped_from, pumped, ReplicaState, Place, name_of, next, settled, may_offer, taken_at, under_way, is_idle, last_slot, listed}
-use Rattle.sc_live_steps.specs.orders.Definitions.{Work, work_by, works_in, works_flying, works_ready, works, errands_for, IsUnbound, PumpsKeepWork}
+use Rattle.sc_words.specs.paxos.PaxosDefinitions.{must}
+use Rattle.sc_node_table.specs.NodeDefinitions.{answered, Found, is_act, waits, turned_down, next_queued, from_backlog, from_acts, from_queues, found_for, offered, pumped_from, pumped, ReplicaState, Place, name_of, next, settled, may_offer, taken_at, under_way, is_idle, last_slot, listed}
+use Rattle.sc_live_steps.specs.orders.OrderDefinitions.{Work, work_by, works_in, works_flying, works_ready, works, errands_for, IsUnbound, PumpsKeepWork}
 use Rattle.sc_live_steps.proofs.OrderStepsProofs.NamedValues.{single}
 use Rattle.sc_live_steps.proofs.OrderStepsProofs.Errands.{errands-none, errands-all}
 use Rattle.sc_live_steps.proofs.PumpProofs.Pumping.{open_found as found_is}

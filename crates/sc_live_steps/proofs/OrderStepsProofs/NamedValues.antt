@@ -3,7 +3,7 @@ use Rattle.std.proofs.Common.{◌≡◌, Bool, true, false, List, [], ◌∷◌,
 use Rattle.sc_base.specs.Definitions.{Among, Each, same_draw}
 use Rattle.sc_node_table.specs.Values.{Draw}
 use Rattle.sc_base.proofs.Lemmas.{draw_is, same_name}
-use Rattle.sc_live_steps.specs.orders.Definitions.{Bond, Errand, Work, Here, free, IsNone, IsOnly}
+use Rattle.sc_live_steps.specs.orders.OrderDefinitions.{Bond, Errand, Work, Here, free, IsNone, IsOnly}
 pub use Rattle.sc_paxos_law.proofs.Lemmas.{Among-left as among-left, Among-right as among-right}
 
 -- two names are the same or not

@@ -1,7 +1,7 @@
 -- Rows in which a leader executes an order, and in which the group that is asked votes.
 use Rattle.std.proofs.Common.{◌≡◌, ℕ, Bool, true, false, List, [], ◌∷◌, Option, Some, inl, inr, refl, sym, ◌∙◌, ap, subst, cond}
 use Rattle.sc_node_table.specs.Values.{Draw}
-use Rattle.sc_live_steps.specs.orders.Definitions.{Turn, First, Lone, Next, is_watch, Unbound, Asking, Errand, Question, Reply, Work, Opens, Answers, Records, Ends, Here, free, Scene, Deal, Still, Ordered, Asks, Weighs, Replied, coordinator, asked_one, bound_by, leads_of, IsOrder, IsVote, IsAt, IsRow, Changed, Opened, Voted, BeginsDeal, Votes, Comes, StepsBy}
+use Rattle.sc_live_steps.specs.orders.OrderDefinitions.{Turn, First, Lone, Next, is_watch, Unbound, Asking, Errand, Question, Reply, Work, Opens, Answers, Records, Ends, Here, free, Scene, Deal, Still, Ordered, Asks, Weighs, Replied, coordinator, asked_one, bound_by, leads_of, IsOrder, IsVote, IsAt, IsRow, Changed, Opened, Voted, BeginsDeal, Votes, Comes, StepsBy}
 use Rattle.sc_live_steps.specs.orders.StageSteps.{Changes}
 use Rattle.sc_live_steps.proofs.OrderStepsProofs.NamedValues.{AreOne, cases-draw, having}
 use Rattle.sc_live_steps.proofs.OrderStepsProofs.PartyChanges.{other-mailed, other-same, leads-stay, deal-goes}

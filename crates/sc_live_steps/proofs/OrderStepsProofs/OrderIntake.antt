@@ -2,7 +2,7 @@
 use Rattle.std.proofs.Common.{◌≡◌, List, [], ◌∷◌, ◌++◌, inl, inr, refl, sym, ◌∙◌, ap, append-nil}
 use Rattle.sc_base.specs.Definitions.{Each}
 use Rattle.sc_node_table.specs.Values.{Draw}
-use Rattle.sc_live_steps.specs.orders.Definitions.{Unbound, Here, free, Ordered, parties_of, leads_of, Rests, IsTold, Stays, Begins, StepsBy, BeginsBy}
+use Rattle.sc_live_steps.specs.orders.OrderDefinitions.{Unbound, Here, free, Ordered, parties_of, leads_of, Rests, IsTold, Stays, Begins, StepsBy, BeginsBy}
 use Rattle.sc_live_steps.proofs.OrderStepsProofs.NamedValues.{cases-draw, having, here-is}
 use Rattle.sc_live_steps.proofs.OrderStepsProofs.PartyChanges.{other-same, own-idle, leads-stay}
 

@@ -3,8 +3,8 @@ use Rattle.std.proofs.Common.{◌≡◌, ℕ, [], ◌∷◌, ◌++◌, Some, Non
 use Rattle.sc_base.specs.Definitions.{Drawer, next_name}
 use Rattle.sc_node_table.specs.Values.{Draw, Command, Order, OrderLine, OrderRefusal, Refused, Told}
 use Rattle.sc_words.specs.declared.commands.orders.Order.TheVariants as An
-use Rattle.sc_node_table.specs.Definitions.{ordered_command, ordered_row, queued_or_refused, untaken, pumped, with_order_queued, ReplicaState, listed}
-use Rattle.sc_live_steps.specs.orders.Definitions.{Work, Changes, Opens, IsOrder, work_by, works_in, works_flying, works_ready, works, Works, MayFile, TablesOrder}
+use Rattle.sc_node_table.specs.NodeDefinitions.{ordered_command, ordered_row, queued_or_refused, untaken, pumped, with_order_queued, ReplicaState, listed}
+use Rattle.sc_live_steps.specs.orders.OrderDefinitions.{Work, Changes, Opens, IsOrder, work_by, works_in, works_flying, works_ready, works, Works, MayFile, TablesOrder}
 use Rattle.sc_live_steps.proofs.OrderStepsProofs.Errands.{errands-none}
 use Rattle.sc_live_steps.proofs.OrderStepsProofs.ErrandTables.{acts_none, calls_none, under_none, works_more}
 use Rattle.sc_live_steps.proofs.OrderStepsProofs.LoneWorkPumps.{pumps-keep}

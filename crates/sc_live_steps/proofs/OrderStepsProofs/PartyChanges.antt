@@ -2,8 +2,8 @@
 use Rattle.std.proofs.Common.{◌≡◌, ℕ, List, [], ◌∷◌, ◌++◌, Option, Some, None, ◌⊎◌, inl, inr, refl, sym, ◌∙◌, ap, subst, append-nil}
 use Rattle.sc_base.specs.Definitions.{Among, Each}
 use Rattle.sc_node_table.specs.Values.{Draw}
-use Rattle.sc_node_table.specs.Definitions.{listed}
-use Rattle.sc_live_steps.specs.orders.Definitions.{Turn, First, Lone, Next, Asking, Errand, Result, Work, Ends, Here, free, Scene, IsNone, IsOnly, AreApart, Deal, Leg, Mailed, Filed, heard, closing, IsRow, GoesOn}
+use Rattle.sc_node_table.specs.NodeDefinitions.{listed}
+use Rattle.sc_live_steps.specs.orders.OrderDefinitions.{Turn, First, Lone, Next, Asking, Errand, Result, Work, Ends, Here, free, Scene, IsNone, IsOnly, AreApart, Deal, Leg, Mailed, Filed, heard, closing, IsRow, GoesOn}
 use Rattle.sc_live_steps.proofs.OrderStepsProofs.NamedValues.{cases-draw, having, among-right, single, tagged, tokens}
 
 abbrev pub errands_of : Here → List Errand

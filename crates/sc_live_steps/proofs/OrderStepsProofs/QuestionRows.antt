@@ -2,7 +2,7 @@
 use Rattle.std.proofs.Common.{◌≡◌, ℕ, Bool, List, [], ◌∷◌, ◌++◌, Option, Some, None, inl, inr, refl, sym, ◌∙◌, ap, subst}
 use Rattle.sc_base.specs.Definitions.{Among}
 use Rattle.sc_node_table.specs.Values.{Draw}
-use Rattle.sc_live_steps.specs.orders.Definitions.{is_watch, Unbound, Errand, Question, Elsewhere, Reply, Result, Work, Answers, Records, Ends, Here, Scene, Deal, Leg, Mailed, Filed, Party, Stage, Still, Ordered, Asks, SentOn, Weighs, Replied, Recorded, Closes, ClosesBoth, coordinator, asked_one, heard_lead, bound_by, closing, party_of, parties_of, leads_of, IsAt, IsRow, PassesOn, AsksOn, Files, work_for, filed_there, Passes, AsksAgain, LastTakes, OneTakes, TwoTakes, IsTaken, OfQuestion, OfVote, OfOutcome, Comes, StepsBy}
+use Rattle.sc_live_steps.specs.orders.OrderDefinitions.{is_watch, Unbound, Errand, Question, Elsewhere, Reply, Result, Work, Answers, Records, Ends, Here, Scene, Deal, Leg, Mailed, Filed, Party, Stage, Still, Ordered, Asks, SentOn, Weighs, Replied, Recorded, Closes, ClosesBoth, coordinator, asked_one, heard_lead, bound_by, closing, party_of, parties_of, leads_of, IsAt, IsRow, PassesOn, AsksOn, Files, work_for, filed_there, Passes, AsksAgain, LastTakes, OneTakes, TwoTakes, IsTaken, OfQuestion, OfVote, OfOutcome, Comes, StepsBy}
 use Rattle.sc_live_steps.proofs.OrderStepsProofs.NamedValues.{AreOne, having, here-is, tokens, found}
 use Rattle.sc_live_steps.proofs.OrderStepsProofs.PartyChanges.{errands_of, other-mailed, other-same, own-taken, taken-there, lead-stays, leads-stay, deal-goes, no-errand, closing-errand, same_asking}
 use Rattle.sc_live_steps.proofs.OrderStepsProofs.OrderAndVoteRows.{first, second}

@@ -2,13 +2,13 @@
 use Rattle.std.proofs.Common.{◌≡◌, ℕ, Bool, true, false, cond, List, [], ◌∷◌, ◌++◌, Option, Some, None, sym, ◌∙◌, ap, append-nil}
 use Rattle.std.proofs.lemmas.List.{append_assoc}
 use Rattle.sc_node_table.specs.Values.{Draw, Offer, Watch, Command, Split, Begin, Prepared, RecordVote, GiveUp, Watched, RecordWatch, Core, Lock, Free, Coordinating, Promised, Watching, Effect, Link, Outcome, Abort, Past, Vote, Mail, MailBody, TxOutcome}
-use Rattle.sc_words.specs.commands.Definitions.{is_changed, decided_in, cast_in}
+use Rattle.sc_words.specs.commands.CommandDefinitions.{is_changed, decided_in, cast_in}
 use Rattle.sc_words.specs.declared.commands.votes.Past.TheVariants as Cast
 use Rattle.sc_words.specs.declared.commands.votes.Vote.TheVariants as Says
-use Rattle.sc_group_table.specs.machine.Definitions.{Group}
-use Rattle.sc_node_table.specs.Definitions.{sent, sent_all, asked_first, asked_on, vote_sent, watch_sent, aborted_to, aborted_watcher, given_up_by, vote_answered, released_to, watch_answered_by, went_on}
+use Rattle.sc_group_table.specs.machine.MachineDefinitions.{Group}
+use Rattle.sc_node_table.specs.NodeDefinitions.{sent, sent_all, asked_first, asked_on, vote_sent, watch_sent, aborted_to, aborted_watcher, given_up_by, vote_answered, released_to, watch_answered_by, went_on}
 use Rattle.sc_node_table.specs.declared.Before.{Before}
-use Rattle.sc_live_steps.specs.orders.Definitions.{errand_by, errand_for, errands_for}
+use Rattle.sc_live_steps.specs.orders.OrderDefinitions.{errand_by, errand_for, errands_for}
 use Rattle.sc_live_steps.proofs.OrderStepsProofs.Errands.{errands-push}
 
 module _ (name : Draw) where

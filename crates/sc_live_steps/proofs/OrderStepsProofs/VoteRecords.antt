@@ -3,15 +3,15 @@ use Rattle.std.proofs.Common.{◌≡◌, ℕ, Bool, true, false, cond, List, [],
 use Rattle.sc_base.specs.Definitions.{same_draw, least_of}
 use Rattle.sc_node_table.specs.Values.{Draw, Body, Watch, RecordVote, Finish, RecordWatch, Core, Lock, Free, Coordinating, Promised, Watching, Effect, Frozen, Heard, No, Outcome, Vote, TxOutcome}
 use Rattle.sc_base.proofs.Lemmas.{same_name}
-use Rattle.sc_words.specs.commands.Definitions.{is_changed, decided_in}
+use Rattle.sc_words.specs.commands.CommandDefinitions.{is_changed, decided_in}
 use Rattle.sc_words.specs.declared.commands.bodies.Body.TheVariants as At
 use Rattle.sc_words.specs.declared.commands.effects.Effect.TheVariants as Was
 use Rattle.sc_words.specs.declared.commands.votes.Past.TheVariants as Cast
 use Rattle.sc_words.specs.declared.commands.votes.Vote.TheVariants as Says
-use Rattle.sc_group_table.specs.machine.Definitions.{participant_after, settled_in, watch_ended, finished, Group, Plan, closing_plan, repart_plan, migrate_plan, merge_plan, split_plan, committed, heard_group, participant_answered, granted, vote_recorded, watch_recorded, released, asks_watcher}
-use Rattle.sc_node_table.specs.Definitions.{sent, asked_link, before_in, released_to, went_on}
+use Rattle.sc_group_table.specs.machine.MachineDefinitions.{participant_after, settled_in, watch_ended, finished, Group, Plan, closing_plan, repart_plan, migrate_plan, merge_plan, split_plan, committed, heard_group, participant_answered, granted, vote_recorded, watch_recorded, released, asks_watcher}
+use Rattle.sc_node_table.specs.NodeDefinitions.{sent, asked_link, before_in, released_to, went_on}
 use Rattle.sc_node_table.specs.declared.Before.{Before}
-use Rattle.sc_live_steps.specs.orders.Definitions.{Turn, First, Lone, Next, is_watch, Unbound, Asking, Bound, Errand, Question, Result, IsOnly, results, turn_of, bond_in, errand_for, errands_for, Leaves, RecordsLeave, WatchRecordsLeave, EndsLeave}
+use Rattle.sc_live_steps.specs.orders.OrderDefinitions.{Turn, First, Lone, Next, is_watch, Unbound, Asking, Bound, Errand, Question, Result, IsOnly, results, turn_of, bond_in, errand_for, errands_for, Leaves, RecordsLeave, WatchRecordsLeave, EndsLeave}
 use Rattle.sc_live_steps.proofs.OrderStepsProofs.Errands.{one-errand, errand-own, errand-other}
 use Rattle.sc_live_steps.proofs.OrderStepsProofs.Entries.{nothing, committed_leaves, aborted_leaves, heard_leaves}
 use Rattle.sc_live_steps.proofs.OrderStepsProofs.ErrandTables.{watch_is}

@@ -2,7 +2,7 @@
 use Rattle.std.proofs.Common.{◌≡◌, ℕ, Bool, List, [], ◌∷◌, ◌++◌, Option, inl, inr, refl, sym, ◌∙◌, ap, subst}
 use Rattle.sc_base.specs.Definitions.{Among}
 use Rattle.sc_node_table.specs.Values.{Draw}
-use Rattle.sc_live_steps.specs.orders.Definitions.{is_watch, Bond, Errand, Work, Answers, Records, Ends, Here, Scene, Deal, Filed, Party, Stage, Still, Ordered, Asks, SentOn, Weighs, Replied, Recorded, Closes, ClosesBoth, party_of, parties_of, IsAt, IsRow, Executes}
+use Rattle.sc_live_steps.specs.orders.OrderDefinitions.{is_watch, Bond, Errand, Work, Answers, Records, Ends, Here, Scene, Deal, Filed, Party, Stage, Still, Ordered, Asks, SentOn, Weighs, Replied, Recorded, Closes, ClosesBoth, party_of, parties_of, IsAt, IsRow, Executes}
 use Rattle.sc_live_steps.proofs.OrderStepsProofs.NamedValues.{AreOne, having, here-is, tokens, found}
 use Rattle.sc_live_steps.proofs.OrderStepsProofs.PartyChanges.{work_of, own-idle, no-work, closing-work}
 

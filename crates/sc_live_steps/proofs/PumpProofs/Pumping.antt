@@ -6,9 +6,9 @@ use Rattle.std.specs.List.{list_any}
 use Rattle.std.proofs.lemmas.Bool.{and_parts}
 use Rattle.sc_node_table.specs.Values.{Command, Mail, Must, Gap, Flight}
 use Rattle.sc_words.specs.declared.paxos.answers.Must.TheVariants.{Value, Free as Open}
-use Rattle.sc_words.specs.paxos.Definitions.{LeaderState, flight_at, must}
-use Rattle.sc_node_table.specs.Definitions.{Found, is_act, from_backlog, from_acts, from_queues, found_by, found_for, offered, pumped_from, pumped, ReplicaState, Place, either, flying, listed, next, settled, may_offer, first_set, taken_at, taken_from, open_slots, under_way, is_idle, last_slot, at_slot}
-use Rattle.sc_law_walks.proofs.Lemmas.{either_way}
+use Rattle.sc_words.specs.paxos.PaxosDefinitions.{LeaderState, flight_at, must}
+use Rattle.sc_node_table.specs.NodeDefinitions.{Found, is_act, from_backlog, from_acts, from_queues, found_by, found_for, offered, pumped_from, pumped, ReplicaState, Place, either, flying, listed, next, settled, may_offer, first_set, taken_at, taken_from, open_slots, under_way, is_idle, last_slot, at_slot}
+use Rattle.sc_law_walks.proofs.WalkLemmas.{either_way}
 use Rattle.sc_live_steps.specs.pump.Waiting.{HasNoneWaiting, PumpsLeaveNone}
 use Rattle.std.proofs.lemmas.List.{length_push}
 

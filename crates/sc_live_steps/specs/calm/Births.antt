@@ -1,7 +1,7 @@
 -- What a replica owes when it is created (at most how many deliveries it may still cause).
 use Rattle.std.specs.Prelude.{◌≡◌, ℕ, ◌+◌, ◌≤◌, ◌==◌, false, List, []}
 use Rattle.sc_node_table.specs.Values.{Draw, Base, Install}
-use Rattle.sc_node_table.specs.Definitions.{born_replica, made_by}
+use Rattle.sc_node_table.specs.NodeDefinitions.{born_replica, made_by}
 use Rattle.sc_live_steps.specs.calm.CalmPotential.{Ways, body_owes, idle_owes, place_owes}
 
 -- A replica created at its group's birth, by the scenario or by a split, owes only what its group owes where its first leader is another node.

@@ -2,7 +2,7 @@
 use Rattle.std.specs.Prelude.{ℕ, ◌+◌, ◌-◌, ◌*◌, Bool, true, false, List, sum_by, Option, Some, None}
 use Rattle.sc_node_table.specs.Values.{Draw, Command, Noop, Call, Join, Leave, Split, Begin, Prepared, RecordVote, GiveUp, Finish, Watched, RecordWatch, Route, AnswerBody, Mail, MailBody, Request, Answer, Prepare, Promise, Accept, Accepted, Nack, Learn, Ask, Install, TxPrepare, TxVote, TxOutcome, TxElsewhere, TxWatch, TxWatched, Told, Flight}
 use Rattle.sc_mail.specs.declared.bodies.AnswerBody.TheVariants as Says
-use Rattle.sc_node_table.specs.Definitions.{ReplicaState, Place}
+use Rattle.sc_node_table.specs.NodeDefinitions.{ReplicaState, Place}
 
 -- For each group and node, at most how many hints (each names whom a replica takes for the leader) lead from the group's replica there to its leader; a bound of these numbers;
 -- and for each transaction the group that its coordinator asks, and whether it asks that as the watcher.

@@ -3,8 +3,8 @@ use Rattle.std.specs.Prelude.{◌≡◌, ℕ, ◌+◌, ◌≤◌, true, List, �
 use Rattle.sc_base.specs.Definitions.{Each}
 use Rattle.sc_node_table.specs.Values.{Draw, OrderLine, Mail, Node, Client, Seat}
 use Rattle.sc_actor.specs.Definitions.{value, System, system}
-use Rattle.sc_live_orderly.specs.Definitions.{under_way}
-use Rattle.sc_meaning.specs.sound.Definitions.{Player, player_table, receiver_of}
+use Rattle.sc_live_orderly.specs.OrderlyDefinitions.{under_way}
+use Rattle.sc_meaning.specs.sound.SoundDefinitions.{Player, player_table, receiver_of}
 use Rattle.sc_live_steps.specs.calm.NodePotential.{node_owes}
 use Rattle.sc_live_steps.specs.calm.CalmPotential.{Ways, mail_owes}
 use Rattle.sc_live_steps.specs.calm.ClientReach.{Reach, client_owes}

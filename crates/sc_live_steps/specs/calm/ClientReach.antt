@@ -2,10 +2,10 @@
 use Rattle.std.specs.Prelude.{◌≡◌, ℕ, ◌+◌, ◌*◌, ◌≤◌, nat_lt, true, List, [], ◌∷◌, length, sum_by, Option, Some, None, if◌then◌else◌}
 use Rattle.sc_base.specs.Definitions.{Among, Each}
 use Rattle.sc_node_table.specs.Values.{Draw, AnswerBody, MailBody, Answer}
-use Rattle.sc_client_table.specs.lookup.Definitions.{KnownGroups, way_to}
+use Rattle.sc_client_table.specs.lookup.LookupDefinitions.{KnownGroups, way_to}
 use Rattle.sc_client_table.specs.declared.lookup.ways.Way.{Way}
 use Rattle.sc_mail.specs.declared.bodies.AnswerBody.TheVariants as Says
-use Rattle.sc_client_table.specs.table.Definitions.{Client as ClientState, ClientStep, started, waits_for, was_asked, got}
+use Rattle.sc_client_table.specs.table.TableDefinitions.{Client as ClientState, ClientStep, started, waits_for, was_asked, got}
 use Rattle.sc_live_steps.specs.calm.Clients.{requests_owe, AsksWithin, IsInTurn, unknown}
 use Rattle.sc_live_steps.specs.calm.HarmlessEntries.{AreBounded}
 use Rattle.sc_live_steps.specs.calm.CalmPotential.{Ways, answer_owes, mail_owes}

@@ -2,10 +2,10 @@
 use Rattle.std.specs.Prelude.{◌≡◌, ℕ, ◌+◌, ◌-◌, ◌*◌, ◌≤◌, true, List, [], ◌∷◌, length, sum_by, if◌then◌else◌, Option, Some, None, is_some, ◌⊎◌}
 use Rattle.sc_base.specs.Definitions.{Among, Arc}
 use Rattle.sc_node_table.specs.Values.{Draw, Reply, Link, Route, Answer}
-use Rattle.sc_client_table.specs.lookup.Definitions.{KnownGroups, way_to, target_in, new_way}
+use Rattle.sc_client_table.specs.lookup.LookupDefinitions.{KnownGroups, way_to, target_in, new_way}
 use Rattle.sc_client_table.specs.declared.lookup.ways.Way.{Way}
 use Rattle.sc_mail.specs.declared.bodies.AnswerBody.TheVariants as Says
-use Rattle.sc_client_table.specs.table.Definitions.{Client as ClientState, ClientStep, started, waits_for, was_asked, got}
+use Rattle.sc_client_table.specs.table.TableDefinitions.{Client as ClientState, ClientStep, started, waits_for, was_asked, got}
 use Rattle.sc_live_steps.specs.calm.HarmlessEntries.{AreBounded}
 use Rattle.sc_live_steps.specs.calm.CalmPotential.{Ways, answer_owes, mail_owes}
 

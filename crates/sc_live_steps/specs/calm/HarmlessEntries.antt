@@ -2,13 +2,13 @@
 use Rattle.std.specs.Prelude.{◌≡◌, ℕ, ◌≤◌, true, false, List, [], ◌∷◌, length, None, Some, ◌⊎◌}
 use Rattle.sc_base.specs.Definitions.{Each, is_member}
 use Rattle.sc_node_table.specs.Values.{Ballot, Draw, Op, Command, Noop, Call, Join, Leave, Split, Begin, Prepared, RecordVote, GiveUp, Finish, Watched, RecordWatch, Core, Free, Route, Past, Accepted, Flight}
-use Rattle.sc_words.specs.ideal.Definitions.{key_of, holds_key}
+use Rattle.sc_words.specs.ideal.IdealDefinitions.{key_of, holds_key}
 use Rattle.sc_words.specs.declared.commands.votes.Past.TheVariants as Cast
-use Rattle.sc_words.specs.commands.Definitions.{is_alone, is_changed}
-use Rattle.sc_group_table.specs.machine.Definitions.{applied}
-use Rattle.sc_words.specs.paxos.Definitions.{without_flight}
-use Rattle.sc_node_table.specs.Definitions.{admits_requests, entered, executed_one, next_ready, ReplicaState, Place, next, members, without_slot, before_of}
-use Rattle.sc_law_walks.specs.Definitions.{IfThere}
+use Rattle.sc_words.specs.commands.CommandDefinitions.{is_alone, is_changed}
+use Rattle.sc_group_table.specs.machine.MachineDefinitions.{applied}
+use Rattle.sc_words.specs.paxos.PaxosDefinitions.{without_flight}
+use Rattle.sc_node_table.specs.NodeDefinitions.{admits_requests, entered, executed_one, next_ready, ReplicaState, Place, next, members, without_slot, before_of}
+use Rattle.sc_law_walks.specs.WalkDefinitions.{IfThere}
 use Rattle.sc_live_steps.specs.calm.PotentialLaws.{newcomers, IsCounting, LeadsOn, StopsAfter, MayPump, Lowers, readied_at, ExecutesFreely}
 use Rattle.sc_live_steps.specs.calm.CalmPotential.{Ways}
 

@@ -1,7 +1,7 @@
 -- What a replica owes where another replica of its group leads or is gone: the same without what its group owes.
 use Rattle.std.specs.Prelude.{◌≡◌, ℕ, ◌+◌, ◌≤◌, true, false, List, [], sum_by, Some}
 use Rattle.sc_node_table.specs.Values.{Draw, Command, Route, MailBody, Learn}
-use Rattle.sc_node_table.specs.Definitions.{entered, executed_one, NodeState, on_mail, ReplicaState, Place, name_of, next, mailed}
+use Rattle.sc_node_table.specs.NodeDefinitions.{entered, executed_one, NodeState, on_mail, ReplicaState, Place, name_of, next, mailed}
 use Rattle.sc_live_steps.specs.calm.NodePotential.{IsTaken, after_mail}
 use Rattle.sc_live_steps.specs.calm.CalmPotential.{Ways, body_owes, mail_owes, replica_owes}
 use Rattle.sc_live_steps.specs.calm.PartyPotential.{Elsewhere, party_owes, party_turn_owes}

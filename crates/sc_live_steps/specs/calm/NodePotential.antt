@@ -1,7 +1,7 @@
 -- What a node owes, and that its steps change it as they change what the replica of the mail's group owes.
 use Rattle.std.specs.Prelude.{◌≡◌, ℕ, ◌+◌, ◌*◌, ◌≤◌, true, false, List, [], sum_by, Some, None}
 use Rattle.sc_node_table.specs.Values.{Draw, Base, OrderLine, Mail, MailBody, Request, Answer, Prepare, Promise, Accept, Accepted, Nack, Learn, Ask, Install, TxPrepare, TxVote, TxOutcome, TxElsewhere, TxWatch, TxWatched, Told}
-use Rattle.sc_node_table.specs.Definitions.{NodeState, replica_of, group_of_mail, may_come, on_mail, group_of_order, on_order, ordered_row, ReplicaState, Place, mailed, made_by}
+use Rattle.sc_node_table.specs.NodeDefinitions.{NodeState, replica_of, group_of_mail, may_come, on_mail, group_of_order, on_order, ordered_row, ReplicaState, Place, mailed, made_by}
 use Rattle.sc_live_steps.specs.calm.PotentialLaws.{Lowers, MayPump}
 use Rattle.sc_live_steps.specs.calm.CalmPotential.{Ways, body_owes, mail_owes, replica_owes, idle_owes}
 

@@ -2,7 +2,7 @@
 use Rattle.std.specs.Prelude.{◌≡◌, ℕ, ◌+◌, ◌*◌, ◌≤◌, Bool, true, false, List, [], ◌∷◌, sum_by, Option, Some, None, ◌⊎◌}
 use Rattle.sc_base.specs.Definitions.{Each}
 use Rattle.sc_node_table.specs.Values.{Draw, OrderLine, Mail, MailBody}
-use Rattle.sc_node_table.specs.Definitions.{NodeState, replica_of, on_mail, group_of_order, on_order, ordered_row, ReplicaState, name_of}
+use Rattle.sc_node_table.specs.NodeDefinitions.{NodeState, replica_of, on_mail, group_of_order, on_order, ordered_row, ReplicaState, name_of}
 use Rattle.sc_live_steps.specs.calm.PotentialLaws.{Lowers, MayPump}
 use Rattle.sc_live_steps.specs.calm.NodePotential.{node_owes, group_owes, IsTaken, after_mail}
 use Rattle.sc_live_steps.specs.calm.CalmPotential.{Ways, body_owes, mail_owes, election}

@@ -2,11 +2,11 @@
 use Rattle.std.specs.Prelude.{◌≡◌, ℕ, ◌+◌, ◌*◌, ◌≤◌, not, true, false, List, [], length, filter, sum_by, Option, None, Some}
 use Rattle.sc_base.specs.Definitions.{Each, Drawer, is_member}
 use Rattle.sc_node_table.specs.Values.{Command, Ballot, Draw, Op, Offer, Watch, Body, Base, Coordinating, Heard, OrderLine, Outcome, Past, Vote, MailBody, Request, Prepare, Promise, Accept, Accepted, Nack, Learn, Install, TxElsewhere, TxPrepare, TxVote, TxOutcome, TxWatch, TxWatched, Noop, Call, Join, Leave, Split, Begin, Prepared, RecordVote, GiveUp, Finish, Watched, RecordWatch, Flight}
-use Rattle.sc_node_table.specs.Definitions.{question, ordered_row, mailed, at_slot, with_slot, without_slot, before_of, spoken, entered, announced, executed_one, has_room, executed, pumped, ReplicaState, Place, name_of, next, members}
+use Rattle.sc_node_table.specs.NodeDefinitions.{question, ordered_row, mailed, at_slot, with_slot, without_slot, before_of, spoken, entered, announced, executed_one, has_room, executed, pumped, ReplicaState, Place, name_of, next, members}
 use Rattle.sc_words.specs.declared.paxos.answers.Must.TheVariants.{Free as Open}
-use Rattle.sc_words.specs.paxos.Definitions.{must, flight_at, without_flight, without_flight_at}
-use Rattle.sc_group_table.specs.machine.Definitions.{applied}
-use Rattle.sc_law_walks.specs.Definitions.{GoesOn}
+use Rattle.sc_words.specs.paxos.PaxosDefinitions.{must, flight_at, without_flight, without_flight_at}
+use Rattle.sc_group_table.specs.machine.MachineDefinitions.{applied}
+use Rattle.sc_law_walks.specs.WalkDefinitions.{GoesOn}
 use Rattle.sc_live_steps.specs.calm.CalmPotential.{Ways, offered_owes, asked_owes, body_owes, mail_owes, place_owes}
 
 -- No report that the leader has counted says what it must offer at a slot that it has not executed.

@@ -2,9 +2,9 @@
 use Rattle.std.specs.Prelude.{◌≡◌, ℕ, ◌<◌, ◌≤◌, Bool, true, false, List, [], length, Option, Some, None, ◌⊎◌}
 use Rattle.sc_base.specs.Definitions.{Among, Each, end_of, is_member}
 use Rattle.sc_node_table.specs.Values.{Draw, Base, Free, Route}
-use Rattle.sc_words.specs.paxos.Definitions.{below}
-use Rattle.sc_client_table.specs.table.Definitions.{Client as ClientState, born_client}
-use Rattle.sc_node_table.specs.Definitions.{ReplicaState, next, members, settled, born_replica}
+use Rattle.sc_words.specs.paxos.PaxosDefinitions.{below}
+use Rattle.sc_client_table.specs.table.TableDefinitions.{Client as ClientState, born_client}
+use Rattle.sc_node_table.specs.NodeDefinitions.{ReplicaState, next, members, settled, born_replica}
 use Rattle.sc_live_steps.specs.calm.PotentialLaws.{IsUnbound}
 
 -- The replica of each group at each node, if the node has one.

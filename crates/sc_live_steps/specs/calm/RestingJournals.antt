@@ -3,8 +3,8 @@ use Rattle.std.specs.Prelude.{◌≡◌, ℕ, ◌+◌, ◌*◌, ◌≤◌, nat_l
 use Rattle.sc_base.specs.Definitions.{Each}
 use Rattle.sc_node_table.specs.Values.{OrderLine, Node, Client, Seat, Line}
 use Rattle.sc_actor.specs.Definitions.{value, are_apart, IsLawful, is_quiet, unsettled}
-use Rattle.sc_live_orderly.specs.Definitions.{HasRoom, deliveries, AreSpaced, Nothing, AreInTime, orders_given}
-use Rattle.sc_meaning.specs.sound.Definitions.{Player, player_table}
+use Rattle.sc_live_orderly.specs.OrderlyDefinitions.{HasRoom, deliveries, AreSpaced, Nothing, AreInTime, orders_given}
+use Rattle.sc_meaning.specs.sound.SoundDefinitions.{Player, player_table}
 use Rattle.sc_live_steps.specs.calm.ChartedPotential.{players, Chart, run_owes}
 use Rattle.sc_live_steps.specs.calm.RowPremises.{KeepCalm}
 use Rattle.sc_live_steps.specs.calm.QuietPlayers.{IsAtRest}

@@ -4,10 +4,10 @@ use Rattle.sc_base.specs.Definitions.{Each}
 use Rattle.sc_node_table.specs.Values.{Draw, Command, Base, OrderLine, Mail, MailBody, Request, Answer, Prepare, Promise, Accept, Accepted, Nack, Learn, Ask, Install, TxPrepare, TxVote, TxOutcome, TxElsewhere, TxWatch, TxWatched, Told as ToldMail, Node, Client, Seat, Event, Deliver, Tick, Go, Crash, Drop, Again, Row, Line, Flight}
 use Rattle.sc_actor.specs.declared.rows.Event.TheVariants.{Told}
 use Rattle.sc_actor.specs.Definitions.{mails, numbered, value, System, are_apart, row_of, IsLawful, is_quiet}
-use Rattle.sc_live_orderly.specs.Definitions.{deliveries, under_way, AreInTime, IsMeasure}
-use Rattle.sc_node_table.specs.Definitions.{NodeState, replica_of, group_of_mail, may_come, group_of_order, ReplicaState, name_of, next}
-use Rattle.sc_law_walks.specs.Definitions.{GoesOn}
-use Rattle.sc_meaning.specs.sound.Definitions.{Player, player_table}
+use Rattle.sc_live_orderly.specs.OrderlyDefinitions.{deliveries, under_way, AreInTime, IsMeasure}
+use Rattle.sc_node_table.specs.NodeDefinitions.{NodeState, replica_of, group_of_mail, may_come, group_of_order, ReplicaState, name_of, next}
+use Rattle.sc_law_walks.specs.WalkDefinitions.{GoesOn}
+use Rattle.sc_meaning.specs.sound.SoundDefinitions.{Player, player_table}
 use Rattle.sc_live_steps.specs.calm.ChartedPotential.{players, Chart, run_owes, MayFollow}
 use Rattle.sc_live_steps.specs.calm.HarmlessEntries.{AreBounded, ServesAll, FliesAlone}
 use Rattle.sc_live_steps.specs.calm.PotentialLaws.{Lowers, MayPump, Follows, Points, AsksAs}

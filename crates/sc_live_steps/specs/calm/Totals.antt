@@ -3,8 +3,8 @@ use Rattle.std.specs.Prelude.{◌≡◌, ℕ, ◌+◌, ◌==◌, ◌&&◌, ◌||
 use Rattle.std.specs.List.{list_any}
 use Rattle.sc_node_table.specs.Values.{Draw, OrderLine, Mail, Node, Client, Seat, Event, Row}
 use Rattle.sc_actor.specs.Definitions.{value, are_apart, row_of}
-use Rattle.sc_node_table.specs.Definitions.{NodeState, replica_of, ReplicaState}
-use Rattle.sc_meaning.specs.sound.Definitions.{Player, player_table}
+use Rattle.sc_node_table.specs.NodeDefinitions.{NodeState, replica_of, ReplicaState}
+use Rattle.sc_meaning.specs.sound.SoundDefinitions.{Player, player_table}
 use Rattle.sc_live_steps.specs.calm.NodePotential.{node_owes}
 use Rattle.sc_live_steps.specs.calm.CalmPotential.{Ways, election}
 use Rattle.sc_live_steps.specs.calm.PartyPotential.{Elsewhere, party_owes}

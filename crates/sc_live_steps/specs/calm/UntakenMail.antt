@@ -1,7 +1,7 @@
 -- What a node and all groups owe after mail that no replica of the node takes.
 use Rattle.std.specs.Prelude.{◌≡◌, ℕ, ◌+◌, ◌≤◌, true, false, List, Some, None}
 use Rattle.sc_node_table.specs.Values.{Draw, Base, MailBody, Install}
-use Rattle.sc_node_table.specs.Definitions.{NodeState, replica_of, group_of_mail, may_come, on_mail, made_by}
+use Rattle.sc_node_table.specs.NodeDefinitions.{NodeState, replica_of, group_of_mail, may_come, on_mail, made_by}
 use Rattle.sc_live_steps.specs.calm.NodePotential.{IsDelivered, MayMiss}
 use Rattle.sc_live_steps.specs.calm.CalmPotential.{Ways, body_owes}
 use Rattle.sc_live_steps.specs.calm.PartyPotential.{Elsewhere, party_owes, party_turn_owes, StandsOnce}

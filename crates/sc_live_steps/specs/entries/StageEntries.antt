@@ -2,11 +2,11 @@
 use Rattle.std.specs.Prelude.{◌≡◌, ℕ, ◌≤◌, true, [], length, Some, None, ◌⊎◌}
 use Rattle.sc_node_table.specs.Values.{Draw, Command, Noop, Call, Join, Leave, Split, Begin, Prepared, RecordVote, GiveUp, Finish, Watched, RecordWatch, Free, Flight}
 use Rattle.sc_words.specs.declared.commands.votes.Past.TheVariants as Cast
-use Rattle.sc_group_table.specs.machine.Definitions.{applied}
+use Rattle.sc_group_table.specs.machine.MachineDefinitions.{applied}
 use Rattle.sc_base.specs.Definitions.{is_member}
-use Rattle.sc_node_table.specs.Definitions.{ReplicaState, members, before_of}
-use Rattle.sc_live_steps.specs.calm.Definitions.{MayCount, newcomers, MayPump, AsksAs, Ways}
-use Rattle.sc_live_steps.specs.orders.Definitions.{Turn, is_watch, Asking, bond_of, FliesLone}
+use Rattle.sc_node_table.specs.NodeDefinitions.{ReplicaState, members, before_of}
+use Rattle.sc_live_steps.specs.calm.CalmDefinitions.{MayCount, newcomers, MayPump, AsksAs, Ways}
+use Rattle.sc_live_steps.specs.orders.OrderDefinitions.{Turn, is_watch, Asking, bond_of, FliesLone}
 
 -- A coordinator asks what its bond says; so, where the ways of a chart name the same group and turn, what it asks owes no more than they say.
 abbrev pub BondsAsk : Type 0

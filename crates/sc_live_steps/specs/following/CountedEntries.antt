@@ -2,8 +2,8 @@
 use Rattle.std.specs.Prelude.{◌≡◌, ℕ, ◌+◌, true, false, List, [], ◌++◌, length, Option, Some, None, ◌⊎◌}
 use Rattle.sc_node_table.specs.Values.{Command, Route}
 use Rattle.sc_base.specs.Definitions.{IsRoster, is_member}
-use Rattle.sc_node_table.specs.Definitions.{entered, executed_one, ReplicaState, Place, name_of, next, members, slots_ahead, without_slot}
-use Rattle.sc_words.specs.paxos.Definitions.{new_leader, without_flight_at}
+use Rattle.sc_node_table.specs.NodeDefinitions.{entered, executed_one, ReplicaState, Place, name_of, next, members, slots_ahead, without_slot}
+use Rattle.sc_words.specs.paxos.PaxosDefinitions.{new_leader, without_flight_at}
 use Rattle.sc_live_steps.specs.following.MailUnderWay.{Course, Sets, members_at}
 use Rattle.sc_live_steps.specs.following.PaxosTables.{marks_for}
 use Rattle.sc_live_steps.specs.following.Offers.{MayOffer}

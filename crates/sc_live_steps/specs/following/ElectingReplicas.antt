@@ -2,8 +2,8 @@
 use Rattle.std.specs.Prelude.{◌≡◌, ℕ, suc, ◌+◌, ◌<◌, ◌≤◌, ◌==◌, true, false, [], length, if◌then◌else◌, Some, None, is_some}
 use Rattle.sc_base.specs.Definitions.{most_nodes, IsRoster, is_member, least_of}
 use Rattle.sc_node_table.specs.Values.{Command, Base, Learn}
-use Rattle.sc_words.specs.paxos.Definitions.{below}
-use Rattle.sc_node_table.specs.Definitions.{entered, ReplicaState, Place, name_of, next, members, first_ballot, born_replica, last_slot, mailed, slots_ahead}
+use Rattle.sc_words.specs.paxos.PaxosDefinitions.{below}
+use Rattle.sc_node_table.specs.NodeDefinitions.{entered, ReplicaState, Place, name_of, next, members, first_ballot, born_replica, last_slot, mailed, slots_ahead}
 use Rattle.sc_live_steps.specs.following.MailUnderWay.{Mark, Teaches, Progress, Sets, members_at}
 use Rattle.sc_live_steps.specs.following.LeaderTables.{voters_of, IsLeadOf}
 use Rattle.sc_live_steps.specs.following.Offers.{AreAt}

@@ -2,9 +2,9 @@
 use Rattle.std.specs.Prelude.{◌≡◌, ℕ, suc, ◌+◌, ◌<◌, ◌≤◌, true, false, List, [], ◌∷◌, ◌++◌, Some, None, is_some, ◌⊎◌}
 use Rattle.sc_base.specs.Definitions.{Among, Each, is_member}
 use Rattle.sc_node_table.specs.Values.{Command, Route, Flight}
-use Rattle.sc_node_table.specs.Definitions.{executed_one, executed, next_ready, ReplicaState, Place, name_of, next, members, at_slot}
-use Rattle.sc_words.specs.paxos.Definitions.{flight_at}
-use Rattle.sc_law_walks.specs.Definitions.{IfThere}
+use Rattle.sc_node_table.specs.NodeDefinitions.{executed_one, executed, next_ready, ReplicaState, Place, name_of, next, members, at_slot}
+use Rattle.sc_words.specs.paxos.PaxosDefinitions.{flight_at}
+use Rattle.sc_law_walks.specs.WalkDefinitions.{IfThere}
 use Rattle.sc_live_steps.specs.following.MailUnderWay.{Mark, Asks, Course, Sets, members_at}
 use Rattle.sc_live_steps.specs.following.CountedEntries.{IsLed, IsNext}
 use Rattle.sc_live_steps.specs.following.PaxosTables.{marks_for}

@@ -2,9 +2,9 @@
 use Rattle.std.specs.Prelude.{◌≡◌, ℕ, ◌≤◌, Bool, true, List, [], ◌∷◌, Some, None, is_some, ◌⊎◌}
 use Rattle.sc_base.specs.Definitions.{Drawer, IsRoster, is_member}
 use Rattle.sc_node_table.specs.Values.{Ballot, Command, OrderLine, MailBody, Promise, Accepted, Flight}
-use Rattle.sc_words.specs.paxos.Definitions.{flight_at}
+use Rattle.sc_words.specs.paxos.PaxosDefinitions.{flight_at}
 use Rattle.sc_node_table.specs.declared.ReplicaInput.TheVariants as Given
-use Rattle.sc_node_table.specs.Definitions.{is_act, ReplicaState, name_of, next, taken_at, mailed, stepped, at_slot}
+use Rattle.sc_node_table.specs.NodeDefinitions.{is_act, ReplicaState, name_of, next, taken_at, mailed, stepped, at_slot}
 use Rattle.sc_live_steps.specs.following.MailUnderWay.{Course, Progress, Sets}
 use Rattle.sc_live_steps.specs.following.CountedEntries.{IsLed}
 use Rattle.sc_live_steps.specs.following.LeaderTables.{IsLeadOf, IsAside, DecidesNext, ActsAlone}

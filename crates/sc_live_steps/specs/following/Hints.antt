@@ -2,8 +2,8 @@
 use Rattle.std.specs.Prelude.{◌≡◌, ℕ, suc, ◌+◌, ◌<◌, ◌≤◌, true, false, List, [], ◌∷◌, if◌then◌else◌, Option, Some, ◌⊎◌}
 use Rattle.sc_node_table.specs.Values.{Ballot}
 use Rattle.sc_base.specs.Definitions.{IsRoster, is_member, least_of}
-use Rattle.sc_node_table.specs.Definitions.{is_among}
-use Rattle.sc_words.specs.paxos.Definitions.{below}
+use Rattle.sc_node_table.specs.NodeDefinitions.{is_among}
+use Rattle.sc_words.specs.paxos.PaxosDefinitions.{below}
 use Rattle.sc_live_steps.specs.following.MailUnderWay.{Mark, Asks, Votes, Teaches, Installs, Prepares, Promises, promise_by, Course, Progress, Sets, members_at, IsOpen, IsFollowing}
 use Rattle.sc_live_steps.specs.following.LeaderRows.{IsRow, IsIdle, Takes, Leads, Elects, begun}
 

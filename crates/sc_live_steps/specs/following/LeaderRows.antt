@@ -2,8 +2,8 @@
 use Rattle.std.specs.Prelude.{◌≡◌, ℕ, zero, suc, ◌+◌, ◌<◌, ◌≤◌, ◌==◌, ◌&&◌, true, false, List, [], ◌∷◌, ◌++◌, Option, Some, None, ◌⊎◌, if◌then◌else◌}
 use Rattle.sc_base.specs.Definitions.{Among, Each, IsRoster, is_member, least_of}
 use Rattle.sc_node_table.specs.Values.{Ballot}
-use Rattle.sc_node_table.specs.Definitions.{listed, slots_ahead}
-use Rattle.sc_words.specs.paxos.Definitions.{below}
+use Rattle.sc_node_table.specs.NodeDefinitions.{listed, slots_ahead}
+use Rattle.sc_words.specs.paxos.PaxosDefinitions.{below}
 use Rattle.sc_live_steps.specs.following.MailUnderWay.{Mark, Asks, Votes, Teaches, Installs, Prepares, Promises, next_by, promise_by, Course, Progress, Sets, members_at, IsOpen, IsInFlight, IsFollowing}
 
 -- A row of a node that takes a mail of the group, or none: the other nodes stay where they are, and what the row sends to each node is appended to its mail.

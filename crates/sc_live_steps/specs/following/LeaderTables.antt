@@ -3,10 +3,10 @@ use Rattle.std.specs.Prelude.{◌≡◌, ℕ, suc, ◌+◌, ◌<◌, ◌≤◌, 
 use Rattle.std.specs.Option.{option_map}
 use Rattle.sc_base.specs.Definitions.{Drawer, votes_of, is_majority, IsRoster, is_member}
 use Rattle.sc_node_table.specs.Values.{Ballot, Command, OrderLine, MailBody, Request, Answer, Prepare, Promise, Accept, Accepted, Nack, Learn, Ask, Install, TxPrepare, TxVote, TxOutcome, TxElsewhere, TxWatch, TxWatched, Told, Chosen, Report}
-use Rattle.sc_words.specs.paxos.Definitions.{LeaderState, flight_at, kept_voters, counted}
+use Rattle.sc_words.specs.paxos.PaxosDefinitions.{LeaderState, flight_at, kept_voters, counted}
 use Rattle.sc_node_table.specs.declared.ReplicaInput.TheVariants as Given
-use Rattle.sc_node_table.specs.Definitions.{executed_one, is_act, ReplicaState, Place, name_of, next, flying, mailed, stepped, at_slot, with_slot}
-use Rattle.sc_law_walks.specs.Definitions.{GoesOn}
+use Rattle.sc_node_table.specs.NodeDefinitions.{executed_one, is_act, ReplicaState, Place, name_of, next, flying, mailed, stepped, at_slot, with_slot}
+use Rattle.sc_law_walks.specs.WalkDefinitions.{GoesOn}
 use Rattle.sc_live_steps.specs.following.MailUnderWay.{Mark, Asks, Votes, Promises, Course, Progress, Sets, members_at}
 use Rattle.sc_live_steps.specs.following.CountedEntries.{IsLed, IsNext}
 use Rattle.sc_live_steps.specs.following.ExecutedEntries.{AreNext}

@@ -2,8 +2,8 @@
 use Rattle.std.specs.Prelude.{◌≡◌, ℕ, suc, ◌+◌, ◌<◌, ◌≤◌, Bool, true, false, List, [], ◌∷◌, ◌++◌, if◌then◌else◌, Option, Some, None, ◌⊎◌}
 use Rattle.sc_base.specs.Definitions.{Among, Each, same_draw, is_majority, is_member, least_of}
 use Rattle.sc_node_table.specs.Values.{Ballot, Draw, Mail, MailBody, Request, Answer, Prepare, Promise, Accept, Accepted, Nack, Learn, Ask, Install, TxPrepare, TxVote, TxOutcome, TxElsewhere, TxWatch, TxWatched, Told}
-use Rattle.sc_node_table.specs.Definitions.{listed, slots_ahead}
-use Rattle.sc_words.specs.paxos.Definitions.{IsAtLeast}
+use Rattle.sc_node_table.specs.NodeDefinitions.{listed, slots_ahead}
+use Rattle.sc_words.specs.paxos.PaxosDefinitions.{IsAtLeast}
 
 -- What a mail is to one group, without its contents: a request to accept a command at a slot in a ballot (phase 2a), a node's vote for that (2b),
 -- an entry to be learnt at a slot, a state after the entry at a slot, a request to promise a ballot (1a), or a node's promise of it (1b).

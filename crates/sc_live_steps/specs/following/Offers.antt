@@ -2,7 +2,7 @@
 use Rattle.std.specs.Prelude.{◌≡◌, ℕ, ◌+◌, ◌<◌, ◌≤◌, true, List, [], ◌∷◌, ◌++◌, length, None, is_some}
 use Rattle.sc_base.specs.Definitions.{Among, Each, is_member}
 use Rattle.sc_node_table.specs.Values.{Command, Flight}
-use Rattle.sc_node_table.specs.Definitions.{pumped, ReplicaState, Place, name_of, next, taken_at}
+use Rattle.sc_node_table.specs.NodeDefinitions.{pumped, ReplicaState, Place, name_of, next, taken_at}
 use Rattle.sc_live_steps.specs.following.MailUnderWay.{Mark, Asks, Course, Sets}
 use Rattle.sc_live_steps.specs.following.PaxosTables.{marks_for}
 use Rattle.sc_live_steps.specs.following.LeaderRows.{IsOffer}

@@ -2,8 +2,8 @@
 use Rattle.std.specs.Prelude.{◌≡◌, ℕ, suc, ◌<◌, ◌≤◌, true, false, List, [], ◌∷◌, Option, Some, ◌⊎◌}
 use Rattle.sc_base.specs.Definitions.{Each}
 use Rattle.sc_node_table.specs.Values.{Ballot}
-use Rattle.sc_node_table.specs.Definitions.{ReplicaState, Place}
-use Rattle.sc_words.specs.paxos.Definitions.{IsAtLeast}
+use Rattle.sc_node_table.specs.NodeDefinitions.{ReplicaState, Place}
+use Rattle.sc_words.specs.paxos.PaxosDefinitions.{IsAtLeast}
 use Rattle.sc_live_steps.specs.following.PrepareSlots.{IsNoPrepare}
 use Rattle.sc_live_steps.specs.following.MailUnderWay.{Mark, Asks, Votes, Teaches, Installs, Prepares, Promises, Course, Progress, Sets, members_at, IsFollowing}
 use Rattle.sc_live_steps.specs.following.LeaderTables.{IsLeadOf, progress_by, LeadsInto}

@@ -2,11 +2,11 @@
 use Rattle.std.specs.Prelude.{◌≡◌, ℕ, suc, ◌+◌, ◌-◌, ◌^◌, ◌<◌, ◌≤◌, ◌==◌, true, false, List, [], ◌∷◌, ◌++◌, length, filter, if◌then◌else◌, Some, None, ◌⊎◌}
 use Rattle.sc_node_table.specs.Values.{Ballot, Draw, Command, Base, Route, Mail, Prepare, Accept, Learn, Install}
 use Rattle.sc_base.specs.Definitions.{IsRoster, is_member, least_of}
-use Rattle.sc_node_table.specs.Definitions.{open_nodes, entered, learnt_to, welcomed, is_among, ReplicaState, Place, name_of, next, members, first_ballot, last_slot, mailed, made_by}
-use Rattle.sc_words.specs.paxos.Definitions.{new_leader}
+use Rattle.sc_node_table.specs.NodeDefinitions.{open_nodes, entered, learnt_to, welcomed, is_among, ReplicaState, Place, name_of, next, members, first_ballot, last_slot, mailed, made_by}
+use Rattle.sc_words.specs.paxos.PaxosDefinitions.{new_leader}
 use Rattle.sc_live_steps.specs.following.MailUnderWay.{Mark, Asks, Teaches, Installs, Prepares, marks_of, next_by, promise_by, IsFit, Course, Sets, members_at}
 use Rattle.sc_live_steps.specs.following.LeaderRows.{answered, reported_of}
-use Rattle.sc_law_walks.specs.Definitions.{GoesOn}
+use Rattle.sc_law_walks.specs.WalkDefinitions.{GoesOn}
 
 -- The marks, for a group, of the mails to one node.
 abbrev pub marks_for : Draw → ℕ → List Mail → List Mark

@@ -4,7 +4,7 @@ use Rattle.std.specs.Option.{option_map}
 use Rattle.sc_base.specs.Definitions.{Each, Drawer, IsRoster}
 use Rattle.sc_node_table.specs.Values.{Ballot, Draw, Command, OrderLine, Mail, MailBody, Request, Answer, Prepare, Promise, Accept, Accepted, Nack, Learn, Ask, Install, TxPrepare, TxVote, TxOutcome, TxElsewhere, TxWatch, TxWatched, Told, Report}
 use Rattle.sc_node_table.specs.declared.ReplicaInput.TheVariants as Given
-use Rattle.sc_node_table.specs.Definitions.{entered, ReplicaState, listed, name_of, next, last_slot, mailed, stepped}
+use Rattle.sc_node_table.specs.NodeDefinitions.{entered, ReplicaState, listed, name_of, next, last_slot, mailed, stepped}
 use Rattle.sc_live_steps.specs.following.MailUnderWay.{Mark, Asks, Votes, Teaches, Installs, Prepares, Promises, mark_of, next_by, Progress, Sets, IsFollowing}
 use Rattle.sc_live_steps.specs.following.LeaderRows.{IsIdle, Takes, Leads, Elects}
 use Rattle.sc_live_steps.specs.following.LeaderTables.{IsLeadOf, IsAside, DecidesNext}

@@ -2,8 +2,8 @@
 use Rattle.std.specs.Prelude.{◌≡◌, ℕ, suc, ◌+◌, ◌-◌, ◌^◌, ◌<◌, ◌≤◌, false, List, [], ◌∷◌, length, Option, None, is_some, true, ◌⊎◌}
 use Rattle.sc_node_table.specs.Values.{Ballot, Draw, Command, Base, Prepare, Accept, Learn, Install}
 use Rattle.sc_base.specs.Definitions.{is_member}
-use Rattle.sc_node_table.specs.Definitions.{entered, ReplicaState, Place, name_of, next, members, last_slot, mailed, made_by}
-use Rattle.sc_law_walks.specs.Definitions.{GoesOn}
+use Rattle.sc_node_table.specs.NodeDefinitions.{entered, ReplicaState, Place, name_of, next, members, last_slot, mailed, made_by}
+use Rattle.sc_law_walks.specs.WalkDefinitions.{GoesOn}
 use Rattle.sc_live_steps.specs.following.MailUnderWay.{Mark, Asks, Teaches, Installs, Prepares, Progress, Sets, members_at}
 use Rattle.sc_live_steps.specs.following.Hints.{SlotLeaders, hint_by, IsOther, IsHeeding, LeavesLast}
 use Rattle.sc_live_steps.specs.following.LeaderTables.{IsLeadOf, progress_by, LeadsInto}

@@ -1,13 +1,13 @@
 -- What the entries of an order make of a group's bond, and which errands (mails of transactions) its leader sends by them.
 use Rattle.std.specs.Prelude.{◌≡◌, ℕ, true, false, List, [], ◌∷◌, Option, Some, None, is_none}
 use Rattle.sc_node_table.specs.Values.{Draw, Body, Offer, Watch, Command, Join, Leave, Split, Begin, Prepared, RecordVote, Finish, Watched, RecordWatch, Free, Effect, Frozen, No, Outcome}
-use Rattle.sc_words.specs.commands.Definitions.{is_alone, is_changed, decided_in}
+use Rattle.sc_words.specs.commands.CommandDefinitions.{is_alone, is_changed, decided_in}
 use Rattle.sc_words.specs.declared.commands.bodies.Body.TheVariants as At
 use Rattle.sc_words.specs.declared.commands.votes.Past.TheVariants as Cast
 use Rattle.sc_words.specs.declared.commands.votes.Vote.TheVariants as Says
-use Rattle.sc_group_table.specs.machine.Definitions.{Group, applied, has_voted, vote_of, watch_vote_of}
+use Rattle.sc_group_table.specs.machine.MachineDefinitions.{Group, applied, has_voted, vote_of, watch_vote_of}
 use Rattle.sc_base.specs.Definitions.{least_of}
-use Rattle.sc_node_table.specs.Definitions.{before_of, went_on}
+use Rattle.sc_node_table.specs.NodeDefinitions.{before_of, went_on}
 use Rattle.sc_node_table.specs.declared.Before.{Before}
 use Rattle.sc_live_steps.specs.orders.Scenes.{Turn, First, Lone, Next, is_watch, Bond, Unbound, Asking, Bound, Errand, Question, Reply, IsOnly}
 use Rattle.sc_live_steps.specs.orders.Stages.{bound_by}

@@ -2,9 +2,9 @@
 use Rattle.std.specs.Prelude.{◌≡◌, ℕ, true, false, [], ◌∷◌, List, Option, Some, None, ◌⊎◌}
 use Rattle.sc_base.specs.Definitions.{Drawer, next_name, is_member}
 use Rattle.sc_node_table.specs.Values.{Ballot, Draw, Command, Base, OrderLine, OrderRefusal, Accept, Accepted, Install, Learn, Nack, Prepare, Promise, Flight}
-use Rattle.sc_law_walks.specs.Definitions.{GoesOn}
-use Rattle.sc_group_table.specs.machine.Definitions.{applied}
-use Rattle.sc_node_table.specs.Definitions.{executed, ordered_command, ordered_row, untaken, ReplicaState, Place, next, listed, mailed, before_of, went_on}
+use Rattle.sc_law_walks.specs.WalkDefinitions.{GoesOn}
+use Rattle.sc_group_table.specs.machine.MachineDefinitions.{applied}
+use Rattle.sc_node_table.specs.NodeDefinitions.{executed, ordered_command, ordered_row, untaken, ReplicaState, Place, next, listed, mailed, before_of, went_on}
 use Rattle.sc_live_steps.specs.orders.Scenes.{Work, IsOnly}
 use Rattle.sc_live_steps.specs.orders.Parts.{work_by, works_in, works, errands_for}
 use Rattle.sc_live_steps.specs.orders.Stages.{IsOrder}

@@ -1,7 +1,7 @@
 -- What one row does to an order that is under way, and that each kind of row keeps its stages.
 use Rattle.std.specs.Prelude.{◌≡◌, ℕ, Bool, true, false, List, [], ◌∷◌, ◌++◌, if◌then◌else◌, Option, Some, None}
 use Rattle.sc_node_table.specs.Values.{Draw}
-use Rattle.sc_node_table.specs.Definitions.{listed}
+use Rattle.sc_node_table.specs.NodeDefinitions.{listed}
 use Rattle.sc_live_steps.specs.orders.Scenes.{Turn, First, Lone, Next, is_watch, Unbound, Asking, Errand, Question, Elsewhere, Reply, Result, Work, Opens, Answers, Records, Ends, Scene, IsOnly}
 use Rattle.sc_live_steps.specs.orders.Stages.{bound_by, IsOrder, IsAt, Still, IsUnderWay, IsQuiet}
 

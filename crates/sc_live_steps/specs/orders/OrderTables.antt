@@ -1,9 +1,9 @@
 -- A replica's table takes the mail of an order as the rows of `Rows.antt` say.
 use Rattle.std.specs.Prelude.{◌≡◌, ℕ, ◌≤◌, true, false, List, [], ◌∷◌, Option, Some, None}
 use Rattle.sc_node_table.specs.Values.{Draw, Offer, Watch, Outcome, Past, Vote, TxPrepare, TxVote, TxOutcome, TxElsewhere, TxWatch, TxWatched}
-use Rattle.sc_node_table.specs.Definitions.{absent, pumped, ReplicaState, Place, name_of, next, settled, listed, mailed, standing_vote, noted_outcome}
+use Rattle.sc_node_table.specs.NodeDefinitions.{absent, pumped, ReplicaState, Place, name_of, next, settled, listed, mailed, standing_vote, noted_outcome}
 use Rattle.sc_words.specs.declared.paxos.answers.Must.TheVariants.{Free as Open}
-use Rattle.sc_words.specs.paxos.Definitions.{must}
+use Rattle.sc_words.specs.paxos.PaxosDefinitions.{must}
 use Rattle.sc_live_steps.specs.orders.Scenes.{Turn, is_watch, Asking, Bound, Errand, Question, Elsewhere, Work, Answers, Records, Ends, IsOnly}
 use Rattle.sc_live_steps.specs.orders.Parts.{bond_of, is_yes, is_cast_yes, works, errands_for}
 

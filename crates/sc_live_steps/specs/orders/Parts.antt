@@ -5,7 +5,7 @@ use Rattle.sc_node_table.specs.Values.{Draw, Body, Command, Noop, Call, Join, Le
 use Rattle.sc_words.specs.declared.commands.bodies.Body.TheVariants as At
 use Rattle.sc_words.specs.declared.commands.votes.Past.TheVariants as Cast
 use Rattle.sc_words.specs.declared.commands.votes.Vote.TheVariants as Says
-use Rattle.sc_node_table.specs.Definitions.{asked_link, ReplicaState, listed}
+use Rattle.sc_node_table.specs.NodeDefinitions.{asked_link, ReplicaState, listed}
 use Rattle.sc_live_steps.specs.orders.Scenes.{Turn, First, Lone, Next, Bond, Unbound, Asking, Bound, Errand, Question, Elsewhere, Reply, Result, Work, Changes, Opens, Answers, Records, GivesUp, Ends}
 
 -- ---- the bond of a group

@@ -1,6 +1,6 @@
 -- No command of a transaction is queued after the pump where nothing is in flight.
 use Rattle.std.specs.Prelude.{◌≡◌, ◌≤◌, nat_le, true, [], length}
-use Rattle.sc_node_table.specs.Definitions.{pumped, ReplicaState, Place, next, settled, last_slot}
+use Rattle.sc_node_table.specs.NodeDefinitions.{pumped, ReplicaState, Place, next, settled, last_slot}
 
 -- a settled replica whose next slot is at most the last one, with nothing in flight or ready, has no command of a transaction in its queue `acts`
 abbrev pub HasNoneWaiting : ReplicaState → Type 0

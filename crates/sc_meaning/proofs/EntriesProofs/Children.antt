@@ -17,10 +17,10 @@ use Rattle.sc_words.specs.declared.commands.votes.Heard.{Heard}
 use Rattle.sc_words.specs.declared.commands.votes.Outcome.TheVariants.{Merged, Divided}
 use Rattle.sc_words.specs.declared.commands.votes.Past.{Past}
 use Rattle.sc_words.specs.declared.commands.votes.Past.TheVariants as Cast
-use Rattle.sc_words.specs.commands.Definitions.{is_changed, is_divided, is_alone}
-use Rattle.sc_group_table.specs.machine.Definitions.{ordered_child, released_child, answered_child, watched_child, Group, split_group, refusal_of, ordered, can_split, may_merge, merged_group, merged_route, child_of, has_named, left_group, asks_watcher, committed, released, watch_answered, watch_recorded}
+use Rattle.sc_words.specs.commands.CommandDefinitions.{is_changed, is_divided, is_alone}
+use Rattle.sc_group_table.specs.machine.MachineDefinitions.{ordered_child, released_child, answered_child, watched_child, Group, split_group, refusal_of, ordered, can_split, may_merge, merged_group, merged_route, child_of, has_named, left_group, asks_watcher, committed, released, watch_answered, watch_recorded}
 use Rattle.sc_meaning.specs.declared.entries.Division.{Division}
-use Rattle.sc_meaning.specs.entries.Definitions.{division_in, division_by, BirthsAreChildren}
+use Rattle.sc_meaning.specs.entries.EntryDefinitions.{division_in, division_by, BirthsAreChildren}
 
 -- the child of a division
 abbrev child_at : Group → Option Division → Option Base

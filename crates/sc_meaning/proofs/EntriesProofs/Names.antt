@@ -5,8 +5,8 @@ use Rattle.std.proofs.lemmas.Option.{same_Some}
 use Rattle.sc_base.specs.Definitions.{same_draw}
 use Rattle.sc_base.specs.declared.names.Draw.{Draw}
 use Rattle.sc_base.proofs.Lemmas.{draw_is, same_name}
-use Rattle.sc_group_table.specs.machine.Definitions.{Group}
-use Rattle.sc_meaning.specs.entries.Definitions.{is_named, named_group}
+use Rattle.sc_group_table.specs.machine.MachineDefinitions.{Group}
+use Rattle.sc_meaning.specs.entries.EntryDefinitions.{is_named, named_group}
 
 -- two names are one, or differ
 pub draw_cases : (a b : Draw) → (a ≡ b) ⊎ (a ≡ b → ⊥)

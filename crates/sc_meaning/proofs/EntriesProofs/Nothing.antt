@@ -5,8 +5,8 @@ use Rattle.std.specs.Ordering.{nat_cmp}
 use Rattle.std.specs.declared.cmp.Ordering.{Ordering}
 use Rattle.std.specs.Cmp.Lexicographic.{slice_cmp}
 use Rattle.sc_base.specs.Definitions.{Arc}
-use Rattle.sc_words.specs.ideal.Definitions.{part_of, holds_key}
-use Rattle.sc_words.proofs.IdealProofs.Lemmas.{same_contents, get-part}
+use Rattle.sc_words.specs.ideal.IdealDefinitions.{part_of, holds_key}
+use Rattle.sc_words.proofs.IdealProofs.IdealLemmas.{same_contents, get-part}
 
 none_of : {X : Type 0} (xs : List X) → length xs ≡ 0 → xs ≡ []
 none_of [] e = refl

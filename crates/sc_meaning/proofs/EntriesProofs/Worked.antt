@@ -7,9 +7,9 @@ use Rattle.sc_base.specs.declared.names.Draw.{Draw}
 use Rattle.sc_words.specs.declared.commands.commands.Command.{Command}
 use Rattle.sc_words.specs.declared.commands.cores.Base.{Base}
 use Rattle.sc_words.specs.declared.commands.cores.Lock.TheVariants.{Free}
-use Rattle.sc_group_table.specs.machine.Definitions.{Group}
+use Rattle.sc_group_table.specs.machine.MachineDefinitions.{Group}
 use Rattle.sc_meaning.specs.declared.entries.LogEntry.{LogEntry}
-use Rattle.sc_meaning.specs.entries.Definitions.{effective, StoreWorld, recorded}
+use Rattle.sc_meaning.specs.entries.EntryDefinitions.{effective, StoreWorld, recorded}
 use Rattle.sc_meaning.specs.declared.entries.Cut.{Cut}
 
 -- a name

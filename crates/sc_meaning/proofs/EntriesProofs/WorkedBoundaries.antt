@@ -12,9 +12,9 @@ use Rattle.sc_words.specs.declared.commands.votes.Frozen.{Frozen}
 use Rattle.sc_words.specs.declared.commands.votes.Gift.{Gift}
 use Rattle.sc_words.specs.declared.commands.votes.Outcome.TheVariants.{Moved}
 use Rattle.sc_words.specs.declared.commands.votes.Vote.TheVariants.{Yes}
-use Rattle.sc_group_table.specs.machine.Definitions.{Group, group_of, applied, part_gift, has_key_of, taking_group, committed}
+use Rattle.sc_group_table.specs.machine.MachineDefinitions.{Group, group_of, applied, part_gift, has_key_of, taking_group, committed}
 use Rattle.sc_meaning.specs.declared.entries.Transaction.{Transaction}
-use Rattle.sc_meaning.specs.entries.Definitions.{after_outcome, StoreWorld, first_world, world_of, world_after, with_result}
+use Rattle.sc_meaning.specs.entries.EntryDefinitions.{after_outcome, StoreWorld, first_world, world_of, world_after, with_result}
 use Rattle.sc_meaning.specs.declared.entries.LogEntry.{LogEntry}
 use Rattle.sc_meaning.proofs.EntriesProofs.Nothing.{nothing_in, nothing_on}
 use Rattle.sc_meaning.proofs.EntriesProofs.Worked.{draw, born, entry, cut, shown, seen, Shape, shape, shapes}

@@ -11,9 +11,9 @@ use Rattle.sc_words.specs.declared.commands.commands.Command.TheVariants.{Call}
 use Rattle.sc_words.specs.declared.commands.cores.Base.{Base}
 use Rattle.sc_words.specs.declared.commands.effects.Effect.{Effect}
 use Rattle.sc_words.specs.declared.ideal.Entry.{Entry}
-use Rattle.sc_group_table.specs.machine.Definitions.{Group, group_of, applied, done, served_by_note}
+use Rattle.sc_group_table.specs.machine.MachineDefinitions.{Group, group_of, applied, done, served_by_note}
 use Rattle.sc_meaning.specs.declared.entries.LogEntry.{LogEntry}
-use Rattle.sc_meaning.specs.entries.Definitions.{StoreWorld, first_world, world_of, world_after, with_result}
+use Rattle.sc_meaning.specs.entries.EntryDefinitions.{StoreWorld, first_world, world_of, world_after, with_result}
 use Rattle.sc_meaning.proofs.EntriesProofs.Worked.{draw, born, entry}
 
 -- the first group has the key a, and the second the key m

@@ -6,7 +6,7 @@ use Rattle.sc_base.specs.Definitions.{Arc, IsArc, CanJoin, holds, offset, joined
 use Rattle.sc_base.specs.declared.names.Draw.{Draw}
 use Rattle.sc_base.proofs.Lemmas.{joins_hold}
 use Rattle.sc_meaning.specs.declared.entries.Cut.{Cut}
-use Rattle.sc_meaning.specs.entries.Definitions.{Covers}
+use Rattle.sc_meaning.specs.entries.EntryDefinitions.{Covers}
 use Rattle.sc_meaning.proofs.EntriesProofs.Worked.{draw, cut}
 
 -- an arc of the whole ring holds each position

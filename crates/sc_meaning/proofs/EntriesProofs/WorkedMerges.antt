@@ -8,7 +8,7 @@ use Rattle.sc_words.specs.declared.commands.votes.Outcome.TheVariants.{Abort, Me
 use Rattle.sc_words.specs.declared.commands.votes.Past.TheVariants as Cast
 use Rattle.sc_words.specs.declared.commands.votes.Vote.TheVariants.{Yes, No}
 use Rattle.sc_meaning.specs.declared.entries.LogEntry.{LogEntry}
-use Rattle.sc_meaning.specs.entries.Definitions.{first_world, world_of}
+use Rattle.sc_meaning.specs.entries.EntryDefinitions.{first_world, world_of}
 use Rattle.sc_meaning.proofs.EntriesProofs.Worked.{draw, born, entry, cut, shown, Shape, shape, shapes}
 
 -- Of two groups that make the ring, one takes over the other.

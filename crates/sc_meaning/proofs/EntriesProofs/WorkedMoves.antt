@@ -6,7 +6,7 @@ use Rattle.sc_words.specs.declared.commands.cores.Base.{Base}
 use Rattle.sc_words.specs.declared.commands.votes.Outcome.TheVariants.{Migrated}
 use Rattle.sc_words.specs.declared.commands.votes.Vote.TheVariants.{Yes}
 use Rattle.sc_meaning.specs.declared.entries.LogEntry.{LogEntry}
-use Rattle.sc_meaning.specs.entries.Definitions.{first_world, world_of}
+use Rattle.sc_meaning.specs.entries.EntryDefinitions.{first_world, world_of}
 use Rattle.sc_meaning.proofs.EntriesProofs.Worked.{draw, born, entry, cut, shown, Shape, shape, shapes}
 
 -- A member moves on to the next group.

@@ -13,12 +13,12 @@ use Rattle.sc_base.specs.declared.ops.Op.TheVariants.{Put}
 use Rattle.sc_words.specs.declared.commands.commands.Command.TheVariants.{Call, Split}
 use Rattle.sc_words.specs.declared.commands.cores.Base.{Base}
 use Rattle.sc_words.specs.declared.commands.effects.Effect.{Effect}
-use Rattle.sc_words.specs.ideal.Definitions.{Contents, holds_key, part_of}
-use Rattle.sc_words.proofs.IdealProofs.Lemmas.{get-part}
-use Rattle.sc_group_table.specs.machine.Definitions.{Group, group_of, applied, done, served_by_note}
+use Rattle.sc_words.specs.ideal.IdealDefinitions.{Contents, holds_key, part_of}
+use Rattle.sc_words.proofs.IdealProofs.IdealLemmas.{get-part}
+use Rattle.sc_group_table.specs.machine.MachineDefinitions.{Group, group_of, applied, done, served_by_note}
 use Rattle.sc_group_table.proofs.MachineProofs.Lemmas.{pairs_again}
 use Rattle.sc_meaning.specs.declared.entries.LogEntry.{LogEntry}
-use Rattle.sc_meaning.specs.entries.Definitions.{effective, StoreWorld, first_world, world_of, world_after, with_result, recorded}
+use Rattle.sc_meaning.specs.entries.EntryDefinitions.{effective, StoreWorld, first_world, world_of, world_after, with_result, recorded}
 use Rattle.sc_meaning.proofs.EntriesProofs.Worked.{draw, born, entry}
 
 -- a group that has the whole ring puts x at a and y at m, and splits at m

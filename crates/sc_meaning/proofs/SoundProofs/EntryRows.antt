@@ -1,9 +1,9 @@
 -- What one more row makes of the entries of a journal, and of all groups.
 use Rattle.std.proofs.Common.{◌≡◌, List, [], ◌∷◌, ◌++◌, sym, ◌∙◌, ap, append-nil, append_assoc}
 use Rattle.sc_node_table.specs.Values.{Base, OrderLine, Mail, Row}
-use Rattle.sc_meaning.specs.sound.Definitions.{Ahead, entries_at, entries_by_row, entries_by_rows, world_at}
-use Rattle.sc_meaning.specs.entries.Definitions.{first_world, world_after, world_of}
-use Rattle.sc_meaning.proofs.EntriesProofs.Lemmas.{world_append}
+use Rattle.sc_meaning.specs.sound.SoundDefinitions.{Ahead, entries_at, entries_by_row, entries_by_rows, world_at}
+use Rattle.sc_meaning.specs.entries.EntryDefinitions.{first_world, world_after, world_of}
+use Rattle.sc_meaning.proofs.EntriesProofs.EntryLemmas.{world_append}
 
 entries_by_rows-push : (ahead : Ahead) (bases : List Base) (before rows : List (Row Mail OrderLine)) (row : Row Mail OrderLine)
     → entries_by_rows ahead bases before (rows ++ row ∷ []) ≡ entries_by_rows ahead bases before rows ++ entries_by_row ahead bases (before ++ rows) row

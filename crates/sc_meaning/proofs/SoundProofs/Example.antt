@@ -5,9 +5,9 @@ use Rattle.std.specs.Cmp.{nat_cmp_total}
 use Rattle.std.specs.Cmp.Lexicographic.{slice_cmp, nat_list_cmp_total}
 use Rattle.std.specs.FinMap.{get, get-empty, get-insert}
 use Rattle.sc_node_table.specs.Values.{Noted, Call, Effect, Entry}
-use Rattle.sc_words.specs.ideal.Definitions.{reply_of}
-use Rattle.sc_group_table.specs.machine.Definitions.{Group, group_of, applied, done, served_by_note, entry_of}
-use Rattle.sc_meaning.specs.sound.Definitions.{history, four, alone, example_rows, example_history, put_it, get_it}
+use Rattle.sc_words.specs.ideal.IdealDefinitions.{reply_of}
+use Rattle.sc_group_table.specs.machine.MachineDefinitions.{Group, group_of, applied, done, served_by_note, entry_of}
+use Rattle.sc_meaning.specs.sound.SoundDefinitions.{history, four, alone, example_rows, example_history, put_it, get_it}
 
 -- the group at its birth
 abbrev pub born : Group

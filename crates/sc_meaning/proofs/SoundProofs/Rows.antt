@@ -2,7 +2,7 @@
 use Rattle.std.proofs.Common.{◌≡◌, Bool, true, false, ◌||◌, List, [], ◌∷◌, ◌++◌, refl, sym, ◌∙◌, ap, append-nil, append_assoc}
 use Rattle.std.specs.List.{flat_map, list_any}
 use Rattle.sc_node_table.specs.Values.{Base, OrderLine, Mail, Row}
-use Rattle.sc_meaning.specs.sound.Definitions.{Ahead, newly_decided, history_from}
+use Rattle.sc_meaning.specs.sound.SoundDefinitions.{Ahead, newly_decided, history_from}
 
 history_from-push : (ahead : Ahead) (groups : List Base) (before rows : List (Row Mail OrderLine)) (row : Row Mail OrderLine)
     → history_from ahead groups before (rows ++ row ∷ []) ≡ history_from ahead groups before rows ++ flat_map (newly_decided ahead (before ++ rows) ((before ++ rows) ++ row ∷ [])) groups

@@ -1,8 +1,8 @@
 -- Rows in which two groups decide a call each, the second group first: the entries are in the order of the rows, not of the groups.
 use Rattle.std.proofs.Common.{◌≡◌, ℕ, List, [], ◌∷◌, refl}
 use Rattle.sc_node_table.specs.Values.{Ballot, Put, Command, Call, Base, OrderLine, Mail, Request, Accept, Accepted, Row, Deliver, Go}
-use Rattle.sc_meaning.proofs.EntriesProofs.Lemmas.{draw, born, entry}
-use Rattle.sc_meaning.specs.sound.Definitions.{four, mail, row, entries_at}
+use Rattle.sc_meaning.proofs.EntriesProofs.EntryLemmas.{draw, born, entry}
+use Rattle.sc_meaning.specs.sound.SoundDefinitions.{four, mail, row, entries_at}
 
 -- two groups of one node each
 abbrev groups : List Base

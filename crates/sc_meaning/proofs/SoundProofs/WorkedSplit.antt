@@ -3,8 +3,8 @@ use Rattle.std.proofs.Common.{◌≡◌, ℕ, List, [], ◌∷◌, map, refl}
 use Rattle.sc_node_table.specs.Values.{Command, Split, Base, OrderLine, Mail, MailBody, Accept, Accepted, Row, Deliver}
 use Rattle.sc_words.specs.declared.commands.orders.Order.TheVariants as Ordered
 use Rattle.sc_actor.specs.declared.rows.Event.TheVariants.{Told}
-use Rattle.sc_meaning.proofs.EntriesProofs.Lemmas.{draw, born, entry, cut}
-use Rattle.sc_meaning.specs.sound.Definitions.{four, ballot, row, groups_at, entries_at, ring_at}
+use Rattle.sc_meaning.proofs.EntriesProofs.EntryLemmas.{draw, born, entry, cut}
+use Rattle.sc_meaning.specs.sound.SoundDefinitions.{four, ballot, row, groups_at, entries_at, ring_at}
 
 -- a group of two nodes that has the whole ring
 abbrev groups : List Base

@@ -10,8 +10,8 @@ use Rattle.sc_words.specs.declared.commands.cores.Core.{Core}
 use Rattle.sc_words.specs.declared.commands.cores.Lock.{Lock}
 use Rattle.sc_words.specs.declared.commands.cores.Lock.TheVariants.{Free, Coordinating, Promised, Watching}
 use Rattle.sc_words.specs.declared.commands.effects.Effect.{Effect}
-use Rattle.sc_words.specs.commands.Definitions.{is_alone, is_changed, is_divided}
-use Rattle.sc_group_table.specs.machine.Definitions.{Group, child_of}
+use Rattle.sc_words.specs.commands.CommandDefinitions.{is_alone, is_changed, is_divided}
+use Rattle.sc_group_table.specs.machine.MachineDefinitions.{Group, child_of}
 use Rattle.sc_meaning.specs.declared.entries.Division.{Division}
 
 -- the division that a transaction's body asks for, if the body is a split

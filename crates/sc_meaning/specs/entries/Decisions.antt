@@ -12,7 +12,7 @@ use Rattle.sc_words.specs.declared.commands.effects.Effect.{Effect}
 use Rattle.sc_words.specs.declared.commands.votes.Outcome.{Outcome}
 use Rattle.sc_words.specs.declared.commands.votes.Vote.{Vote}
 use Rattle.sc_words.specs.declared.commands.votes.Vote.TheVariants.{Yes, No}
-use Rattle.sc_words.specs.commands.Definitions.{decided_in, is_changed, is_alone}
+use Rattle.sc_words.specs.commands.CommandDefinitions.{decided_in, is_changed, is_alone}
 use Rattle.sc_meaning.specs.declared.entries.Transaction.{Transaction}
 
 -- ---- what each entry of a coordinator adds to the record of its transaction

@@ -7,8 +7,8 @@ use Rattle.sc_words.specs.declared.commands.cores.Lock.{Lock}
 use Rattle.sc_words.specs.declared.commands.cores.Lock.TheVariants.{Free, Coordinating, Promised, Watching}
 use Rattle.sc_words.specs.declared.commands.votes.Outcome.{Outcome}
 use Rattle.sc_words.specs.declared.commands.votes.Outcome.TheVariants.{Abort, Merged, Moved, Migrated, Divided}
-use Rattle.sc_words.specs.ideal.Definitions.{holds_key}
-use Rattle.sc_group_table.specs.machine.Definitions.{Group, applied}
+use Rattle.sc_words.specs.ideal.IdealDefinitions.{holds_key}
+use Rattle.sc_group_table.specs.machine.MachineDefinitions.{Group, applied}
 use Rattle.sc_meaning.specs.declared.entries.Transaction.{Transaction}
 use Rattle.sc_meaning.specs.entries.Decisions.{decision}
 use Rattle.sc_meaning.specs.entries.Worlds.{StoreWorld, named_group}

@@ -2,8 +2,8 @@
 use Rattle.std.specs.Prelude.{◌≡◌, ℕ, IsTrue, List, Some, None}
 use Rattle.std.specs.FinMap.{empty}
 use Rattle.sc_base.specs.Definitions.{Among, end_of}
-use Rattle.sc_words.specs.ideal.Definitions.{contents_after, holds_key, part_of}
-use Rattle.sc_group_table.specs.machine.Definitions.{Group}
+use Rattle.sc_words.specs.ideal.IdealDefinitions.{contents_after, holds_key, part_of}
+use Rattle.sc_group_table.specs.machine.MachineDefinitions.{Group}
 use Rattle.sc_meaning.specs.declared.entries.Cut.{Cut}
 use Rattle.sc_meaning.specs.entries.Effective.{effective, serves}
 use Rattle.sc_meaning.specs.entries.Worlds.{StoreWorld}

@@ -11,7 +11,7 @@ use Rattle.sc_words.specs.declared.commands.cores.Core.{Core}
 use Rattle.sc_words.specs.declared.commands.effects.Effect.{Effect}
 use Rattle.sc_words.specs.declared.commands.votes.Outcome.{Outcome}
 use Rattle.sc_words.specs.declared.commands.votes.Outcome.TheVariants.{Abort, Merged, Moved, Migrated, Divided}
-use Rattle.sc_words.specs.commands.Definitions.{decided_in}
+use Rattle.sc_words.specs.commands.CommandDefinitions.{decided_in}
 use Rattle.sc_meaning.specs.declared.entries.Cut.{Cut}
 use Rattle.sc_meaning.specs.declared.entries.Division.{Division}
 use Rattle.sc_meaning.specs.entries.Births.{division_of}

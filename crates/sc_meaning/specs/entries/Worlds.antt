@@ -7,7 +7,7 @@ use Rattle.sc_words.specs.declared.commands.commands.Command.{Command}
 use Rattle.sc_words.specs.declared.commands.cores.Base.{Base}
 use Rattle.sc_words.specs.declared.commands.effects.Effect.{Effect}
 use Rattle.sc_words.specs.declared.ideal.Entry.{Entry}
-use Rattle.sc_group_table.specs.machine.Definitions.{Group, group_of, entry_of, applied}
+use Rattle.sc_group_table.specs.machine.MachineDefinitions.{Group, group_of, entry_of, applied}
 use Rattle.sc_meaning.specs.entries.Births.{birth_of}
 use Rattle.sc_meaning.specs.declared.entries.Cut.{Cut}
 use Rattle.sc_meaning.specs.declared.entries.LogEntry.{LogEntry}

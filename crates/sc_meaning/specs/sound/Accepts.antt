@@ -4,7 +4,7 @@ use Rattle.std.specs.List.{list_any}
 use Rattle.sc_node_table.specs.Values.{Draw, Ballot, Command, OrderLine, Mail, MailBody, Accept, Accepted as AcceptedMail, Row, Event, Deliver}
 use Rattle.sc_base.specs.Definitions.{same_draw, same_ballot}
 use Rattle.sc_actor.specs.Definitions.{numbered}
-use Rattle.sc_paxos_law.specs.Definitions.{Step, Accepted}
+use Rattle.sc_paxos_law.specs.PaxosLawDefinitions.{Step, Accepted}
 
 -- whether a mail says that its sender accepted at this slot of this group in this ballot
 abbrev pub is_accepted : Draw → Ballot → ℕ → MailBody → Bool

@@ -4,11 +4,11 @@ use Rattle.std.specs.List.{flat_map, list_any}
 use Rattle.std.specs.Option.{option_map, option_to_list}
 use Rattle.sc_base.specs.Definitions.{Each, same_draw}
 use Rattle.sc_node_table.specs.Values.{Draw, Command, Base, OrderLine, Mail, Row, Entry}
-use Rattle.sc_group_table.specs.machine.Definitions.{Group, group_of, applied}
+use Rattle.sc_group_table.specs.machine.MachineDefinitions.{Group, group_of, applied}
 use Rattle.sc_meaning.specs.sound.Players.{Ahead}
 use Rattle.sc_meaning.specs.declared.entries.Cut.{Cut}
 use Rattle.sc_meaning.specs.declared.entries.LogEntry.{LogEntry}
-use Rattle.sc_meaning.specs.entries.Definitions.{birth_of, StoreWorld, world_of}
+use Rattle.sc_meaning.specs.entries.EntryDefinitions.{birth_of, StoreWorld, world_of}
 use Rattle.sc_meaning.specs.sound.Logs.{decided_log, decided_state}
 
 -- ---- the groups

@@ -2,7 +2,7 @@
 use Rattle.std.specs.Prelude.{ℕ, ◌+◌, nat_lt, List, [], ◌∷◌, ◌++◌, length, drop, if◌then◌else◌, Option, Some, None}
 use Rattle.std.specs.List.{flat_map}
 use Rattle.sc_node_table.specs.Values.{Base, OrderLine, Mail, Row, Entry}
-use Rattle.sc_group_table.specs.machine.Definitions.{group_of, state_after, done_by}
+use Rattle.sc_group_table.specs.machine.MachineDefinitions.{group_of, state_after, done_by}
 use Rattle.sc_meaning.specs.sound.Players.{Ahead}
 use Rattle.sc_meaning.specs.sound.Logs.{decided_log}
 

@@ -1,9 +1,9 @@
 -- The decided log of a group in a journal, and the group's state after it.
 use Rattle.std.specs.Prelude.{ℕ, List}
 use Rattle.sc_node_table.specs.Values.{Command, Base, OrderLine, Mail, Row}
-use Rattle.sc_group_table.specs.machine.Definitions.{state_after, Group, group_of}
+use Rattle.sc_group_table.specs.machine.MachineDefinitions.{state_after, Group, group_of}
 use Rattle.sc_meaning.specs.sound.Players.{Ahead}
-use Rattle.sc_paxos_law.specs.Definitions.{Rule, IsChosenAfter, log_of}
+use Rattle.sc_paxos_law.specs.PaxosLawDefinitions.{Rule, IsChosenAfter, log_of}
 use Rattle.sc_meaning.specs.sound.Accepts.{accepts}
 
 -- the rule by which a group's log gives the members of a slot: they are those in the group's state after the entries at least `ahead` slots before it (Paxos Made Simple, section 3)

@@ -9,8 +9,8 @@ use Rattle.sc_scenario.specs.declared.scenario.scenarios.Asks.{Asks}
 use Rattle.sc_scenario.specs.declared.scenario.scenarios.Scenario.{Scenario}
 use Rattle.sc_scenario.specs.declared.scenario.scenarios.SchedLine.{SchedLine}
 use Rattle.sc_scenario.specs.declared.scenario.scenarios.SchedLine.TheVariants.{Go, Deliver, Drop, Again, Tick, Crash, Told, Settle, Free, Storm}
-use Rattle.sc_node_table.specs.Definitions.{slots_ahead, numbers_from, NodeState, node_table, born_node}
-use Rattle.sc_client_table.specs.table.Definitions.{Client as ClientState, born_client, table}
+use Rattle.sc_node_table.specs.NodeDefinitions.{slots_ahead, numbers_from, NodeState, node_table, born_node}
+use Rattle.sc_client_table.specs.table.TableDefinitions.{Client as ClientState, born_client, table}
 use Rattle.sc_mail.specs.Definitions.{role_table}
 
 -- a node or a client, as a value of its table

@@ -3,15 +3,15 @@ use Rattle.std.specs.Prelude.{◌≡◌, ℕ, ◌+◌, ◌<◌, ◌≤◌, nat_l
 use Rattle.sc_base.specs.Definitions.{Among}
 use Rattle.sc_node_table.specs.Values.{Reply, Command, Base, OrderLine, Mail, Row, Entry, Node as ANode}
 use Rattle.sc_actor.specs.Definitions.{value}
-use Rattle.sc_words.specs.ideal.Definitions.{HasEntry, Legal}
-use Rattle.sc_group_table.specs.machine.Definitions.{group_of, state_after}
-use Rattle.sc_node_table.specs.Definitions.{NodeState, ReplicaState, name_of, next}
-use Rattle.sc_paxos_law.specs.Definitions.{IsLog}
+use Rattle.sc_words.specs.ideal.IdealDefinitions.{HasEntry, Legal}
+use Rattle.sc_group_table.specs.machine.MachineDefinitions.{group_of, state_after}
+use Rattle.sc_node_table.specs.NodeDefinitions.{NodeState, ReplicaState, name_of, next}
+use Rattle.sc_paxos_law.specs.PaxosLawDefinitions.{IsLog}
 use Rattle.sc_meaning.specs.sound.Players.{Ahead, node_seat, player_table, route_of}
 use Rattle.sc_scenario.specs.declared.scenario.scenarios.Asks.{Asks}
 use Rattle.sc_scenario.specs.declared.scenario.scenarios.Scenario.{Scenario}
 use Rattle.sc_meaning.specs.declared.entries.Cut.{Cut}
-use Rattle.sc_meaning.specs.entries.Definitions.{Covers, IsPlaced, ServesItsCut, HoldsItsPart, StoreWorld, named_group, CoverThroughout}
+use Rattle.sc_meaning.specs.entries.EntryDefinitions.{Covers, IsPlaced, ServesItsCut, HoldsItsPart, StoreWorld, named_group, CoverThroughout}
 use Rattle.sc_meaning.specs.sound.Accepts.{accepts}
 use Rattle.sc_meaning.specs.sound.GroupsOf.{groups_at, entries_at, log_at, state_at, world_at, history_at}
 use Rattle.sc_meaning.specs.sound.Logs.{rule_of, IsChosenIn, decided_log}

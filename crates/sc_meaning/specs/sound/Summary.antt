@@ -4,7 +4,7 @@ use Rattle.sc_node_table.specs.Values.{Op, Reply, Node, Client}
 use Rattle.sc_scenario.specs.declared.report.summaries.Progress.{Progress}
 use Rattle.sc_scenario.specs.declared.report.summaries.Progress.TheVariants.{Unsent, Unanswered, Replied}
 use Rattle.sc_scenario.specs.declared.report.summaries.Asked.{Asked}
-use Rattle.sc_client_table.specs.table.Definitions.{Client as ClientState, waits_for}
+use Rattle.sc_client_table.specs.table.TableDefinitions.{Client as ClientState, waits_for}
 use Rattle.sc_meaning.specs.sound.Players.{Player}
 
 -- how far a request came, by its reply and whether its client waits for it

@@ -1,8 +1,8 @@
 -- The queues' heads.
 use Rattle.std.proofs.Common.{◌≡◌, List, [], ◌∷◌, ◌++◌, drop, length, suc, Option, Some, None, sym, ◌∙◌, ap, refl, arith}
 use Rattle.std.specs.Option.{option_to_list}
-use Rattle.sc_node_table.specs.Definitions.{rest_of}
-use Rattle.sc_node_parts.specs.replica.Definitions.{head_of}
+use Rattle.sc_node_table.specs.NodeDefinitions.{rest_of}
+use Rattle.sc_node_parts.specs.replica.ReplicaDefinitions.{head_of}
 
 -- what is taken out of a queue is its head
 pub popped_head : {X : Type 0} (xs ys : List X) (o : Option X) → xs ≡ option_to_list o ++ ys → ys ≡ drop 1 xs → o ≡ head_of xs

@@ -4,7 +4,7 @@ use Rattle.std.proofs.lemmas.Bool.{cases_order, eq-eqb, ne_eqb, lt-ltb, le-ltb}
 use Rattle.std.specs.Ordering.{is_eq, match_ordering, nat_cmp}
 use Rattle.std.specs.BTreeMap.{insert_entry, is_at}
 use Rattle.std.specs.Map.{lookup, remove_entry}
-use Rattle.sc_node_table.specs.Definitions.{at_slot, with_slot, without_slot}
+use Rattle.sc_node_table.specs.NodeDefinitions.{at_slot, with_slot, without_slot}
 
 -- a comparison of two numbers, by its three outcomes
 put_here : {X : Type 0} (slot n : ℕ) (x : X) (es less more : List (ℕ × X))

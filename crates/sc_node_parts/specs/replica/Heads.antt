@@ -1,7 +1,7 @@
 -- The head of a queue.
 use Rattle.std.specs.Prelude.{Bool, true, List, [], ◌∷◌, Option, Some, None}
 use Rattle.sc_node_table.specs.Values.{Lock, Command}
-use Rattle.sc_node_table.specs.Definitions.{waits}
+use Rattle.sc_node_table.specs.NodeDefinitions.{waits}
 
 -- the first of a list, if it has one
 abbrev pub head_of : {X : Type 0} → List X → Option X

@@ -6,19 +6,19 @@ use Rattle.std.proofs.lemmas.List.{append-nil}
 use Rattle.std.proofs.lemmas.List.Folds.{list_any-append}
 use Rattle.std.proofs.lemmas.Bool.{eqb-true, and_parts}
 use Rattle.std.proofs.Math.Bool.{and_assoc, or-false}
-use Rattle.sc_thread_ports.specs.turn.Definitions.{StartsWith}
+use Rattle.sc_thread_ports.specs.turn.TurnDefinitions.{StartsWith}
 use Rattle.sc_actor.specs.declared.rows.Row.{Row}
 use Rattle.sc_actor.specs.declared.rows.Event.{Event}
 use Rattle.sc_actor.specs.declared.rows.Event.TheVariants.{Deliver, Drop, Again, Tick, Go, Told, Crash}
 use Rattle.sc_actor.specs.Definitions.{mails, numbered, copies, counts_at, numbers, is_crash, has_crashed, may_get, is_for}
 use Rattle.sc_actor.proofs.Lemmas.{counted, length-counts_at, mails-snoc, mails-append, pending_sound, get_left}
-use Rattle.sc_thread_ledger.specs.Definitions.{upto, whose, pending_of, kth_pending}
-use Rattle.sc_thread_ledger.proofs.Lemmas.{copies-push}
+use Rattle.sc_thread_ledger.specs.LedgerDefinitions.{upto, whose, pending_of, kth_pending}
+use Rattle.sc_thread_ledger.proofs.LedgerLemmas.{copies-push}
 use Rattle.sc_thread_ports.specs.declared.turn.rule.View.{View}
 use Rattle.sc_thread_ports.specs.declared.exchange.shared.BareRow.{BareRow}
 use Rattle.sc_thread_ports.specs.declared.exchange.fates.Fate.{Fate}
 use Rattle.sc_thread_ports.specs.declared.exchange.fates.Fate.TheVariants.{Lost, Repeated}
-use Rattle.sc_thread_ports.specs.exchange.Definitions.{bare_rows, rows_of, rows_from, change, is_mail_to, is_addressed, all_addressed}
+use Rattle.sc_thread_ports.specs.exchange.ExchangeDefinitions.{bare_rows, rows_of, rows_from, change, is_mail_to, is_addressed, all_addressed}
 use Rattle.sc_thread_ports.proofs.ExchangeProofs.Done.{rows_of_bare, begins_rows, quiet}
 
 -- a mail keeps its receiver

@@ -4,11 +4,11 @@ use Rattle.std.specs.Prelude.{nat_lt}
 use Rattle.std.proofs.lemmas.List.{append-nil, map-append, length-map, nil_from_length}
 use Rattle.std.proofs.lemmas.Bool.{eqb-true}
 use Rattle.sc_thread_ports.specs.declared.turn.rule.View.{View}
-use Rattle.sc_thread_ports.specs.turn.Definitions.{rows_by, view, left_with, with_turn, with_row, longer, StartsWith}
-use Rattle.sc_thread_ports.proofs.TurnProofs.Lemmas.{made_more}
+use Rattle.sc_thread_ports.specs.turn.TurnDefinitions.{rows_by, view, left_with, with_turn, with_row, longer, StartsWith}
+use Rattle.sc_thread_ports.proofs.TurnProofs.TurnLemmas.{made_more}
 use Rattle.sc_actor.specs.declared.rows.Row.{Row}
 use Rattle.sc_thread_ports.specs.declared.exchange.shared.BareRow.{BareRow}
-use Rattle.sc_thread_ports.specs.exchange.Definitions.{bare_rows, row_by, rows_from, rows_of}
+use Rattle.sc_thread_ports.specs.exchange.ExchangeDefinitions.{bare_rows, row_by, rows_from, rows_of}
 
 module _ {M O : Type 0} where
   -- the rows of the bare rows of rows are those rows

@@ -2,8 +2,8 @@
 use Rattle.std.proofs.Common.{◌≡◌, ◌≢◌, ℕ, Bool, true, false, MatchBool, List, ◌∷◌, ◌++◌, length, map, refl, sym, ap, ◌∙◌, subst, [], Option, None, Some, Result, Ok, Err, IfOk}
 use Rattle.std.proofs.lemmas.List.{append-nil}
 use Rattle.sc_thread_ports.specs.declared.turn.rule.View.{View}
-use Rattle.sc_thread_ports.specs.turn.Definitions.{StartsWith, IsTrueOf, rows_by, with_seen}
-use Rattle.sc_thread_ports.proofs.TurnProofs.Lemmas.{starts_more, starts_trans}
+use Rattle.sc_thread_ports.specs.turn.TurnDefinitions.{StartsWith, IsTrueOf, rows_by, with_seen}
+use Rattle.sc_thread_ports.proofs.TurnProofs.TurnLemmas.{starts_more, starts_trans}
 use Rattle.std.proofs.Math.Logic.{∥∥₁_elim}
 use Rattle.std.proofs.Props.{props}
 use Rattle.sc_base.specs.declared.dups.OutOfMemory.{OutOfMemory}
@@ -15,7 +15,7 @@ use Rattle.sc_thread_ports.specs.declared.exchange.shared.BareRow.{BareRow}
 use Rattle.sc_thread_ports.specs.declared.exchange.fates.Fate.{Fate}
 use Rattle.sc_thread_ports.specs.declared.exchange.answers.Fetched.{Fetched}
 use Rattle.sc_thread_ports.specs.declared.exchange.answers.Fetched.TheVariants.{Mail, Empty}
-use Rattle.sc_thread_ports.specs.exchange.Definitions.{bare_rows, row_by, rows_from, Turned, RowTurned, Changed, change, IsFetch, fetched_number, number_in, MayPost, WasPending, HasFetched, delivered, is_addressed}
+use Rattle.sc_thread_ports.specs.exchange.ExchangeDefinitions.{bare_rows, row_by, rows_from, Turned, RowTurned, Changed, change, IsFetch, fetched_number, number_in, MayPost, WasPending, HasFetched, delivered, is_addressed}
 use Rattle.sc_thread_ports.proofs.ExchangeProofs.Addressing.{pending_to, addressed_rows}
 use Rattle.sc_thread_ports.proofs.ExchangeProofs.Done.{rows_of_from, begins_rows}
 use Rattle.sc_thread_ports.proofs.ExchangeProofs.Views.{own_same, own_turned, own_of, bare}

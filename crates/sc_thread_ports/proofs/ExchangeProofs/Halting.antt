@@ -9,7 +9,7 @@ use Rattle.sc_actor.specs.Definitions.{is_crash}
 use Rattle.sc_thread_ports.specs.declared.exchange.shared.BareRow.{BareRow}
 use Rattle.sc_thread_ports.specs.declared.exchange.fates.Fate.{Fate}
 use Rattle.sc_thread_ports.specs.declared.exchange.fates.Fate.TheVariants.{Lost, Repeated}
-use Rattle.sc_thread_ports.specs.exchange.Definitions.{Turned, RowTurned, Changed, change}
+use Rattle.sc_thread_ports.specs.exchange.ExchangeDefinitions.{Turned, RowTurned, Changed, change}
 
 change_runs : (M O : Type 0) (fate : Fate) (number : ℕ) → is_crash (change {M = M} {O = O} fate number).event ≡ false
 change_runs M O Lost number = refl

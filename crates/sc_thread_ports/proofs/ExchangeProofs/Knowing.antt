@@ -2,17 +2,17 @@
 use Rattle.std.proofs.Common.{◌≡◌, ◌≢◌, ℕ, ◌<◌, ◌≤◌, zero, suc, Bool, true, false, List, [], ◌∷◌, ◌++◌, map, length, get_or, length-append, refl, sym, ap, ◌∙◌, subst, arith, Contains, MatchBool}
 use Rattle.std.proofs.lemmas.List.{map-append, length-map, append-nil}
 use Rattle.sc_thread_ports.specs.declared.turn.rule.View.{View}
-use Rattle.sc_thread_ports.specs.turn.Definitions.{StartsWith, rows_by, merged_seen, with_seen, entered_with, IsTrueOf, IsTrueOver, known, OfOneStart}
-use Rattle.sc_thread_ports.proofs.TurnProofs.Lemmas.{starts_trans}
+use Rattle.sc_thread_ports.specs.turn.TurnDefinitions.{StartsWith, rows_by, merged_seen, with_seen, entered_with, IsTrueOf, IsTrueOver, known, OfOneStart}
+use Rattle.sc_thread_ports.proofs.TurnProofs.TurnLemmas.{starts_trans}
 use Rattle.sc_actor.specs.declared.rows.Row.{Row}
 use Rattle.sc_actor.specs.declared.actors.Parcel.{Ghosts}
 use Rattle.sc_actor.specs.Definitions.{journal_bytes}
 use Rattle.sc_thread_ledger.specs.declared.errors.PostError.{PostError}
-use Rattle.sc_thread_ledger.specs.Definitions.{IsCause}
+use Rattle.sc_thread_ledger.specs.LedgerDefinitions.{IsCause}
 use Rattle.sc_thread_ports.specs.declared.exchange.shared.BareRow.{BareRow}
 use Rattle.sc_thread_ports.specs.declared.exchange.fates.Fate.{Fate}
 use Rattle.sc_thread_ports.specs.declared.exchange.ports.Port.{Port}
-use Rattle.sc_thread_ports.specs.exchange.Definitions.{bare_rows, row_by, rows_from, rows_of, Turned, RowTurned, Changed, may_change, change, seen, made, joined_ports, Stays, Looked, Appended, ChangedBy, MayNotChange, IsTrue}
+use Rattle.sc_thread_ports.specs.exchange.ExchangeDefinitions.{bare_rows, row_by, rows_from, rows_of, Turned, RowTurned, Changed, may_change, change, seen, made, joined_ports, Stays, Looked, Appended, ChangedBy, MayNotChange, IsTrue}
 use Rattle.sc_thread_ports.proofs.ExchangeProofs.Done.{rows_of_bare, rows_of_from, rows_of-append, begins_rows}
 use Rattle.sc_thread_ports.proofs.ExchangeProofs.Views.{bare, row_back, seen_row, own_same, own_row, others_same, others_row}
 

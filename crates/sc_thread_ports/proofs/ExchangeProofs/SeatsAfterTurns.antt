@@ -1,12 +1,12 @@
 -- What a turn leaves of a seat.
 use Rattle.std.proofs.Common.{◌≡◌, true, false, List, [], ap, ◌∙◌}
 use Rattle.sc_thread_ports.specs.declared.turn.seat.TurnSeat.{TurnSeat}
-use Rattle.sc_thread_ports.specs.turn.Definitions.{known, OfOneStart, StartsWith, IsTrueOf, entered_with, with_turn}
+use Rattle.sc_thread_ports.specs.turn.TurnDefinitions.{known, OfOneStart, StartsWith, IsTrueOf, entered_with, with_turn}
 use Rattle.sc_actor.specs.declared.rows.Row.{Row}
 use Rattle.sc_actor.specs.declared.actors.Parcel.{Ghosts}
 use Rattle.sc_thread_ports.specs.declared.exchange.shared.BareRow.{BareRow}
 use Rattle.sc_thread_ports.specs.declared.exchange.shared.Exchange.{Exchange}
-use Rattle.sc_thread_ports.specs.exchange.Definitions.{all_addressed, bare_rows, rows_from, RowTurned, SeatLooked, SeatTurned}
+use Rattle.sc_thread_ports.specs.exchange.ExchangeDefinitions.{all_addressed, bare_rows, rows_from, RowTurned, SeatLooked, SeatTurned}
 use Rattle.sc_thread_ports.proofs.ExchangeProofs.Views.{seen_same, turned_same, own_turned, own_row_turned, kept_turned, kept_row_turned}
 
 module _ {M O : Type 0} {g : Ghosts M} where

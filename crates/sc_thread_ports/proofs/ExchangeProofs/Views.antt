@@ -2,14 +2,14 @@
 use Rattle.std.proofs.Common.{◌≡◌, ◌≢◌, ℕ, ◌+◌, ◌≤◌, true, false, List, [], ◌∷◌, ◌++◌, length, sym, ap, ◌∙◌, subst, arith, length-append, Contains}
 use Rattle.std.proofs.lemmas.List.{map-append}
 use Rattle.sc_thread_ports.specs.declared.turn.rule.View.{View}
-use Rattle.sc_thread_ports.specs.turn.Definitions.{rows_by, newcomer, merged_seen, IsTrueLater, entered_with, with_turn, with_row, StartsWith, IsTrueOf}
-use Rattle.sc_thread_ports.proofs.TurnProofs.Lemmas.{rows_by_same, rows_by_other, rows_by_none, rows_by-append}
+use Rattle.sc_thread_ports.specs.turn.TurnDefinitions.{rows_by, newcomer, merged_seen, IsTrueLater, entered_with, with_turn, with_row, StartsWith, IsTrueOf}
+use Rattle.sc_thread_ports.proofs.TurnProofs.TurnLemmas.{rows_by_same, rows_by_other, rows_by_none, rows_by-append}
 use Rattle.sc_actor.specs.declared.rows.Row.{Row}
 use Rattle.sc_actor.specs.Definitions.{row_bytes, journal_bytes}
-use Rattle.sc_thread_ledger.proofs.Lemmas.{bytes-push}
+use Rattle.sc_thread_ledger.proofs.LedgerLemmas.{bytes-push}
 use Rattle.sc_thread_ports.specs.declared.exchange.shared.BareRow.{BareRow}
 use Rattle.sc_thread_ports.specs.declared.exchange.fates.Fate.{Fate}
-use Rattle.sc_thread_ports.specs.exchange.Definitions.{bare_rows, row_by, rows_from, Turned, RowTurned, Changed, may_change, change}
+use Rattle.sc_thread_ports.specs.exchange.ExchangeDefinitions.{bare_rows, row_by, rows_from, Turned, RowTurned, Changed, may_change, change}
 use Rattle.sc_thread_ports.proofs.ExchangeProofs.Done.{rows_of_bare}
 
 module _ {M O : Type 0} where

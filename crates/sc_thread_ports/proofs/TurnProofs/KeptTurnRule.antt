@@ -10,12 +10,13 @@ use prog.Atomic.{either}
 use Rattle.atomic_table.specs.Table.{State, Me, step, keeps, takes, gives, stepped, opening, put_back, Allows, Splits, Joins}
 use Rattle.atomic_table.proofs.Lists.{at_longer, set_else}
 use Rattle.sc_thread_ports.specs.declared.turn.rule.View.{View}
-use Rattle.sc_thread_ports.specs.turn.Definitions.{StartsWith, rows_by, Status, unused, carried, settled, put_status, TurnHolder, free, held, turn_word, view, opener, newcomer, note, with_turn, with_seen, with_row, with_given, informed, merged, entered_with, OwnsNumber, Fits, HasTurn, IsTrueOf, Kept, acquire_returns, look_returns, read_returns, append_returns, release_returns}
+use Rattle.sc_thread_ports.specs.turn.TurnDefinitions.{StartsWith, rows_by, Status, unused, carried, settled, put_status, TurnHolder, free, held, turn_word, view, opener, newcomer, note, with_turn, with_seen, with_row, with_given, informed, merged, entered_with, OwnsNumber, Fits, HasTurn, IsTrueOf, Kept, acquire_returns, look_returns, read_returns, append_returns, release_returns}
 use Rattle.sc_thread_ports.proofs.TurnProofs.ListPrefixes.{starts_refl, starts_nil, starts_more, starts_of_one, each_set, set_at, at_end, set_only, longer_begins, rows_by_other, rows_by_same, put_same, put_other}
 
 module _ {E : Type 0} where
   abbrev first_status : ℕ → Status E
   first_status = put_status (λ _. unused) 0 (carried 0)
+
   opens_each : (i : ℕ) (v : View E) → get_elem? (opener ∷ []) i ≡ some v → Fits [] first_status free i v
   opens_each zero v e = subst (Fits [] first_status free 0) (some-injective opener v e) record {
     seen = ([], refl);
@@ -46,8 +47,10 @@ module _ {E : Type 0} where
 module _ {T E : Type 0} (entries : T → List (E × ℕ)) where
   abbrev St : Type 0
   St = State (Option T) (View E)
+
   abbrev M : Type 0
   M = Me (Option T) (View E)
+
   abbrev Rule : St → Type 0
   Rule = Kept entries
 

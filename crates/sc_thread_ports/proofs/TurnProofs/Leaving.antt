@@ -4,7 +4,7 @@ use Rattle.std.proofs.Math.Seq.{drop-append_seam}
 use mathlib.Core.Option.{none}
 use Rattle.atomic_table.specs.Table.{Me, step, rest, Allows}
 use Rattle.sc_thread_ports.specs.declared.turn.rule.View.{View}
-use Rattle.sc_thread_ports.specs.turn.Definitions.{view, with_seen, with_row, with_counted, rows_by, CanLeave, IsTrueOf, IsTrueLater, IsTrueOver, StartsWith, Kept, Looks, ReadsCount, Appends, append_returns, release_returns}
+use Rattle.sc_thread_ports.specs.turn.TurnDefinitions.{view, with_seen, with_row, with_counted, rows_by, CanLeave, IsTrueOf, IsTrueLater, IsTrueOver, StartsWith, Kept, Looks, ReadsCount, Appends, append_returns, release_returns}
 use Rattle.sc_thread_ports.proofs.TurnProofs.ListPrefixes.{rows_by_none}
 use Rattle.sc_thread_ports.proofs.TurnProofs.KeptTurnRule.{appends, releases}
 

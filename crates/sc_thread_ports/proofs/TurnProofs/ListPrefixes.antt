@@ -4,7 +4,7 @@ use Rattle.std.proofs.lemmas.List.{append-nil}
 use mathlib.Core.Option.{some, some-injective, some-ne-none}
 use lib.ListN.{get_elem?}
 use Rattle.atomic_table.proofs.Lists.{at_set}
-use Rattle.sc_thread_ports.specs.turn.Definitions.{StartsWith, longer, shorter, rows_by, Status, put_status}
+use Rattle.sc_thread_ports.specs.turn.TurnDefinitions.{StartsWith, longer, shorter, rows_by, Status, put_status}
 
 module _ {A : Type 0} where
   -- a list begins with itself

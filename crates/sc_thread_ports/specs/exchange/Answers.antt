@@ -3,7 +3,7 @@ use Rattle.std.specs.Prelude.{◌≡◌, ℕ, List, length, Option, None, Some, 
 use Rattle.sc_base.specs.declared.dups.OutOfMemory.{OutOfMemory}
 use Rattle.sc_actor.specs.declared.rows.Row.{Row}
 use Rattle.sc_actor.specs.Definitions.{mails, numbered}
-use Rattle.sc_thread_ledger.specs.Definitions.{kth_pending, copies_for, picked_spot, spots_of}
+use Rattle.sc_thread_ledger.specs.LedgerDefinitions.{kth_pending, copies_for, picked_spot, spots_of}
 use Rattle.sc_thread_ledger.specs.declared.spots.Spot.{Spot}
 use Rattle.sc_thread_ledger.specs.declared.spots.Look.{Look}
 use Rattle.sc_thread_ledger.specs.declared.spots.Glance.{Glance}

@@ -1,10 +1,10 @@
 -- What a port knows of the mail that it has fetched.
 use Rattle.std.specs.Prelude.{◌≡◌, ◌≢◌, ℕ, List, Option, None, Some, ⊤}
-use Rattle.sc_thread_ports.specs.turn.Definitions.{StartsWith as Begins}
+use Rattle.sc_thread_ports.specs.turn.TurnDefinitions.{StartsWith as Begins}
 use Rattle.sc_actor.specs.declared.rows.Row.{Row}
 use Rattle.sc_actor.specs.declared.rows.Event.{Event}
 use Rattle.sc_actor.specs.declared.rows.Event.TheVariants.{Deliver, Drop, Again, Tick, Go, Told, Crash}
-use Rattle.sc_thread_ledger.specs.Definitions.{kth_pending}
+use Rattle.sc_thread_ledger.specs.LedgerDefinitions.{kth_pending}
 use Rattle.sc_thread_ports.specs.exchange.BareRows.{rows_of}
 
 module _ {M O : Type 0} where

@@ -1,12 +1,12 @@
 -- What the contracts of `Port` say of a port.
 use Rattle.std.specs.Prelude.{◌≡◌, ◌≢◌, ℕ, ◌≤◌, Option, None, Some, List, [], ◌∷◌, ◌++◌, length, Bool, true, false, map, Contains, ⊤, Result, IfOk, IfErr, OnErr, MatchBool}
-use Rattle.sc_thread_ports.specs.turn.Definitions.{longer, StartsWith as Begins, known, OfOneStart}
+use Rattle.sc_thread_ports.specs.turn.TurnDefinitions.{longer, StartsWith as Begins, known, OfOneStart}
 use Rattle.sc_actor.specs.declared.rows.Row.{Row}
 use Rattle.sc_actor.specs.declared.rows.Event.{Event}
 use Rattle.sc_actor.specs.declared.rows.Event.TheVariants.{Deliver, Drop, Again, Tick, Go, Told, Crash}
 use Rattle.sc_actor.specs.declared.actors.Parcel.{Ghosts}
 use Rattle.sc_actor.specs.Definitions.{is_crash, row_bytes, journal_bytes}
-use Rattle.sc_thread_ledger.specs.Definitions.{IsCause}
+use Rattle.sc_thread_ledger.specs.LedgerDefinitions.{IsCause}
 use Rattle.sc_thread_ports.specs.declared.exchange.answers.Unposted.{Unposted}
 use Rattle.sc_thread_ports.specs.declared.exchange.fates.Fate.{Fate}
 use Rattle.sc_thread_ports.specs.declared.exchange.ports.Port.{Port}

@@ -2,12 +2,12 @@
 use Rattle.std.specs.Prelude.{◌≡◌, ℕ, List, [], length, Bool, true, false}
 use Rattle.sc_thread_ports.specs.declared.turn.rule.View.{View}
 use Rattle.sc_thread_ports.specs.declared.turn.seat.TurnSeat.{TurnSeat}
-use Rattle.sc_thread_ports.specs.turn.Definitions.{known, OfOneStart, StartsWith, IsTrueOf, entered_with, with_turn, with_row, rows_by}
+use Rattle.sc_thread_ports.specs.turn.TurnDefinitions.{known, OfOneStart, StartsWith, IsTrueOf, entered_with, with_turn, with_row, rows_by}
 use Rattle.sc_actor.specs.declared.actors.Parcel.{Ghosts}
 use Rattle.sc_actor.specs.declared.rows.Row.{Row}
 use Rattle.sc_actor.specs.declared.rows.Event.{Event}
 use Rattle.sc_actor.specs.declared.rows.Event.TheVariants.{Drop, Again}
-use Rattle.sc_thread_ledger.specs.Definitions.{is_pending, may_repeat}
+use Rattle.sc_thread_ledger.specs.LedgerDefinitions.{is_pending, may_repeat}
 use Rattle.sc_thread_ports.specs.declared.exchange.shared.BareRow.{BareRow}
 use Rattle.sc_thread_ports.specs.declared.exchange.shared.Exchange.{Exchange}
 use Rattle.sc_thread_ports.specs.declared.exchange.fates.Fate.{Fate}

@@ -7,7 +7,7 @@ use Rattle.crossbeam_queue.specs.Fifo.{Pushes, Pops, Forks, Learns}
 use Rattle.crossbeam_queue.proofs.Lists.{at_set, at_snoc, at_longer, at_last}
 use Rattle.sc_thread_work.specs.declared.lend.rule.Loan.{Loan}
 use Rattle.sc_thread_work.specs.declared.lend.rule.Clerk.{Clerk}
-use Rattle.sc_thread_work.specs.lend.Definitions.{lender, helper, with_lent, with_held, with_back, IsLoan, AllLoans, Knows, Lent, IsOut, Taken, MayGiveBack, Finished, IsLeft}
+use Rattle.sc_thread_work.specs.lend.LendDefinitions.{lender, helper, with_lent, with_held, with_back, IsLoan, AllLoans, Knows, Lent, IsOut, Taken, MayGiveBack, Finished, IsLeft}
 
 module _ {X : Type 0} (f : X → ℕ) where
   -- the sum after one element is another

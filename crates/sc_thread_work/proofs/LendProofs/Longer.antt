@@ -1,7 +1,7 @@
 -- What one more loan leaves under the numbers of loans.
 use Rattle.std.proofs.Common.{◌≡◌, ℕ, List, [], ◌∷◌, ◌++◌, length, subst, sym}
 use Rattle.crossbeam_queue.proofs.Lists.{at_last, at_longer}
-use Rattle.sc_thread_work.specs.lend.Definitions.{IsLentUnder, IsLonger}
+use Rattle.sc_thread_work.specs.lend.LendDefinitions.{IsLentUnder, IsLonger}
 
 module _ {T : Type 0} (old new : List T) (work : T) (is : new ≡ old ++ work ∷ []) where
   -- what was lent before is lent under the same number

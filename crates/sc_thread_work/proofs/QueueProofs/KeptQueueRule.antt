@@ -9,7 +9,7 @@ use Rattle.sc_thread_work.specs.declared.queue.rule.Item.{Item}
 use Rattle.sc_thread_work.specs.declared.queue.rule.Hand.{Hand}
 use denote.Param.Members.{Shared}
 use Rattle.std.specs.Fn.{FnReturns}
-use Rattle.sc_thread_work.specs.queue.Definitions.{AllWorked, AllInside, Did, Gathers, filled, with_all, weigh, hand, opener, taker, idle, less, joined, with_put, with_taken, numbered, works, AllPlaced, Fits, Kept, HasRoom, KnowsWhole}
+use Rattle.sc_thread_work.specs.queue.QueueDefinitions.{AllWorked, AllInside, Did, Gathers, filled, with_all, weigh, hand, opener, taker, idle, less, joined, with_put, with_taken, numbered, works, AllPlaced, Fits, Kept, HasRoom, KnowsWhole}
 
 module _ {X : Type 0} where
   pub weigh_append : (h : X → ℕ) (xs ys : List X) → weigh h (xs ++ ys) ≡ weigh h xs + weigh h ys

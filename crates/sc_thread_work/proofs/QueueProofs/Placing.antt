@@ -11,7 +11,7 @@ use Rattle.crossbeam_queue.specs.Fifo.{Held}
 use Rattle.sc_thread_work.specs.declared.queue.rule.Item.{Item}
 use Rattle.sc_thread_work.specs.declared.queue.rule.Hand.{Hand}
 use Rattle.sc_thread_work.proofs.QueueProofs.KeptQueueRule.{worked_append}
-use Rattle.sc_thread_work.specs.queue.Definitions.{all_parts, hand, with_all, weigh, numbered, AllPlaced, KnowsWhole, IsWorkedOff, AllWorked, AllInside, AllGiven, IsRight, AllFree, Did, Gathers, filled}
+use Rattle.sc_thread_work.specs.queue.QueueDefinitions.{all_parts, hand, with_all, weigh, numbered, AllPlaced, KnowsWhole, IsWorkedOff, AllWorked, AllInside, AllGiven, IsRight, AllFree, Did, Gathers, filled}
 
 -- 1 for an item with this place
 abbrev pub at_place : {X : Type 0} → ℕ → Item X → ℕ

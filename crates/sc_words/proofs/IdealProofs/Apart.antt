@@ -7,7 +7,7 @@ use Rattle.std.specs.Cmp.Lexicographic.{slice_cmp, nat_list_cmp_total}
 use Rattle.std.specs.FinMap.{get, insert, retain_keys, same_map, get-insert, get-remove, get-retain_keys}
 use Rattle.std.proofs.lemmas.Map.Lookups.{exact_bytes}
 use Rattle.sc_base.specs.declared.ops.Op.TheVariants.{Get, Put, Del, Add, Cas}
-use Rattle.sc_words.specs.ideal.Definitions.{Contents, was, ServesApart}
+use Rattle.sc_words.specs.ideal.IdealDefinitions.{Contents, was, ServesApart}
 
 -- maps that answer alike are one
 pub same_contents : (m n : Contents) → ((q : List ℕ) → get m q ≡ get n q) → m ≡ n

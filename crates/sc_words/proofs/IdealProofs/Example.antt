@@ -5,7 +5,7 @@ use Rattle.std.specs.Ordering.{nat_cmp}
 use Rattle.std.specs.Cmp.Lexicographic.{slice_cmp, nat_list_cmp_total}
 use Rattle.std.specs.FinMap.{empty, get, insert, get-empty, get-insert}
 use Rattle.sc_base.specs.declared.ops.Reply.{Reply}
-use Rattle.sc_words.specs.ideal.Definitions.{Contents, was, Legal, HasStoreReplies, example_entries, AreApart}
+use Rattle.sc_words.specs.ideal.IdealDefinitions.{Contents, was, Legal, HasStoreReplies, example_entries, AreApart}
 
 replied : (old new : Option (List ℕ)) → old ≡ new → ◌≡◌ {A = Reply} (record { old = old }) (record { old = new })
 replied old new e = ap (λ o. record { old = o }) e

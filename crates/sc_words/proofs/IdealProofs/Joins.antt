@@ -9,7 +9,7 @@ use Rattle.std.specs.FinMap.{find, is_sorted, get, insert, entries, get-insert, 
 use Rattle.std.specs.FinMap.Entries.{below_all}
 use Rattle.sc_base.specs.Definitions.{joined, pos_of}
 use Rattle.sc_base.proofs.Lemmas.{joins_hold}
-use Rattle.sc_words.specs.ideal.Definitions.{Contents, holds_key, part_of, with_pairs, MapPartsJoin}
+use Rattle.sc_words.specs.ideal.IdealDefinitions.{Contents, holds_key, part_of, with_pairs, MapPartsJoin}
 use Rattle.sc_words.proofs.IdealProofs.Apart.{same_contents, get-part}
 use lib.Dec.{T}
 

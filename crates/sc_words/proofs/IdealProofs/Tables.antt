@@ -8,7 +8,7 @@ use Rattle.std.proofs.lemmas.Bool.Decides.{nat_tests}
 use Rattle.std.proofs.lemmas.Bool.{lt-ltb, le-ltb, cases_lt}
 use Rattle.sc_base.specs.declared.ops.Noted.{Noted}
 use Rattle.sc_base.proofs.Lemmas.{cond-same}
-use Rattle.sc_words.specs.ideal.Definitions.{ClientTable, is_later, with_later, joined_with, later, JoinedByNumber, JoinedInAnyOrder, Agree, noted_number}
+use Rattle.sc_words.specs.ideal.IdealDefinitions.{ClientTable, is_later, with_later, joined_with, later, JoinedByNumber, JoinedInAnyOrder, Agree, noted_number}
 use Rattle.sc_words.proofs.IdealProofs.Joins.{ties, none_past, sorted_rest}
 use lib.Dec.{T}
 

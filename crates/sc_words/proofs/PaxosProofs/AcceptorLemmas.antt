@@ -5,7 +5,7 @@ use Rattle.std.proofs.lemmas.Bool.{cases_Bool, cond-true, cond-false, ltb-true, 
 use Rattle.sc_base.specs.declared.names.Ballot.{Ballot}
 use Rattle.sc_words.specs.declared.paxos.reports.Report.{Report}
 use Rattle.sc_base.specs.Definitions.{Each}
-use Rattle.sc_words.specs.paxos.Definitions.{below, IsAtLeast, AcceptorState, IsBySlot, IsWholeAcceptor, born_acceptor, last_at, with_report, may_promise, may_accept, after_promise, after_accept, after_cut}
+use Rattle.sc_words.specs.paxos.PaxosDefinitions.{below, IsAtLeast, AcceptorState, IsBySlot, IsWholeAcceptor, born_acceptor, last_at, with_report, may_promise, may_accept, after_promise, after_accept, after_cut}
 use Rattle.sc_words.proofs.PaxosProofs.BallotLemmas.{at_least_trans, at_least_itself, at_least_from_below}
 use Rattle.sc_words.proofs.PaxosProofs.ListLemmas.{Each-among, Each-weaker, Each-append, Each-filter, Each-passes, find_found, find_nothing, find_past, find_within, find_filter}
 

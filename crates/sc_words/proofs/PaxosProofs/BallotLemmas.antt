@@ -5,7 +5,7 @@ use Rattle.std.specs.declared.cmp.Ordering.TheVariants.{Less, Equal, Greater}
 use Rattle.std.proofs.lemmas.Bool.{cases_Bool, cases_lt, cases_order, cond-true, cond-false, lt-ltb, le-ltb, eq-eqb, ne_eqb}
 use Rattle.sc_base.specs.declared.names.Ballot.{Ballot}
 use Rattle.sc_base.proofs.Lemmas.{ballots_equal}
-use Rattle.sc_words.specs.paxos.Definitions.{below, IsAtLeast}
+use Rattle.sc_words.specs.paxos.PaxosDefinitions.{below, IsAtLeast}
 
 less : (m n : ℕ) → m < n → nat_cmp m n ≡ Less
 less m n lt = cond-true (ltb m n) Less (cond (eqb m n) Equal Greater) (lt-ltb m n lt)

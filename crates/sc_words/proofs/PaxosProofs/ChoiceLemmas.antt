@@ -4,7 +4,7 @@ use Rattle.std.specs.List.{fold}
 use Rattle.std.proofs.lemmas.Bool.{cases_Bool, cond-true, cond-false, and_parts, and_cases, eqb-true, eqb-false}
 use Rattle.sc_words.specs.declared.paxos.reports.Report.{Report}
 use Rattle.sc_base.specs.Definitions.{Among, Each}
-use Rattle.sc_words.specs.paxos.Definitions.{below, IsAtLeast, beats, is_better, better_of, choice, IsFirstHighest}
+use Rattle.sc_words.specs.paxos.PaxosDefinitions.{below, IsAtLeast, beats, is_better, better_of, choice, IsFirstHighest}
 use Rattle.sc_words.proofs.PaxosProofs.BallotLemmas.{below_trans, at_least_below, at_least_from_below, at_least_itself}
 use Rattle.sc_words.proofs.PaxosProofs.ListLemmas.{Each-among}
 

@@ -1,5 +1,5 @@
 use Rattle.std.proofs.Common.{◌≡◌, map, take}
-use Rattle.sc_group_table.specs.machine.Definitions.{closed}
+use Rattle.sc_group_table.specs.machine.MachineDefinitions.{closed}
 use Rattle.sc_group.proofs.parties.closed_votes.Given as goal
 
 -- the votes so far

@@ -1,5 +1,5 @@
-use Rattle.sc_law_groups.specs.group.Definitions.{join_scenario, join_example}
-use Rattle.sc_law_groups.specs.whole.Definitions.{join_text}
+use Rattle.sc_law_groups.specs.group.GroupDefinitions.{join_scenario, join_example}
+use Rattle.sc_law_groups.specs.whole.WholeDefinitions.{join_text}
 use Rattle.sc_law_groups.proofs.WholeProofs.Examples.{text_sound, join_is_read}
 use Rattle.sc_law_groups.proofs.whole.a_join_is_sound.Goals as goal
 

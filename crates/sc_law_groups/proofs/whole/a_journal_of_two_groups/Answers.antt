@@ -1,4 +1,4 @@
-use Rattle.sc_law_groups.specs.whole.Definitions.{two_text, two_scenario, two_example}
+use Rattle.sc_law_groups.specs.whole.WholeDefinitions.{two_text, two_scenario, two_example}
 use Rattle.sc_law_groups.proofs.WholeProofs.Examples.{text_sound, two_are_read}
 use Rattle.sc_law_groups.proofs.WholeProofs.TwoGroups.{two_is_lawful}
 use Rattle.sc_law_groups.proofs.whole.a_journal_of_two_groups.Goals as goal

@@ -1,5 +1,5 @@
 use Rattle.std.proofs.Common.{refl}
-use Rattle.sc_law_groups.specs.whole.Definitions.{split_scenario, split_example, split_text}
+use Rattle.sc_law_groups.specs.whole.WholeDefinitions.{split_scenario, split_example, split_text}
 use Rattle.sc_law_groups.proofs.WholeProofs.Examples.{text_sound, split_is_read}
 use Rattle.sc_law_groups.proofs.WholeProofs.SplitExample.{split_is_lawful}
 use Rattle.sc_law_groups.proofs.whole.a_journal_with_a_split.Goals as goal

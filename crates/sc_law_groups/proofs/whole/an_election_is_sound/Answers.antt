@@ -1,5 +1,5 @@
-use Rattle.sc_law_groups.specs.group.Definitions.{election_scenario, election_example}
-use Rattle.sc_law_groups.specs.whole.Definitions.{election_text}
+use Rattle.sc_law_groups.specs.group.GroupDefinitions.{election_scenario, election_example}
+use Rattle.sc_law_groups.specs.whole.WholeDefinitions.{election_text}
 use Rattle.sc_law_groups.proofs.WholeProofs.Examples.{text_sound, election_is_read}
 use Rattle.sc_law_groups.proofs.whole.an_election_is_sound.Goals as goal
 

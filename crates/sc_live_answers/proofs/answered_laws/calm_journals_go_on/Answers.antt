@@ -11,13 +11,13 @@ use Rattle.sc_live_answers.proofs.QuietProofs.QuietPrefixLaws.{prefixes_are_foun
 use Rattle.sc_live_answers.proofs.LedMailProofs.WellLedLeaders.{well_led_lead_alone}
 use Rattle.sc_live_answers.proofs.RequestsProofs.RequestLaws.{lawful_replicas_are_named_once}
 use Rattle.sc_live_answers.proofs.ReplicasProofs.PlayerViews.{views_agree}
-use Rattle.sc_live_journals.proofs.MailProofs.Lemmas.{desks_are_not_born, mail_is_posted, replicas_last}
-use Rattle.sc_live_journals.proofs.ChartsProofs.Lemmas.{charts_follow, quiet_charts_rest}
+use Rattle.sc_live_journals.proofs.MailProofs.MailLemmas.{desks_are_not_born, mail_is_posted, replicas_last}
+use Rattle.sc_live_journals.proofs.ChartsProofs.ChartLemmas.{charts_follow, quiet_charts_rest}
 use Rattle.sc_live_answers.proofs.LinesProofs.SettingLaws.{quiet_journals_have_frames}
 use Rattle.sc_live_answers.proofs.AnswersProofs.CalmRowLaws.{chart_hints_rise, order_charts_follow}
 use Rattle.sc_live_answers.proofs.AnswersProofs.AnswerLaws.{calm_journals_are_short, orders_may_be_given}
-use Rattle.sc_live_plain.proofs.Lemmas.{calm_lines_are_spaced, roomy_scenarios_are_calm}
-use Rattle.sc_live_steps.proofs.CalmStepsProofs.Lemmas.{kept_calm_is_measured, resting_owes_little}
+use Rattle.sc_live_plain.proofs.PlainLemmas.{calm_lines_are_spaced, roomy_scenarios_are_calm}
+use Rattle.sc_live_steps.proofs.CalmStepsProofs.CalmStepLemmas.{kept_calm_is_measured, resting_owes_little}
 use Rattle.sc_live_answers.proofs.answered_laws.calm_journals_go_on.Goals as goal
 
 pub returns : goal.returns

@@ -1,6 +1,6 @@
 use Rattle.std.proofs.Common.{◌≡◌, take}
 use Rattle.std.specs.List.{sum_by}
-use Rattle.sc_words.specs.commands.Definitions.{capped}
+use Rattle.sc_words.specs.commands.CommandDefinitions.{capped}
 use Rattle.sc_mail.specs.Definitions.{report_weight}
 use Rattle.sc_mail.proofs.weights.reports_weight.Given as goal
 

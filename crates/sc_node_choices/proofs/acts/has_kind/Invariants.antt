@@ -1,6 +1,6 @@
 use Rattle.std.proofs.Common.{◌≡◌, drop}
 use Rattle.std.specs.List.{list_any}
-use Rattle.sc_node_table.specs.Definitions.{is_of_kind}
+use Rattle.sc_node_table.specs.NodeDefinitions.{is_of_kind}
 use Rattle.sc_node_choices.proofs.acts.has_kind.Given as goal
 
 -- none so far

@@ -1,5 +1,5 @@
 use Rattle.std.proofs.Common.{◌≡◌, ◌++◌, ◌+◌, filter}
-use Rattle.sc_node_table.specs.Definitions.{nodes_to, is_in_some}
+use Rattle.sc_node_table.specs.NodeDefinitions.{nodes_to, is_in_some}
 use Rattle.sc_node_choices.proofs.Numbers.{numbers_to}
 use Rattle.sc_node_choices.proofs.nodes.nodes_to.Given as goal
 

@@ -1,5 +1,5 @@
 use Rattle.std.proofs.Common.{◌≡◌, filter, not, take}
-use Rattle.sc_words.specs.paxos.Definitions.{has_counted}
+use Rattle.sc_words.specs.paxos.PaxosDefinitions.{has_counted}
 use Rattle.sc_node_choices.proofs.nodes.uncounted.Given as goal
 
 -- those so far

@@ -1,5 +1,5 @@
 use Rattle.std.proofs.Common.{◌≡◌, take}
-use Rattle.sc_words.specs.paxos.Definitions.{reports_from}
+use Rattle.sc_words.specs.paxos.PaxosDefinitions.{reports_from}
 use Rattle.sc_paxos.proofs.acceptor.reports_from.Given as goal
 
 abbrev pub invariant-loop-report : goal.invariant-loop-report

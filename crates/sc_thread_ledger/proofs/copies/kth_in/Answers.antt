@@ -1,7 +1,7 @@
 use Rattle.std.proofs.Common.{sym, ap, ◌∙◌, ◌+◌, drop, get_or, arith}
 use Rattle.std.proofs.lemmas.List.{drop_more}
 use Rattle.sc_actor.specs.Definitions.{kth}
-use Rattle.sc_thread_ledger.specs.Definitions.{copies_in}
+use Rattle.sc_thread_ledger.specs.LedgerDefinitions.{copies_in}
 use Rattle.sc_actor.proofs.Lemmas.{kth-here, kth-past}
 use Rattle.sc_thread_ledger.proofs.copies.kth_in.Goals as goal
 

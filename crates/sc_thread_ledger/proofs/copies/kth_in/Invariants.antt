@@ -1,6 +1,6 @@
 use Rattle.std.proofs.Common.{◌≡◌, ◌<◌, drop}
 use Rattle.sc_actor.specs.Definitions.{kth}
-use Rattle.sc_thread_ledger.specs.Definitions.{copies_in}
+use Rattle.sc_thread_ledger.specs.LedgerDefinitions.{copies_in}
 use Rattle.sc_thread_ledger.proofs.copies.kth_in.Given as goal
 
 -- what is left to find among the entries that are left

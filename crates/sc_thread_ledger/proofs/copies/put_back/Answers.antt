@@ -1,5 +1,5 @@
 use Rattle.std.proofs.Common.{rules, ◌≡◌, sym, ap, ◌∙◌, ◌≤◌, subst, length}
-use Rattle.sc_thread_ledger.specs.Definitions.{lower}
+use Rattle.sc_thread_ledger.specs.LedgerDefinitions.{lower}
 use Rattle.sc_thread_ledger.proofs.Entries.{lower_most}
 use Rattle.sc_thread_ledger.proofs.copies.put_back.Goals as goal
 

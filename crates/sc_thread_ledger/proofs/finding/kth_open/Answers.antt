@@ -1,6 +1,6 @@
 use Rattle.std.proofs.Common.{ap, sym, ◌∙◌, subst, arith, ◌+◌, ◌-◌, ◌<◌, ◌≤◌, cond, get_or, drop}
 use Rattle.sc_actor.specs.Definitions.{numbers, kth}
-use Rattle.sc_thread_ledger.specs.Definitions.{counts_for}
+use Rattle.sc_thread_ledger.specs.LedgerDefinitions.{counts_for}
 use Rattle.sc_actor.proofs.Lemmas.{kth-later, kth-found, numbers-end, kth-none, get_at}
 use Rattle.sc_thread_ledger.proofs.finding.kth_open.Goals as goal
 

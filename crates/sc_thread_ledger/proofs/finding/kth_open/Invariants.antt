@@ -1,6 +1,6 @@
 use Rattle.std.proofs.Common.{◌≡◌, ◌<◌, ◌+◌, drop}
 use Rattle.sc_actor.specs.Definitions.{numbers, kth}
-use Rattle.sc_thread_ledger.specs.Definitions.{counts_for}
+use Rattle.sc_thread_ledger.specs.LedgerDefinitions.{counts_for}
 use Rattle.sc_thread_ledger.proofs.finding.kth_open.Given as goal
 
 -- what is left to find among the mails that are left

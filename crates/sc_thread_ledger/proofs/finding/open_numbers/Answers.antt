@@ -1,6 +1,6 @@
 use Rattle.std.proofs.Common.{sym, ap, ◌∙◌, arith, ◌+◌, ◌++◌}
 use Rattle.std.proofs.lemmas.List.{append-nil}
-use Rattle.sc_thread_ledger.specs.Definitions.{counts_for}
+use Rattle.sc_thread_ledger.specs.LedgerDefinitions.{counts_for}
 use Rattle.sc_actor.proofs.Lemmas.{numbers-end}
 use Rattle.sc_thread_ledger.proofs.finding.open_numbers.Goals as goal
 

@@ -1,6 +1,6 @@
 use Rattle.std.proofs.Common.{◌≡◌, ◌+◌, ◌++◌, drop}
 use Rattle.sc_actor.specs.Definitions.{numbers}
-use Rattle.sc_thread_ledger.specs.Definitions.{counts_for}
+use Rattle.sc_thread_ledger.specs.LedgerDefinitions.{counts_for}
 use Rattle.sc_thread_ledger.proofs.finding.open_numbers.Given as goal
 
 -- what was found, and what is left to find among the mails that are left

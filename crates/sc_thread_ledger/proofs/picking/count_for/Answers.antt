@@ -1,5 +1,5 @@
 use Rattle.std.proofs.Common.{ap, ◌∙◌, arith}
-use Rattle.sc_thread_ledger.specs.Definitions.{is_one_of}
+use Rattle.sc_thread_ledger.specs.LedgerDefinitions.{is_one_of}
 use Rattle.sc_thread_ledger.proofs.OneCopy.{counted_on, fits_on}
 use Rattle.sc_thread_ledger.proofs.picking.count_for.Goals as goal
 

@@ -1,5 +1,5 @@
 use Rattle.std.proofs.Common.{◌≡◌, length, take}
-use Rattle.sc_thread_ledger.specs.Definitions.{copies_in, copies_for, spots_from}
+use Rattle.sc_thread_ledger.specs.LedgerDefinitions.{copies_in, copies_for, spots_from}
 use Rattle.sc_thread_ledger.proofs.picking.count_for.Given as goal
 
 -- the number of copies that are for them so far

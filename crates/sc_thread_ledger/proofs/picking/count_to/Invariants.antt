@@ -1,5 +1,5 @@
 use Rattle.std.proofs.Common.{◌≡◌, ◌==◌, length, take, filter}
-use Rattle.sc_thread_ledger.specs.Definitions.{copies_in, spots_from}
+use Rattle.sc_thread_ledger.specs.LedgerDefinitions.{copies_in, spots_from}
 use Rattle.sc_thread_ledger.proofs.picking.count_to.Given as goal
 
 -- the number of copies that have it so far

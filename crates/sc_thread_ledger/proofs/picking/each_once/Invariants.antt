@@ -1,5 +1,5 @@
 use Rattle.std.proofs.Common.{◌≡◌, take}
-use Rattle.sc_thread_ledger.specs.Definitions.{copies_in}
+use Rattle.sc_thread_ledger.specs.LedgerDefinitions.{copies_in}
 use Rattle.sc_thread_ledger.proofs.picking.each_once.Given as goal
 
 abbrev pub invariant-loop-number : goal.invariant-loop-number

@@ -1,5 +1,5 @@
 use Rattle.std.proofs.Common.{Some, ap, sym, ◌∙◌, arith}
-use Rattle.sc_thread_ledger.specs.Definitions.{is_one_of}
+use Rattle.sc_thread_ledger.specs.LedgerDefinitions.{is_one_of}
 use Rattle.sc_thread_ledger.proofs.OneCopy.{found_none, found_now, found_fits, left_on}
 use Rattle.sc_thread_ledger.proofs.picking.nth_for.Goals as goal
 

@@ -1,5 +1,5 @@
 use Rattle.std.proofs.Common.{◌≡◌, ◌+◌, length, take}
-use Rattle.sc_thread_ledger.specs.Definitions.{copies_in, copies_for, spots_from}
+use Rattle.sc_thread_ledger.specs.LedgerDefinitions.{copies_in, copies_for, spots_from}
 use Rattle.sc_thread_ledger.proofs.picking.nth_for.Given as goal
 
 -- how far the place is from those so far

@@ -1,5 +1,5 @@
 use Rattle.std.proofs.Common.{sym, ◌∙◌, arith}
-use Rattle.sc_thread_ledger.specs.Definitions.{copies_in, copies_for, spots_from, is_one_of}
+use Rattle.sc_thread_ledger.specs.LedgerDefinitions.{copies_in, copies_for, spots_from, is_one_of}
 use Rattle.sc_thread_ledger.proofs.OneCopy.{picked_none, picked_some, kept_few}
 use Rattle.sc_thread_ledger.proofs.picking.picked.Goals as goal
 

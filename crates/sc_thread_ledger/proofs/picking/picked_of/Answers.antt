@@ -1,5 +1,5 @@
 use Rattle.std.proofs.Common.{◌∙◌, refl, ap}
-use Rattle.sc_thread_ledger.specs.Definitions.{copies_in}
+use Rattle.sc_thread_ledger.specs.LedgerDefinitions.{copies_in}
 use Rattle.sc_thread_ledger.proofs.OneCopy.{picked_at}
 use Rattle.sc_thread_ledger.proofs.picking.picked_of.Goals as goal
 

@@ -1,5 +1,5 @@
 use Rattle.std.proofs.Common.{ℕ, ap, arith, length, filter, take, eqb}
-use Rattle.sc_thread_ledger.specs.Definitions.{copies_in, spots_from}
+use Rattle.sc_thread_ledger.specs.LedgerDefinitions.{copies_in, spots_from}
 use Rattle.sc_thread_ledger.specs.declared.spots.Spot.{Spot}
 use Rattle.sc_thread_ledger.proofs.picking.spot_behind.Goals as goal
 

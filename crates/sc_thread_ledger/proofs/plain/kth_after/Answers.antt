@@ -1,6 +1,6 @@
 use Rattle.std.proofs.Common.{take, map, arith, ap, ◌∙◌}
 use Rattle.sc_actor.specs.Definitions.{mails, copies}
-use Rattle.sc_thread_ledger.specs.Definitions.{crashed_in}
+use Rattle.sc_thread_ledger.specs.LedgerDefinitions.{crashed_in}
 use Rattle.sc_thread_ledger.proofs.MailPlaces.{take_row, take_whole, few_taken}
 use Rattle.sc_thread_ledger.proofs.Kept.{small_taken, kept_counts, kept_receivers, kept_crashed}
 use Rattle.sc_thread_ledger.proofs.Open.{kth_is}

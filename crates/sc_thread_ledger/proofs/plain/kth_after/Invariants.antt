@@ -1,6 +1,6 @@
 use Rattle.std.proofs.Common.{◌≡◌, map, take}
 use Rattle.sc_actor.specs.Definitions.{mails, copies}
-use Rattle.sc_thread_ledger.specs.Definitions.{crashed_in}
+use Rattle.sc_thread_ledger.specs.LedgerDefinitions.{crashed_in}
 use Rattle.sc_thread_ledger.proofs.plain.kth_after.Given as goal
 
 abbrev pub invariant-loop-row : goal.invariant-loop-row

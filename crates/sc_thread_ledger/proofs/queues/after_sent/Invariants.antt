@@ -1,5 +1,5 @@
 use Rattle.std.proofs.Common.{◌≡◌, ◌+◌, ◌++◌, length, map, replicate, take}
-use Rattle.sc_thread_ledger.specs.Definitions.{Holds}
+use Rattle.sc_thread_ledger.specs.LedgerDefinitions.{Holds}
 use Rattle.sc_thread_ledger.proofs.queues.after_sent.Given as goal
 
 abbrev pub invariant-loop-mail : goal.invariant-loop-mail

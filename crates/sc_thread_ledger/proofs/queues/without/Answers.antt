@@ -1,5 +1,5 @@
 use Rattle.std.proofs.Common.{sym, ap, ◌∙◌, refl, arith, ◌+◌, ◌++◌, ◌∷◌, []}
-use Rattle.sc_thread_ledger.specs.Definitions.{counts_for}
+use Rattle.sc_thread_ledger.specs.LedgerDefinitions.{counts_for}
 use Rattle.sc_thread_ledger.proofs.Holding.{take_here, take_other}
 use Rattle.sc_thread_ledger.proofs.queues.without.Goals.{then-stays+in_ok-add_last, else-stays}
 use Rattle.sc_thread_ledger.proofs.queues.without.Goals as goal

@@ -1,5 +1,5 @@
 use Rattle.std.proofs.Common.{◌≡◌, ◌++◌, ◌∷◌, [], take}
-use Rattle.sc_thread_ledger.specs.Definitions.{counts_for, open_entries}
+use Rattle.sc_thread_ledger.specs.LedgerDefinitions.{counts_for, open_entries}
 use Rattle.sc_thread_ledger.proofs.queues.without.Given as goal
 
 -- what is pending of the mails so far

@@ -1,5 +1,5 @@
 use Rattle.std.proofs.Common.{subst, sym, []}
-use Rattle.sc_thread_ledger.specs.Definitions.{AreCounted}
+use Rattle.sc_thread_ledger.specs.LedgerDefinitions.{AreCounted}
 use Rattle.sc_thread_ledger.proofs.Counted.{counted_none}
 use Rattle.sc_thread_ledger.proofs.spots.no_counts.Goals as goal
 

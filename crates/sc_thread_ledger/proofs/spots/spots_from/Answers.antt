@@ -1,5 +1,5 @@
 use Rattle.std.proofs.Common.{rules, ◌≡◌, ◌<◌, sym, subst, length, get_or, arith}
-use Rattle.sc_thread_ledger.specs.Definitions.{AreCounted, IsNext, spot_after}
+use Rattle.sc_thread_ledger.specs.LedgerDefinitions.{AreCounted, IsNext, spot_after}
 use Rattle.sc_thread_ledger.proofs.Counted.{next_spots}
 use Rattle.sc_thread_ledger.proofs.spots.spots_from.Goals as goal
 

@@ -1,5 +1,5 @@
 use Rattle.std.proofs.Common.{◌≡◌, take}
-use Rattle.sc_thread_ledger.specs.Definitions.{AreCounted, spots_from}
+use Rattle.sc_thread_ledger.specs.LedgerDefinitions.{AreCounted, spots_from}
 use Rattle.sc_thread_ledger.proofs.spots.spots_from.Given as goal
 
 abbrev pub invariant-loop-number : goal.invariant-loop-number

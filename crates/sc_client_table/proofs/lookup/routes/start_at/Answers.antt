@@ -1,6 +1,6 @@
 use Rattle.std.proofs.Common.{is_some, ap, ◌∙◌}
 use Rattle.sc_base.specs.Definitions.{same_draw}
-use Rattle.sc_client_table.specs.lookup.Definitions.{way_to}
+use Rattle.sc_client_table.specs.lookup.LookupDefinitions.{way_to}
 use Rattle.sc_client_table.proofs.LookupProofs.KnownLemmas.{set_value-known}
 use Rattle.sc_client_table.proofs.lookup.routes.start_at.Goals as goal
 

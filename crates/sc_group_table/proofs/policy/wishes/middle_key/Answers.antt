@@ -4,7 +4,7 @@ use Rattle.std.specs.Prelude.{unwrap_or}
 use Rattle.std.proofs.lemmas.Option.{unwrap_or-slice_get}
 use Rattle.std.proofs.lemmas.List.{get_or_append_left, get_or-append_right}
 use Rattle.std.proofs.Math.Nat.{mod-eq_of_lt}
-use Rattle.sc_group_table.specs.policy.Definitions.{positions}
+use Rattle.sc_group_table.specs.policy.PolicyDefinitions.{positions}
 use Rattle.sc_group_table.proofs.policy.wishes.middle_key.Goals as goal
 use Rattle.sc_group_table.proofs.policy.wishes.middle_key.Goals.{then-middle-above, else-middle-above}
 

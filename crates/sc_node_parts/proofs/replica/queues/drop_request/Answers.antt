@@ -1,5 +1,5 @@
 use Rattle.std.proofs.Common.{sym, ap, length, ◌∙◌, arith}
-use Rattle.sc_node_table.specs.Definitions.{without_request}
+use Rattle.sc_node_table.specs.NodeDefinitions.{without_request}
 use Rattle.sc_node_parts.proofs.ReplicaProofs.Places.{remove_here}
 use Rattle.sc_node_parts.proofs.replica.queues.drop_request.Goals as goal
 

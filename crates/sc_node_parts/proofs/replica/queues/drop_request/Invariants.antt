@@ -1,5 +1,5 @@
 use Rattle.std.proofs.Common.{◌≡◌, ◌++◌, take, drop}
-use Rattle.sc_node_table.specs.Definitions.{without_request}
+use Rattle.sc_node_table.specs.NodeDefinitions.{without_request}
 use Rattle.sc_node_parts.proofs.replica.queues.drop_request.Given as goal
 
 -- it is not among those so far

@@ -1,5 +1,5 @@
 use Rattle.std.proofs.Common.{◌≡◌, drop}
-use Rattle.sc_node_table.specs.Definitions.{queued_number}
+use Rattle.sc_node_table.specs.NodeDefinitions.{queued_number}
 use Rattle.sc_node_parts.proofs.replica.queues.queued_number.Given as goal
 
 -- it is not among those so far

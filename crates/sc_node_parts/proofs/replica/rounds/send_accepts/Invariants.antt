@@ -1,6 +1,6 @@
 use Rattle.std.proofs.Common.{◌≡◌, drop}
 use Rattle.sc_node_table.specs.Values.{Accept}
-use Rattle.sc_node_table.specs.Definitions.{sent_all}
+use Rattle.sc_node_table.specs.NodeDefinitions.{sent_all}
 use Rattle.sc_node_parts.proofs.replica.rounds.send_accepts.Given as goal
 
 -- what is left makes the whole

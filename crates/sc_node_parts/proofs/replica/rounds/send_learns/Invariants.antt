@@ -1,6 +1,6 @@
 use Rattle.std.proofs.Common.{◌≡◌, drop}
 use Rattle.sc_node_table.specs.Values.{Learn}
-use Rattle.sc_node_table.specs.Definitions.{sent_others}
+use Rattle.sc_node_table.specs.NodeDefinitions.{sent_others}
 use Rattle.sc_node_parts.proofs.replica.rounds.send_learns.Given as goal
 
 -- what is left makes the whole

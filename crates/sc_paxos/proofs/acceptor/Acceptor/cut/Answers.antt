@@ -1,7 +1,7 @@
 use Rattle.std.proofs.Common.{ℕ, List, sym, subst}
 use Rattle.sc_words.specs.declared.paxos.reports.Report.{Report}
-use Rattle.sc_words.specs.paxos.Definitions.{IsWholeAcceptor}
-use Rattle.sc_words.proofs.PaxosProofs.Lemmas.{whole_by_cut}
+use Rattle.sc_words.specs.paxos.PaxosDefinitions.{IsWholeAcceptor}
+use Rattle.sc_words.proofs.PaxosProofs.PaxosLemmas.{whole_by_cut}
 use Rattle.sc_paxos.proofs.acceptor.Acceptor.cut.Goals as goal
 
 pub invariant_of-self : goal.invariant_of-self

@@ -1,9 +1,9 @@
 use Rattle.std.proofs.Common.{rules, ◌≡◌, ◌<◌, false, List, sym, subst}
 use Rattle.std.proofs.lemmas.Bool.{not_from_false}
 use Rattle.sc_words.specs.declared.paxos.reports.Report.{Report}
-use Rattle.sc_words.specs.paxos.Definitions.{below, IsWholeAcceptor}
-use Rattle.sc_words.proofs.PaxosProofs.Lemmas.{whole_by_accept}
-use Rattle.sc_paxos.specs.Definitions.{Roomy}
+use Rattle.sc_words.specs.paxos.PaxosDefinitions.{below, IsWholeAcceptor}
+use Rattle.sc_words.proofs.PaxosProofs.PaxosLemmas.{whole_by_accept}
+use Rattle.sc_paxos.specs.PaxosDefinitions.{Roomy}
 use Rattle.sc_paxos.proofs.acceptor.Acceptor.on_accept.Goals as goal
 
 pub invariant_of-self : goal.invariant_of-self

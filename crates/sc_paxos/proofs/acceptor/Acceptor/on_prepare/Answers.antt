@@ -1,5 +1,5 @@
 use Rattle.std.proofs.Common.{rules}
-use Rattle.sc_words.proofs.PaxosProofs.Lemmas.{whole_by_promise}
+use Rattle.sc_words.proofs.PaxosProofs.PaxosLemmas.{whole_by_promise}
 use Rattle.sc_paxos.proofs.acceptor.Acceptor.on_prepare.Goals as goal
 
 pub invariant_of-self : goal.invariant_of-self

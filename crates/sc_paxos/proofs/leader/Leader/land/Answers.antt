@@ -1,6 +1,6 @@
 use Rattle.std.proofs.Common.{◌∙◌, sym, subst, ap}
-use Rattle.sc_words.specs.paxos.Definitions.{flight_at}
-use Rattle.sc_paxos.specs.Definitions.{IsOneEach}
+use Rattle.sc_words.specs.paxos.PaxosDefinitions.{flight_at}
+use Rattle.sc_paxos.specs.PaxosDefinitions.{IsOneEach}
 use Rattle.sc_paxos.proofs.Flying.{one_without, gone}
 use Rattle.sc_paxos.proofs.leader.Leader.land.Goals as goal
 

@@ -1,6 +1,6 @@
 use Rattle.std.proofs.Common.{◌∙◌, None, sym, subst, ap}
-use Rattle.sc_words.specs.paxos.Definitions.{LeaderState, flight_at}
-use Rattle.sc_paxos.specs.Definitions.{IsOneEach}
+use Rattle.sc_words.specs.paxos.PaxosDefinitions.{LeaderState, flight_at}
+use Rattle.sc_paxos.specs.PaxosDefinitions.{IsOneEach}
 use Rattle.sc_paxos.proofs.Flying.{one_with}
 use Rattle.sc_paxos.proofs.leader.Leader.offer.Goals as goal
 

@@ -4,8 +4,8 @@ use Rattle.sc_base.specs.Definitions.{is_majority}
 use Rattle.sc_words.specs.declared.paxos.flights.Flight.{Flight}
 use Rattle.sc_words.specs.declared.paxos.answers.Counted.{Counted}
 use Rattle.sc_words.specs.declared.paxos.answers.Counted.TheVariants.{Chosen}
-use Rattle.sc_words.specs.paxos.Definitions.{LeaderState, flight_at, kept_voters, counted}
-use Rattle.sc_paxos.specs.Definitions.{IsOneEach}
+use Rattle.sc_words.specs.paxos.PaxosDefinitions.{LeaderState, flight_at, kept_voters, counted}
+use Rattle.sc_paxos.specs.PaxosDefinitions.{IsOneEach}
 use Rattle.sc_paxos.proofs.Flying.{one_without, one_written}
 use Rattle.sc_paxos.proofs.Counting.{no_majority, majority, something}
 use Rattle.sc_paxos.proofs.leader.Leader.on_accepted.Goals as goal

@@ -1,6 +1,6 @@
 use Rattle.std.proofs.Common.{◌∙◌, refl, ap, arith}
 use Rattle.sc_actor.specs.Definitions.{numbers}
-use Rattle.sc_thread_ledger.specs.Definitions.{counts_for, copies_for, picked_spot, spots_from, spots_of}
+use Rattle.sc_thread_ledger.specs.LedgerDefinitions.{counts_for, copies_for, picked_spot, spots_from, spots_of}
 use Rattle.sc_thread_ledger.proofs.Kept.{few_mails}
 use Rattle.sc_thread_ledger.proofs.Spotting.{look_spots, look_each}
 use Rattle.sc_thread_ledger.proofs.ledger.Ledger.glance.Goals as goal

@@ -1,5 +1,5 @@
 use Rattle.std.proofs.Common.{◌∙◌, ap, length, arith}
-use Rattle.sc_thread_ledger.specs.Definitions.{spots_from}
+use Rattle.sc_thread_ledger.specs.LedgerDefinitions.{spots_from}
 use Rattle.sc_thread_ledger.proofs.Kept.{few_mails}
 use Rattle.sc_thread_ledger.proofs.Spotting.{look_spots, look_each}
 use Rattle.sc_thread_ledger.proofs.ledger.Ledger.look.Goals as goal

@@ -1,5 +1,5 @@
 use Rattle.std.proofs.Common.{arith, sym, ◌∙◌, ◌-◌}
-use Rattle.sc_thread_ledger.specs.Definitions.{runs}
+use Rattle.sc_thread_ledger.specs.LedgerDefinitions.{runs}
 use Rattle.sc_actor.proofs.Lemmas.{get_at}
 use Rattle.sc_thread_ledger.proofs.Open.{repeat_here}
 use Rattle.sc_thread_ledger.proofs.ledger.Ledger.may_repeat.Goals as goal

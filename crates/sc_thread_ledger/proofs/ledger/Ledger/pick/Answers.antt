@@ -1,6 +1,6 @@
 use Rattle.std.proofs.Common.{◌∙◌, length, ap, arith}
 use Rattle.sc_actor.specs.Definitions.{numbers}
-use Rattle.sc_thread_ledger.specs.Definitions.{counts_for, copies_in}
+use Rattle.sc_thread_ledger.specs.LedgerDefinitions.{counts_for, copies_in}
 use Rattle.sc_thread_ledger.proofs.Holding.{held, queue_all}
 use Rattle.sc_thread_ledger.proofs.OneCopy.{picked_at}
 use Rattle.sc_thread_ledger.proofs.ledger.Ledger.pick.Goals as goal

@@ -1,5 +1,5 @@
 use Rattle.std.proofs.Common.{rules, ◌≡◌, true, false}
-use Rattle.sc_thread_ledger.specs.Definitions.{runs}
+use Rattle.sc_thread_ledger.specs.LedgerDefinitions.{runs}
 use Rattle.sc_thread_ledger.proofs.Holding.{holds_new_not, add_done}
 use Rattle.sc_thread_ledger.proofs.queues.Queues.add.Goals as goal
 

@@ -1,6 +1,6 @@
 use Rattle.std.proofs.Common.{rules, ◌≡◌, ◌-◌, ◌<◌, true, false, refl, sym, subst, cond, length, get_or, arith, OnOk}
 use Rattle.sc_actor.specs.Definitions.{one_less, one_more}
-use Rattle.sc_thread_ledger.specs.Definitions.{runs, Holds}
+use Rattle.sc_thread_ledger.specs.LedgerDefinitions.{runs, Holds}
 use Rattle.sc_thread_ledger.proofs.Holding.{change_not, more_done, less_done}
 use Rattle.sc_thread_ledger.proofs.queues.Queues.change.Goals as goal
 

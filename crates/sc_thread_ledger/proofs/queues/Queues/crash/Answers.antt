@@ -1,5 +1,5 @@
 use Rattle.std.proofs.Common.{◌-◌, ap, ◌∙◌, refl, set, arith}
-use Rattle.sc_thread_ledger.specs.Definitions.{kept}
+use Rattle.sc_thread_ledger.specs.LedgerDefinitions.{kept}
 use Rattle.sc_thread_ledger.proofs.Entries.{map_set}
 use Rattle.sc_thread_ledger.proofs.Holding.{crash_out, crash_own}
 use Rattle.sc_thread_ledger.proofs.queues.Queues.crash.Goals.{else-who-gt0-via-then-who-gt0+else-who-actors, else-who-gt0-via-else-who-gt0}

@@ -1,5 +1,5 @@
 use Rattle.std.proofs.Common.{◌-◌, [], arith}
-use Rattle.sc_thread_ledger.specs.Definitions.{recounted}
+use Rattle.sc_thread_ledger.specs.LedgerDefinitions.{recounted}
 use Rattle.sc_thread_ledger.proofs.Entries.{changed_one}
 use Rattle.sc_thread_ledger.proofs.queues.Queues.set_copies.Goals as goal
 

@@ -1,5 +1,5 @@
 use Rattle.std.proofs.Common.{ap, ◌∙◌, ◌++◌, ◌∷◌, []}
-use Rattle.sc_thread_ports.specs.exchange.Definitions.{bare_rows, all_addressed}
+use Rattle.sc_thread_ports.specs.exchange.ExchangeDefinitions.{bare_rows, all_addressed}
 use Rattle.sc_thread_ports.proofs.ExchangeProofs.Done.{bare_rows-push}
 use Rattle.sc_thread_ports.proofs.ExchangeProofs.Addressing.{addressed_push}
 use Rattle.sc_thread_ports.proofs.exchange.turns.append_row.Goals as goal

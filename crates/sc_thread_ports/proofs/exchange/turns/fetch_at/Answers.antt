@@ -1,7 +1,7 @@
 use Rattle.std.proofs.Common.{rules, ◌≡◌, ap, ◌∙◌, sym, subst, None, Some}
-use Rattle.sc_thread_ports.specs.turn.Definitions.{known}
-use Rattle.sc_thread_ledger.specs.Definitions.{kth_pending}
-use Rattle.sc_thread_ports.specs.exchange.Definitions.{rows_from, IsFetch}
+use Rattle.sc_thread_ports.specs.turn.TurnDefinitions.{known}
+use Rattle.sc_thread_ledger.specs.LedgerDefinitions.{kth_pending}
+use Rattle.sc_thread_ports.specs.exchange.ExchangeDefinitions.{rows_from, IsFetch}
 use Rattle.sc_thread_ports.proofs.ExchangeProofs.Results.{ok_maps}
 use Rattle.sc_thread_ports.proofs.ExchangeProofs.Views.{seen_same}
 use Rattle.sc_thread_ports.proofs.ExchangeProofs.SeatsAfterTurns.{seat_looked}

@@ -1,6 +1,6 @@
 use Rattle.std.proofs.Common.{ap, sym, ◌∙◌, subst}
-use Rattle.sc_thread_ports.specs.turn.Definitions.{known}
-use Rattle.sc_thread_ports.specs.exchange.Definitions.{IsFirstTo}
+use Rattle.sc_thread_ports.specs.turn.TurnDefinitions.{known}
+use Rattle.sc_thread_ports.specs.exchange.ExchangeDefinitions.{IsFirstTo}
 use Rattle.sc_thread_ports.proofs.ExchangeProofs.Views.{seen_same}
 use Rattle.sc_thread_ports.proofs.ExchangeProofs.SeatsAfterTurns.{seat_looked}
 use Rattle.sc_thread_ports.proofs.exchange.turns.first_at.Goals as goal

@@ -1,6 +1,6 @@
 use Rattle.std.proofs.Common.{◌∙◌, inl}
-use Rattle.sc_thread_ports.specs.turn.Definitions.{known}
-use Rattle.sc_thread_ports.specs.exchange.Definitions.{bare_rows}
+use Rattle.sc_thread_ports.specs.turn.TurnDefinitions.{known}
+use Rattle.sc_thread_ports.specs.exchange.ExchangeDefinitions.{bare_rows}
 use Rattle.sc_thread_ports.proofs.ExchangeProofs.Done.{left_same}
 use Rattle.sc_thread_ports.proofs.exchange.turns.keep_same.Goals as goal
 

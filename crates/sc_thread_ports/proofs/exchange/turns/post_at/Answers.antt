@@ -1,12 +1,12 @@
 use Rattle.std.proofs.Common.{sym, subst, ap, ◌∙◌, length}
-use Rattle.sc_thread_ports.specs.turn.Definitions.{known}
+use Rattle.sc_thread_ports.specs.turn.TurnDefinitions.{known}
 use Rattle.sc_actor.specs.Definitions.{row_bytes, journal_bytes}
-use Rattle.sc_thread_ledger.specs.Definitions.{IsCause}
+use Rattle.sc_thread_ledger.specs.LedgerDefinitions.{IsCause}
 use Rattle.sc_thread_ports.proofs.ExchangeProofs.Results.{ok_with, err_maps, either}
 use Rattle.sc_thread_ports.proofs.ExchangeProofs.Views.{seen_same, seen_row, turned_same, turned_row, bytes_row}
 use Rattle.sc_thread_ports.proofs.ExchangeProofs.SeatsAfterTurns.{seat_looked, seat_same, seat_row}
 use Rattle.std.proofs.Common.{[]}
-use Rattle.sc_thread_ports.specs.exchange.Definitions.{all_addressed}
+use Rattle.sc_thread_ports.specs.exchange.ExchangeDefinitions.{all_addressed}
 use Rattle.sc_thread_ports.proofs.ExchangeProofs.Addressing.{addressed_push, addressed_found}
 use Rattle.sc_thread_ports.proofs.exchange.turns.post_at.Goals as goal
 

@@ -1,5 +1,5 @@
 use Rattle.std.proofs.Common.{ap, sym, ◌∙◌}
-use Rattle.sc_thread_ports.specs.turn.Definitions.{known}
+use Rattle.sc_thread_ports.specs.turn.TurnDefinitions.{known}
 use Rattle.std.specs.Option.{option_map}
 use Rattle.sc_actor.specs.Definitions.{mails, numbered}
 use Rattle.sc_thread_ports.proofs.ExchangeProofs.Views.{seen_same}

@@ -1,6 +1,6 @@
 use Rattle.std.proofs.Common.{◌≡◌, ap, ◌∙◌, sym, subst, map, is_some}
-use Rattle.sc_thread_ports.specs.turn.Definitions.{known}
-use Rattle.sc_thread_ledger.specs.Definitions.{kth_pending}
+use Rattle.sc_thread_ports.specs.turn.TurnDefinitions.{known}
+use Rattle.sc_thread_ledger.specs.LedgerDefinitions.{kth_pending}
 use Rattle.sc_thread_ports.proofs.ExchangeProofs.Results.{ok_maps}
 use Rattle.sc_thread_ports.proofs.ExchangeProofs.Views.{seen_same}
 use Rattle.sc_thread_ports.proofs.ExchangeProofs.SeatsAfterTurns.{seat_looked}

@@ -1,5 +1,5 @@
 use Rattle.std.proofs.Common.{◌≡◌, take, map, is_some}
-use Rattle.sc_thread_ledger.specs.Definitions.{kth_pending}
+use Rattle.sc_thread_ledger.specs.LedgerDefinitions.{kth_pending}
 use Rattle.sc_thread_ports.proofs.exchange.turns.waiting_in.Given as goal
 
 abbrev pub invariant-loop-who : goal.invariant-loop-who

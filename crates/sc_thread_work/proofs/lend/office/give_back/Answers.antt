@@ -1,7 +1,7 @@
 use Rattle.std.proofs.Common.{◌<◌, subst, sym}
 use Rattle.sc_thread_work.specs.declared.lend.rule.Clerk.{Clerk}
 use Rattle.crossbeam_queue.specs.Passes.{view}
-use Rattle.sc_thread_work.specs.lend.Definitions.{MayGiveBack}
+use Rattle.sc_thread_work.specs.lend.LendDefinitions.{MayGiveBack}
 use Rattle.sc_thread_work.proofs.LendProofs.KeptLendRule.{gives_back}
 use Rattle.sc_thread_work.proofs.lend.office.give_back.Goals as goal
 

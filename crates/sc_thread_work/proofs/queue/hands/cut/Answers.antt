@@ -1,6 +1,6 @@
 use Rattle.std.proofs.Common.{◌≡◌, ◌∙◌, sym, ap, subst, arith, rules, ◌-◌, ◌+◌, All}
 use Rattle.std.proofs.lemmas.List.Elements.{All-push}
-use Rattle.sc_thread_work.specs.queue.Definitions.{all_parts, hand, taker, less}
+use Rattle.sc_thread_work.specs.queue.QueueDefinitions.{all_parts, hand, taker, less}
 use Rattle.sc_thread_work.proofs.QueueProofs.KeptQueueRule.{forks}
 use Rattle.crossbeam_queue.specs.Passes.{view, IsPassOf}
 use Rattle.sc_thread_work.proofs.queue.hands.cut.Goals as goal

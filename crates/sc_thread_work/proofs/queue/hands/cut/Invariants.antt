@@ -1,6 +1,6 @@
 use Rattle.std.proofs.Common.{◌≡◌, ◌-◌, vec_len, All}
 use Rattle.crossbeam_queue.specs.Passes.{view, IsPassOf}
-use Rattle.sc_thread_work.specs.queue.Definitions.{all_parts, hand, taker}
+use Rattle.sc_thread_work.specs.queue.QueueDefinitions.{all_parts, hand, taker}
 use Rattle.sc_thread_work.proofs.queue.hands.cut.Given as goal
 
 -- the number of passes made so far

@@ -1,5 +1,5 @@
 use Rattle.std.proofs.Common.{◌≡◌}
-use Rattle.sc_thread_work.specs.queue.Definitions.{filled}
+use Rattle.sc_thread_work.specs.queue.QueueDefinitions.{filled}
 use Rattle.sc_thread_work.proofs.queue.hands.fill.Given as goal
 
 -- those so far stand in their places

@@ -1,6 +1,6 @@
 use Rattle.std.proofs.Common.{◌≡◌, ◌∙◌, refl, sym, ap, subst, arith, length, ◌<◌, rules}
 use Rattle.crossbeam_queue.specs.Passes.{view}
-use Rattle.sc_thread_work.specs.queue.Definitions.{all_parts, works, AllInside, AllThere, filled}
+use Rattle.sc_thread_work.specs.queue.QueueDefinitions.{all_parts, works, AllInside, AllThere, filled}
 use Rattle.sc_thread_work.proofs.QueueProofs.KeptQueueRule.{filled_length}
 use Rattle.sc_thread_work.proofs.QueueProofs.Placing.{completes, worked_off, right_free, all_inside, comes_there, right_there, all_given, given_length}
 use Rattle.sc_thread_work.proofs.queue.hands.finish.Goals as goal

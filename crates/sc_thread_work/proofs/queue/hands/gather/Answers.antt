@@ -1,6 +1,6 @@
 use Rattle.std.proofs.Common.{ℕ, ◌≡◌, ◌+◌, ap, subst, arith, length, length-append, [], ◌∷◌, ◌++◌}
 use Rattle.crossbeam_queue.specs.Passes.{view}
-use Rattle.sc_thread_work.specs.queue.Definitions.{Gathers}
+use Rattle.sc_thread_work.specs.queue.QueueDefinitions.{Gathers}
 use Rattle.sc_thread_work.proofs.queue.hands.gather.Goals as goal
 
 pub loop-done-preserved : goal.loop-done-preserved

@@ -1,7 +1,7 @@
 use Rattle.std.proofs.Common.{ℕ, ◌<◌, ◌+◌, List, length}
 use Rattle.crossbeam_queue.specs.Passes.{view, IsPassOf}
 use Rattle.sc_thread_work.specs.declared.queue.rule.Item.{Item}
-use Rattle.sc_thread_work.specs.queue.Definitions.{Gathers}
+use Rattle.sc_thread_work.specs.queue.QueueDefinitions.{Gathers}
 use Rattle.sc_thread_work.proofs.queue.hands.gather.Given as goal
 
 -- those so far were taken in

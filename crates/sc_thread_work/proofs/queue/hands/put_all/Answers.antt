@@ -2,7 +2,7 @@ use Rattle.std.proofs.Common.{◌∙◌, sym, ap, arith, length, [], ◌∷◌, 
 use Rattle.std.proofs.lemmas.List.{map-id}
 use Rattle.std.proofs.lemmas.Iterator.Adapters.{YieldsList-from_vec}
 use Rattle.std.proofs.lemmas.Iterator.Consumers.{YieldsList-turn, YieldsList-end}
-use Rattle.sc_thread_work.specs.queue.Definitions.{all_parts, hand, numbered, with_put}
+use Rattle.sc_thread_work.specs.queue.QueueDefinitions.{all_parts, hand, numbered, with_put}
 use Rattle.sc_thread_work.proofs.QueueProofs.KeptQueueRule.{numbered_more, numbered_length}
 use Rattle.sc_thread_work.proofs.queue.hands.put_all.Goals as goal
 

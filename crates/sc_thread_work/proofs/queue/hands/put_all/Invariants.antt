@@ -1,6 +1,6 @@
 use Rattle.std.proofs.Common.{◌≡◌, true, [], length}
 use Rattle.crossbeam_queue.specs.Passes.{view, IsPassOf}
-use Rattle.sc_thread_work.specs.queue.Definitions.{all_parts, hand, numbered}
+use Rattle.sc_thread_work.specs.queue.QueueDefinitions.{all_parts, hand, numbered}
 use Rattle.sc_thread_work.proofs.queue.hands.put_all.Given as goal
 
 -- those so far were put

@@ -1,5 +1,5 @@
 use Rattle.std.proofs.Common.{◌≡◌, vec_len}
-use Rattle.sc_thread_work.specs.queue.Definitions.{AllFree}
+use Rattle.sc_thread_work.specs.queue.QueueDefinitions.{AllFree}
 use Rattle.sc_thread_work.proofs.queue.hands.vacant.Given as goal
 
 abbrev pub invariant-loop : goal.invariant-loop

@@ -1,5 +1,5 @@
 use Rattle.crossbeam_queue.specs.Passes.{view, IsPassOf}
-use Rattle.sc_thread_work.specs.queue.Definitions.{Did}
+use Rattle.sc_thread_work.specs.queue.QueueDefinitions.{Did}
 use Rattle.sc_thread_work.proofs.queue.hands.work.Given as goal
 
 -- what was taken so far was worked

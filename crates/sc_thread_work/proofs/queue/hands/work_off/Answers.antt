@@ -2,7 +2,7 @@ use Rattle.std.proofs.Common.{◌≡◌, ◌∙◌, ◌+◌, ◌-◌, sym, ap, L
 use Rattle.crossbeam_queue.specs.Passes.{view}
 use Rattle.sc_thread_work.specs.declared.queue.rule.Item.{Item}
 use Rattle.sc_thread_work.specs.declared.queue.rule.Hand.{Hand}
-use Rattle.sc_thread_work.specs.queue.Definitions.{all_parts, hand, numbered, works, IsWorkedOff, Gathers, AllGiven}
+use Rattle.sc_thread_work.specs.queue.QueueDefinitions.{all_parts, hand, numbered, works, IsWorkedOff, Gathers, AllGiven}
 use Rattle.sc_thread_work.proofs.QueueProofs.KeptQueueRule.{begins, works_numbered}
 use Rattle.sc_thread_work.proofs.QueueProofs.Placing.{gathers_none}
 use Rattle.sc_thread_work.proofs.queue.hands.work_off.Goals as goal

@@ -1,5 +1,5 @@
 use Rattle.std.proofs.Common.{◌≡◌, take}
-use Rattle.sc_words.specs.commands.Definitions.{capped, clients_weight}
+use Rattle.sc_words.specs.commands.CommandDefinitions.{capped, clients_weight}
 use Rattle.sc_words.proofs.commands.weights.clients_weight.Given as goal
 
 -- the weight of the entries so far

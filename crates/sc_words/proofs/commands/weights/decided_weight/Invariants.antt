@@ -1,6 +1,6 @@
 use Rattle.std.proofs.Common.{◌≡◌, take}
 use Rattle.std.specs.List.{sum_by}
-use Rattle.sc_words.specs.commands.Definitions.{capped, decision_weight}
+use Rattle.sc_words.specs.commands.CommandDefinitions.{capped, decision_weight}
 use Rattle.sc_words.proofs.commands.weights.decided_weight.Given as goal
 
 -- the weight of the decisions so far

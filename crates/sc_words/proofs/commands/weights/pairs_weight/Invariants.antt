@@ -1,5 +1,5 @@
 use Rattle.std.proofs.Common.{◌≡◌, take}
-use Rattle.sc_words.specs.commands.Definitions.{capped, pairs_weight}
+use Rattle.sc_words.specs.commands.CommandDefinitions.{capped, pairs_weight}
 use Rattle.sc_words.proofs.commands.weights.pairs_weight.Given as goal
 
 -- the weight of the pairs so far

@@ -1,7 +1,7 @@
 use Rattle.std.proofs.Common.{◌≡◌, None, fold, sym, ap, ◌∙◌, map, rules}
 use Rattle.std.specs.Map.Iter.{deref_pair}
 use Rattle.std.proofs.lemmas.Map.Iter.{iter_end}
-use Rattle.sc_client_table.specs.lookup.Definitions.{better}
+use Rattle.sc_client_table.specs.lookup.LookupDefinitions.{better}
 use Rattle.sc_client_table.proofs.LookupProofs.ChoiceLemmas.{some_chosen}
 use Rattle.sc_client_table.proofs.lookup.routes.Routes.choose.Goals as goal
 

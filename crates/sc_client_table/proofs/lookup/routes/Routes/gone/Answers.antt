@@ -2,7 +2,7 @@ use Rattle.std.proofs.Common.{◌≡◌, ◌<◌, OnOk, length, ap, ◌∙◌, s
 use Rattle.std.specs.Map.{remove_entry}
 use Rattle.indexmap.specs.IndexMap.{spare}
 use Rattle.sc_base.specs.Definitions.{same_draw}
-use Rattle.sc_client_table.specs.lookup.Definitions.{KnownGroups, group_learnt}
+use Rattle.sc_client_table.specs.lookup.LookupDefinitions.{KnownGroups, group_learnt}
 use Rattle.sc_client_table.proofs.LookupProofs.KnownLemmas.{of_done, some_learnt}
 use Rattle.sc_client_table.proofs.lookup.routes.Routes.gone.Goals as goal
 

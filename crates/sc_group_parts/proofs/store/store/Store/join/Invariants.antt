@@ -1,5 +1,5 @@
 use Rattle.std.proofs.Common.{◌≡◌, take}
-use Rattle.sc_words.specs.ideal.Definitions.{with_pairs}
+use Rattle.sc_words.specs.ideal.IdealDefinitions.{with_pairs}
 use Rattle.sc_group_parts.proofs.store.store.Store.join.Given as goal
 
 -- the pairs so far are there

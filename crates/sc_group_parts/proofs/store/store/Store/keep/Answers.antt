@@ -2,7 +2,7 @@ use Rattle.std.proofs.Common.{◌≡◌, ap, ◌∙◌, rules}
 use Rattle.std.specs.List.{filter}
 use Rattle.std.specs.FinMap as map
 use Rattle.std.proofs.lemmas.Map.Made.{filter_same_pairs}
-use Rattle.sc_words.specs.ideal.Definitions.{holds_key}
+use Rattle.sc_words.specs.ideal.IdealDefinitions.{holds_key}
 use Rattle.sc_group_parts.proofs.StoreProofs.Bytes.{retain-bytes}
 use Rattle.sc_group_parts.proofs.store.store.Store.keep.Goals as goal
 

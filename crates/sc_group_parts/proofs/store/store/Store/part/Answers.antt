@@ -6,7 +6,7 @@ use Rattle.std.specs.Cmp.Lexicographic.{slice_cmp}
 use Rattle.std.specs.Map.Iter.{deref_pair}
 use Rattle.std.proofs.lemmas.Map.Iter.{iter_end, rest_more, rest_so_far}
 use Rattle.sc_base.specs.Definitions.{EndsBelow}
-use Rattle.sc_words.specs.ideal.Definitions.{holds_key}
+use Rattle.sc_words.specs.ideal.IdealDefinitions.{holds_key}
 use Rattle.sc_group_parts.proofs.StoreProofs.Bytes.{part-bytes, next_below}
 use Rattle.sc_group_parts.proofs.store.store.Store.part.Goals as goal
 

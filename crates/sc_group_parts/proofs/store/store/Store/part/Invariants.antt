@@ -1,7 +1,7 @@
 use Rattle.std.proofs.Common.{◌≡◌, map}
 use Rattle.std.specs.List.{filter}
 use Rattle.std.specs.Map.Iter.{deref_pair}
-use Rattle.sc_words.specs.ideal.Definitions.{holds_key}
+use Rattle.sc_words.specs.ideal.IdealDefinitions.{holds_key}
 use Rattle.sc_group_parts.proofs.store.store.Store.part.Given as goal
 
 -- the pairs so far that the arc holds

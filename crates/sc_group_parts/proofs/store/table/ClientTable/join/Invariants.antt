@@ -1,5 +1,5 @@
 use Rattle.std.proofs.Common.{◌≡◌, take}
-use Rattle.sc_words.specs.ideal.Definitions.{joined_with}
+use Rattle.sc_words.specs.ideal.IdealDefinitions.{joined_with}
 use Rattle.sc_group_parts.proofs.store.table.ClientTable.join.Given as goal
 
 -- the entries so far are joined

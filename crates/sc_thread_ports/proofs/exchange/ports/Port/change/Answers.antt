@@ -3,7 +3,7 @@ use Rattle.sc_actor.specs.declared.rows.Row.{Row}
 use Rattle.sc_actor.specs.Definitions.{row_bytes}
 use Rattle.sc_thread_ports.proofs.ExchangeProofs.Knowing.{stays_after, looked_after, true_after, change_answers, change_true, cause_back}
 use Rattle.std.proofs.Math.Logic.{∥∥₁_map}
-use Rattle.sc_thread_ports.specs.turn.Definitions.{known}
+use Rattle.sc_thread_ports.specs.turn.TurnDefinitions.{known}
 use Rattle.sc_thread_ports.proofs.ExchangeProofs.Fetching.{asked_net, done_later, turned_later, own_again}
 use Rattle.sc_thread_ports.proofs.ExchangeProofs.Results.{ok_maps, err_maps, either}
 use Rattle.sc_thread_ports.proofs.ExchangeProofs.Halting.{halted_turned, halted_changed}

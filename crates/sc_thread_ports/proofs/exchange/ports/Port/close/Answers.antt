@@ -1,6 +1,6 @@
 use Rattle.std.proofs.Common.{◌≡◌, ◌∙◌, sym, subst, map, Contains}
-use Rattle.sc_thread_ports.specs.turn.Definitions.{known, StartsWith}
-use Rattle.sc_thread_ports.specs.exchange.Definitions.{bare_rows, row_by, rows_of, seen}
+use Rattle.sc_thread_ports.specs.turn.TurnDefinitions.{known, StartsWith}
+use Rattle.sc_thread_ports.specs.exchange.ExchangeDefinitions.{bare_rows, row_by, rows_of, seen}
 use Rattle.sc_thread_ports.proofs.ExchangeProofs.Done.{begins_rows, rows_of_bare}
 use Rattle.sc_thread_ports.proofs.ExchangeProofs.Knowing.{end_own, end_each, end_others, numbers_same}
 use Rattle.sc_thread_ports.proofs.exchange.ports.Port.close.Goals as goal

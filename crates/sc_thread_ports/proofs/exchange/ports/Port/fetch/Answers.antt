@@ -1,7 +1,7 @@
 use Rattle.std.proofs.Common.{refl, ap, ◌∙◌}
 use Rattle.sc_thread_ports.proofs.ExchangeProofs.Knowing.{looked_after, true_after}
 use Rattle.std.proofs.lemmas.Grind.{merely}
-use Rattle.sc_thread_ports.specs.turn.Definitions.{known}
+use Rattle.sc_thread_ports.specs.turn.TurnDefinitions.{known}
 use Rattle.sc_thread_ports.proofs.ExchangeProofs.Fetching.{asked_found, own_after}
 use Rattle.sc_thread_ports.proofs.ExchangeProofs.Halting.{halted_turned}
 use Rattle.sc_thread_ports.proofs.exchange.ports.Port.fetch.Goals as goal

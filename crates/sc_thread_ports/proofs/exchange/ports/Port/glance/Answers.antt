@@ -1,7 +1,7 @@
 use Rattle.std.proofs.Common.{refl}
 use Rattle.sc_thread_ports.proofs.ExchangeProofs.Knowing.{looked_after, true_after}
 use Rattle.std.proofs.Math.Logic.{∥∥₁_map}
-use Rattle.sc_thread_ports.specs.turn.Definitions.{known}
+use Rattle.sc_thread_ports.specs.turn.TurnDefinitions.{known}
 use Rattle.sc_thread_ports.proofs.ExchangeProofs.Fetching.{asked_turned, own_after}
 use Rattle.sc_thread_ports.proofs.ExchangeProofs.Halting.{halted_turned}
 use Rattle.sc_thread_ports.proofs.exchange.ports.Port.glance.Goals as goal

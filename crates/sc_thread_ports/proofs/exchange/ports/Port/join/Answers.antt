@@ -1,6 +1,6 @@
 use Rattle.std.proofs.Common.{rules, ap, ◌∙◌, map}
-use Rattle.sc_thread_ports.specs.turn.Definitions.{known}
-use Rattle.sc_thread_ports.specs.exchange.Definitions.{row_by, rows_from}
+use Rattle.sc_thread_ports.specs.turn.TurnDefinitions.{known}
+use Rattle.sc_thread_ports.specs.exchange.ExchangeDefinitions.{row_by, rows_from}
 use Rattle.sc_thread_ports.proofs.ExchangeProofs.Done.{begins_rows, rows_of_from, longer_rows}
 use Rattle.sc_thread_ports.proofs.ExchangeProofs.Knowing.{joins}
 use Rattle.sc_thread_ports.proofs.ExchangeProofs.Views.{own_joined}

@@ -2,7 +2,7 @@ use Rattle.std.proofs.Common.{refl}
 use Rattle.sc_thread_ports.proofs.ExchangeProofs.Done.{begins_rows}
 use Rattle.sc_thread_ports.proofs.ExchangeProofs.Knowing.{looked_met, true_met}
 use Rattle.std.proofs.Math.Logic.{∥∥₁_map}
-use Rattle.sc_thread_ports.specs.turn.Definitions.{known}
+use Rattle.sc_thread_ports.specs.turn.TurnDefinitions.{known}
 use Rattle.sc_thread_ports.proofs.ExchangeProofs.Fetching.{asked_same, own_met}
 use Rattle.std.proofs.Common.{ap}
 use Rattle.sc_thread_ports.proofs.ExchangeProofs.Halting.{halted_same}

@@ -4,7 +4,7 @@ use Rattle.sc_actor.specs.Definitions.{is_crash}
 use Rattle.sc_actor.specs.declared.rows.Row.{Row}
 use Rattle.sc_thread_ports.proofs.ExchangeProofs.Knowing.{stays_after, looked_after, true_after, appended_after, true_row, cause_back}
 use Rattle.std.proofs.Math.Logic.{∥∥₁_map}
-use Rattle.sc_thread_ports.specs.turn.Definitions.{known}
+use Rattle.sc_thread_ports.specs.turn.TurnDefinitions.{known}
 use Rattle.sc_thread_ports.proofs.ExchangeProofs.Fetching.{asked_turned, asked_event, own_after}
 use Rattle.sc_thread_ports.proofs.ExchangeProofs.Fetching.{asked_addressed}
 use Rattle.sc_thread_ports.proofs.exchange.ports.Port.post.Goals as goal

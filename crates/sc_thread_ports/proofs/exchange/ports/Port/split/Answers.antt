@@ -1,4 +1,4 @@
-use Rattle.sc_thread_ports.specs.turn.Definitions.{known}
+use Rattle.sc_thread_ports.specs.turn.TurnDefinitions.{known}
 use Rattle.sc_thread_ports.proofs.ExchangeProofs.Views.{own_new}
 use Rattle.sc_thread_ports.proofs.exchange.ports.Port.split.Goals as goal
 

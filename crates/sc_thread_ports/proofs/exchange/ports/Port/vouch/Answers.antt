@@ -1,6 +1,6 @@
 use Rattle.std.proofs.Common.{refl, ap}
-use Rattle.sc_thread_ports.specs.turn.Definitions.{known}
-use Rattle.sc_thread_ports.specs.exchange.Definitions.{rows_from}
+use Rattle.sc_thread_ports.specs.turn.TurnDefinitions.{known}
+use Rattle.sc_thread_ports.specs.exchange.ExchangeDefinitions.{rows_from}
 use Rattle.sc_thread_ports.proofs.ExchangeProofs.Knowing.{looked_seen, vouched}
 use Rattle.sc_thread_ports.proofs.exchange.ports.Port.vouch.Goals as goal
 

@@ -1,6 +1,6 @@
 use Rattle.std.proofs.Common.{◌≡◌, [], ◌∷◌, ◌++◌, sym, ap, subst, ◌∙◌, Some}
 use Rattle.atomic_table.specs.Table.{opening}
-use Rattle.sc_thread_ports.specs.turn.Definitions.{opener, Kept}
+use Rattle.sc_thread_ports.specs.turn.TurnDefinitions.{opener, Kept}
 use Rattle.sc_thread_ports.proofs.TurnProofs.KeptTurnRule.{opens}
 use Rattle.sc_thread_ports.proofs.turn.seat.TurnSeat.start.Goals as goal
 

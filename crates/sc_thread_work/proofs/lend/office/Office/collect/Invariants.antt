@@ -1,5 +1,5 @@
 use Rattle.std.proofs.Common.{◌≡◌}
-use Rattle.sc_thread_work.specs.lend.Definitions.{IsLenderOf, collected_by, lent_by}
+use Rattle.sc_thread_work.specs.lend.LendDefinitions.{IsLenderOf, collected_by, lent_by}
 use Rattle.sc_thread_work.proofs.lend.office.Office.collect.Given as goal
 
 -- it is not back yet

@@ -1,4 +1,4 @@
-use Rattle.sc_thread_work.specs.lend.Definitions.{IsHelperOf}
+use Rattle.sc_thread_work.specs.lend.LendDefinitions.{IsHelperOf}
 use Rattle.sc_thread_work.proofs.lend.office.Office.help_some.Given as goal
 
 abbrev pub invariant-loop : goal.invariant-loop

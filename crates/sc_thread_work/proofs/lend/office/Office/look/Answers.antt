@@ -1,6 +1,6 @@
 use Rattle.std.proofs.Common.{subst, arith}
 use Rattle.crossbeam_queue.specs.Passes.{view}
-use Rattle.sc_thread_work.specs.lend.Definitions.{IsLeft}
+use Rattle.sc_thread_work.specs.lend.LendDefinitions.{IsLeft}
 use Rattle.sc_thread_work.proofs.LendProofs.KeptLendRule.{takes, finished_held, back}
 use Rattle.sc_thread_work.proofs.lend.office.Office.look.Goals as goal
 

@@ -1,5 +1,5 @@
 use Rattle.std.proofs.Common.{subst}
-use Rattle.sc_thread_work.specs.lend.Definitions.{IsLeft}
+use Rattle.sc_thread_work.specs.lend.LendDefinitions.{IsLeft}
 use Rattle.sc_thread_work.proofs.lend.office.Office.looks.Goals as goal
 
 pub returns-in-Some-clause-left : goal.returns-in-Some-clause-left

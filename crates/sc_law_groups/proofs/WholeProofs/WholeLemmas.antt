@@ -3,7 +3,7 @@ pub use Rattle.sc_law_groups.proofs.WholeProofs.Apart.{IsNew, IsOldOrNew}
 pub use Rattle.sc_law_groups.proofs.WholeProofs.Asking.{BeginsShared, hears_merges, none_split, splits_fit}
 pub use Rattle.sc_law_groups.proofs.WholeProofs.FreshChildren.{fresh_children, listed}
 pub use Rattle.sc_law_groups.proofs.WholeProofs.Coming.{IsDull, comes}
-pub use Rattle.sc_law_walks.proofs.Lemmas.{EndsIt, voting_group}
+pub use Rattle.sc_law_walks.proofs.WalkLemmas.{EndsIt, voting_group}
 pub use Rattle.sc_law_groups.proofs.WholeProofs.Distinct.{parties_are_apart, dull_same}
 pub use Rattle.sc_law_groups.proofs.WholeProofs.Fitting.{merges_fit, no_vote}
 pub use Rattle.sc_law_groups.proofs.WholeProofs.WholePrefixes.{goes_on_from}
