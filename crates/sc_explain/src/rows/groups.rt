@@ -1,9 +1,10 @@
 //! What is said of the groups of a world, all of them by their own logs, and those of the ring by
 //! their effective records.
-ghost use Rattle.std.specs.Prelude.{◌≡◌, ◌++◌, IfOk, OnOk};
+ghost use Rattle.std.specs.Prelude.{◌≡◌, ◌++◌, List, true, IfOk, OnOk};
 ghost use Rattle.std.specs.Option.{option_map, option_to_list};
 ghost use Rattle.sc_explain.specs.facts.Facts.{ring_group_of};
-ghost use Rattle.sc_meaning.specs.entries.Effective.{effective};
+ghost use Rattle.sc_meaning.specs.declared.entries.Transaction.{Transaction};
+ghost use Rattle.sc_meaning.specs.entries.Effective.{effective, effective_by};
 ghost use Rattle.sc_meaning.specs.entries.Worlds.{StoreWorld, recorded};
 ghost use Rattle.sc_group_table.specs.machine.Group.{Group, base_of};
 ghost use Rattle.sc_world_groups.specs.Effects.{effect_in};
@@ -12,8 +13,9 @@ ghost use Rattle.sc_explain.specs.rows.Explained.{records_in, ring_groups_in};
 use crate::facts::{GroupRecord, RingGroup, record_of};
 use crate::rows::counts::recount;
 use sc_base::{Draw, OutOfMemory};
+use sc_group::Machine;
 use sc_meaning::LogEntry;
-use sc_words::{Base, Command, Effect};
+use sc_words::{Base, Command, Effect, Lock};
 use sc_world_groups::StoreWorld;
 use std::alloc::Global;
 
@@ -42,8 +44,35 @@ fn said_by(name: Draw, base: &Base) -> RingGroup
     }
 }
 
-// Returns what is said of the group with a name by its effective record, if it was created.
-fn ring_group_in(world: &StoreWorld, name: Draw) -> Result<Option<RingGroup>, OutOfMemory>
+// Returns what is said of a group whose effective record is what its own log makes of it.
+fn said_by_log(name: Draw, group: &Machine) -> Result<RingGroup, OutOfMemory>
+    ensures { IfOk result (λ said. said ≡ ring_group_of name group.now) }
+{
+    let core = group.core();
+    let pairs = group.pairs()?;
+    Ok(RingGroup {
+        arc: core.arc,
+        name,
+        pairs: pairs.len() as u64,
+        pred: core.pred.group,
+        succ: core.succ.group,
+    })
+}
+
+// Returns whether the effective record of a group with this lock is what its own log makes of it.
+fn is_by_log(lock: &Lock) -> bool
+    ensures { result ≡ true → (transactions : List Transaction) (group : Group) →
+        effective_by lock.now transactions group ≡ group }
+{
+    match lock {
+        Lock::Free | Lock::Coordinating { .. } => true,
+        Lock::Promised { .. } | Lock::Watching { .. } => false,
+    }
+}
+
+// Returns what is said of the group with a name by its effective record, if it was created, from a
+// copy of the record.
+fn ring_group_by_record(world: &StoreWorld, name: Draw) -> Result<Option<RingGroup>, OutOfMemory>
     ensures { IfOk result (λ group. group ≡
         option_map (ring_group_of name) (effective world.now name)) }
 {
@@ -51,6 +80,26 @@ fn ring_group_in(world: &StoreWorld, name: Draw) -> Result<Option<RingGroup>, Ou
     match found {
         None => Ok(None),
         Some(base) => Ok(Some(said_by(name, &base))),
+    }
+}
+
+// Returns what is said of the group with a name by its effective record, if it was created. The
+// record is copied only where another group may have decided something of it.
+fn ring_group_in(world: &StoreWorld, name: Draw) -> Result<Option<RingGroup>, OutOfMemory>
+    ensures { IfOk result (λ group. group ≡
+        option_map (ring_group_of name) (effective world.now name)) }
+{
+    match world.group(name) {
+        None => Ok(None),
+        Some(group) => {
+            let core = group.core();
+            if is_by_log(&core.lock) {
+                let said = said_by_log(name, group)?;
+                return Ok(Some(said));
+            }
+            let found = ring_group_by_record(world, name)?;
+            Ok(found)
+        }
     }
 }
 

@@ -1,7 +1,7 @@
 -- The names for which rows accept commands, with one more row.
-use Rattle.std.proofs.Common.{◌≡◌, Bool, true, false, ◌||◌, List, [], ◌∷◌, ◌++◌, Some, inl, inr, refl, sym, ◌∙◌, ap}
+use Rattle.std.proofs.Common.{◌≡◌, true, false, List, [], ◌∷◌, ◌++◌, Some, inl, inr, sym, ◌∙◌, ap}
 use Rattle.std.specs.List.{list_any}
-use Rattle.std.proofs.lemmas.Bool.{cases_Bool}
+use Rattle.std.proofs.lemmas.Bool.{cases_Bool, or_parts}
 use Rattle.std.proofs.lemmas.List.Folds.{list_any-append}
 use Rattle.sc_base.specs.Same.{same_draw}
 use Rattle.sc_base.specs.declared.names.Draw.{Draw}
@@ -14,16 +14,12 @@ use Rattle.sc_world_logs.specs.Known.{Adds}
 use Rattle.sc_world_logs.specs.declared.accepting.Acceptance.{Acceptance}
 use Rattle.sc_world_logs.proofs.Elsewhere.{accepts_elsewhere}
 
-neither : (a b : Bool) → (a || b) ≡ false → (a ≡ false) × (b ≡ false)
-neither true b none = (let never : true ≡ false = none in absurd (cc))
-neither false b none = (refl, none)
-
 -- a name that is not among those with one more is not among them, and is another name
 pub unheard_push : (names : List Draw) (name other : Draw) → list_any (same_draw other) (names ++ name ∷ []) ≡ false
     → (list_any (same_draw other) names ≡ false) × (same_draw other name ≡ false)
 unheard_push names name other none =
-    let parts = neither (list_any (same_draw other) names) (list_any (same_draw other) (name ∷ [])) (sym (list_any-append (same_draw other) names (name ∷ [])) ∙ none) in
-    (parts.0, (neither (same_draw other name) false parts.1).0)
+    let parts = or_parts (list_any (same_draw other) names) (list_any (same_draw other) (name ∷ [])) (sym (list_any-append (same_draw other) names (name ∷ [])) ∙ none) in
+    (parts.0, (or_parts (same_draw other name) false parts.1).0)
 
 -- a name that is not among those that are heard is not one of them
 pub unheard_apart : (names : List Draw) (name other : Draw) → list_any (same_draw name) names ≡ true → list_any (same_draw other) names ≡ false → same_draw other name ≡ false
