@@ -36,7 +36,7 @@ later_known rows after old new h is all agrees ends kept =
 pub stays_known : (rows after : List (Row Mail OrderLine)) (old new : Known) (h : List (Step Command)) → new.base ≡ old.base → accepts old.base.core.id after ≡ h → Agrees h new → NothingFollows (rule_of as_nodes new.base) h new.log.items → KeepsChildren new
     → children_of (group_of new.base) new.log.items ≡ children_of (group_of old.base) old.log.items → StaysKnown rows after old new
 stays_known rows after old new h is all agrees ends kept children = record {
-  is = later_known rows after old new h is all agrees ends kept;
+  fact = later_known rows after old new h is all agrees ends kept;
   base_is = is;
   children_are = children;
 }
