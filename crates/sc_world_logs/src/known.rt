@@ -58,9 +58,9 @@ pub struct Known {
 /// What became of what is known of a group when an acceptance was taken in.
 #[derive(Clone, Copy)]
 pub struct Taking {
-    /// Whether it is what the rows with the accepting row show.
+    /// True only where it is what the rows with the accepting row show.
     pub holds: bool,
-    /// Whether it is, and the log creates the same groups as before.
+    /// True only where besides the log creates the same groups as before.
     pub calm: bool,
 }
 
