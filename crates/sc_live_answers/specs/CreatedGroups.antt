@@ -24,10 +24,10 @@ Knows name r = list_any (λ other. same_draw other name) r.group.core.born ≡ t
 
 -- of the groups of a journal, one that had no replica in the quiet prefix has one only if it is the child of an order that splits; a node with a replica of that child has a replica of the parent that lists it; and a first member of the child whose replica of the parent lists it has a replica of the child
 pub record AreCreatedByOrder (scenario : Scenario) (journal quiet rows : Rows) (task : Task) : Type 0 where
-  pub only : (base : Base) → Among base (groups_at as_nodes scenario.groups journal) → IsNowhere (births as_nodes scenario) quiet base.core.id → IsThere (births as_nodes scenario) rows base.core.id → (task.splits ≡ true) × (base.core.id ≡ task.name)
-  pub known : task.splits ≡ true → (base : Base) → Among base (groups_at as_nodes scenario.groups journal) → base.core.id ≡ task.name → (who : ℕ) (x : ReplicaState) → view_at (births as_nodes scenario) rows task.name who ≡ Some x
+  pub only : (base : Base) → Among base (groups_at as_nodes scenario.groups journal) → IsNowhere (births as_nodes scenario) quiet base.core.id → IsThere (births as_nodes scenario) rows base.core.id → (task.splitting ≡ true) × (base.core.id ≡ task.name)
+  pub known : task.splitting ≡ true → (base : Base) → Among base (groups_at as_nodes scenario.groups journal) → base.core.id ≡ task.name → (who : ℕ) (x : ReplicaState) → view_at (births as_nodes scenario) rows task.name who ≡ Some x
       → (r : ReplicaState) × (view_at (births as_nodes scenario) rows task.group who ≡ Some r) × Knows task.name r
-  pub kept : task.splits ≡ true → (base : Base) → Among base (groups_at as_nodes scenario.groups journal) → base.core.id ≡ task.name → (who : ℕ) (r : ReplicaState) → is_member base.core.members who ≡ true
+  pub kept : task.splitting ≡ true → (base : Base) → Among base (groups_at as_nodes scenario.groups journal) → base.core.id ≡ task.name → (who : ℕ) (r : ReplicaState) → is_member base.core.members who ≡ true
       → view_at (births as_nodes scenario) rows task.group who ≡ Some r → Knows task.name r → HasReplica (view_at (births as_nodes scenario) rows) task.name who
 
 -- after these rows each replica is of a group of the journal

@@ -19,5 +19,5 @@ EndsGone now marks who = (now.course.gone ≡ true) × (reached (now.next who) (
 -- each node that decides no open slot is as `IsFated` says, and in a group that is gone so is each that has not executed all; the node that led last has executed all of a group that is gone, and decides an open slot of one that stands but has no leader
 pub record AreFated (at : Sets) (by : SlotLeaders) (now : Progress) (hints : ℕ → Option ℕ) (marks : ℕ → List Mark) : Type 0 where
   pub fates : (who : ℕ) → (IsOpen at now.course.newest who → now.course.gone ≡ true) → EndsGone now marks who ⊎ IsFated at by now hints marks who
-  pub last : now.course.runs ≡ false → now.course.gone ≡ true → now.next now.course.ballot.node ≡ now.course.newest
-  pub left : now.course.runs ≡ false → now.course.gone ≡ false → IsOpen at now.course.newest now.course.ballot.node
+  pub last : now.course.running ≡ false → now.course.gone ≡ true → now.next now.course.ballot.node ≡ now.course.newest
+  pub left : now.course.running ≡ false → now.course.gone ≡ false → IsOpen at now.course.newest now.course.ballot.node

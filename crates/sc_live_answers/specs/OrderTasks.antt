@@ -12,7 +12,7 @@ pub record Task : Type 0 where
   pub number : ℕ
   pub group : Draw
   pub name : Draw
-  pub splits : Bool
+  pub splitting : Bool
 
 -- whether an order splits its group
 abbrev pub is_split : Order → Bool
@@ -30,7 +30,7 @@ IsOff false = Unit {0}
 
 -- the order does not split, so it may ask participants and send states
 abbrev pub HasParts : Task → Type 0
-HasParts task = IsOff task.splits
+HasParts task = IsOff task.splitting
 
 -- a transaction that is no split
 abbrev pub IsNoSplit : Body → Type 0
@@ -93,7 +93,7 @@ HasNumber number (RecordWatch tx vote by) = Unit {0}
 
 -- a command that may wait, be in flight or be ready at the group `name` while an order with this task is under way
 abbrev pub Does : Task → Draw → Command → Type 0
-Does task name command = DoesBy task.splits task.group task.name name command × HasNumber task.number command
+Does task name command = DoesBy task.splitting task.group task.name name command × HasNumber task.number command
 
 -- ---- states
 
@@ -132,7 +132,7 @@ LockNumber number (Watching tx watch) = Unit {0}
 
 -- a state that the group `name` may have while an order with this task is under way
 abbrev pub Is : Task → Draw → Core → Type 0
-Is task name core = IsBy task.splits task.group task.name name core × LockNumber task.number core.lock
+Is task name core = IsBy task.splitting task.group task.name name core × LockNumber task.number core.lock
 
 -- ---- children
 
@@ -143,7 +143,7 @@ CreatesBy false told child name base = ⊥
 
 -- the child that the group `name` may make while an order with this task is under way
 abbrev pub Creates : Task → Draw → Base → Type 0
-Creates task name base = CreatesBy task.splits task.group task.name name base
+Creates task name base = CreatesBy task.splitting task.group task.name name base
 
 -- ---- replicas and mail
 

@@ -12,8 +12,8 @@ pub record CountsAs (set : Setting) (chart : Chart) : Type 0 where
   pub bounded : AreBounded chart.ways
   pub far : (group : Draw) (node : ℕ) → chart.ways.far group node ≡ set.ways.far group node
   pub named : (group : Draw) (node : ℕ) → IsHome set group node → StandsOnce group chart.groups
-  pub stand : (frame : Frame) → Among frame set.frames → Among frame.core.id chart.reach.stands × (chart.reach.ends frame.core.id ≡ 0)
-  pub go : (group : Draw) (into : Route) → HasGoneTo set group into → Each (λ other. other ≡ group → ⊥) chart.reach.stands × (chart.reach.ends into.group + 1 ≤ chart.reach.ends group)
+  pub stand : (frame : Frame) → Among frame set.frames → Among frame.core.id chart.reach.standing × (chart.reach.distance frame.core.id ≡ 0)
+  pub go : (group : Draw) (into : Route) → HasGoneTo set group into → Each (λ other. other ≡ group → ⊥) chart.reach.standing × (chart.reach.distance into.group + 1 ≤ chart.reach.distance group)
 
 -- a node whose replicas may pump finds what the potential needs in each mail of requests that comes to it when it is due
 abbrev pub RequestsAreTakenCalmly : Type 0

@@ -26,13 +26,13 @@ MustLead stage name = (node : ℕ) × Among (name, node) (leads_of stage)
 
 -- since a quiet prefix in which the ballot `first` led the group, that ballot is still the group's, or a node leads in a ballot of the next round at most; and while something of the order is still to come to the group's leader, the ballot is `first`
 pub record HasOneRound (first : Ballot) (stage : Stage) (name : Draw) (course : Course) : Type 0 where
-  pub one : (course.ballot ≡ first) ⊎ ((course.ballot.round ≤ first.round + 1) × (course.runs ≡ true))
+  pub one : (course.ballot ≡ first) ⊎ ((course.ballot.round ≤ first.round + 1) × (course.running ≡ true))
   pub leads : MustLead stage name → course.ballot ≡ first
 
 -- the group is gone, nobody leads it, and its ballot is `first`
 pub record StaysGone (first : Ballot) (course : Course) : Type 0 where
   pub ballot : course.ballot ≡ first
-  pub off : course.runs ≡ false
+  pub off : course.running ≡ false
   pub gone : course.gone ≡ true
 
 -- since a quiet prefix, by the course that the group had there, the group has begun one round more at most, or it was gone and still is
@@ -61,12 +61,12 @@ RowsKeepRound =
     → AreInTime (players words (births as_nodes scenario)) (with_event rows seat event) → IsSeat (births as_nodes scenario) seat
     → (t : IsSentThrough at over by words (births as_nodes scenario) rows base) → (s : IsSentStep at over by words (births as_nodes scenario) rows seat event base t.course)
     → IsAt stage (scene_at (births as_nodes scenario) rows) → (later ≡ stage) ⊎ GoesBy rows event stage later
-    → (GivesAnOrder event → t.course.ballot ≡ first) → ((deal : Deal) (to : ℕ) → stage ≡ Asks deal to → deal.asked ≡ base.core.id → (t.course.ballot ≡ first) × (t.course.runs ≡ true))
+    → (GivesAnOrder event → t.course.ballot ≡ first) → ((deal : Deal) (to : ℕ) → stage ≡ Asks deal to → deal.asked ≡ base.core.id → (t.course.ballot ≡ first) × (t.course.running ≡ true))
     → HasOneRound first stage base.core.id t.course → HasOneRound first later base.core.id s.through.course
 
 -- since a quiet prefix the group has the ballot that it had there, in which a node leads, or it was gone and still is
 abbrev pub IsBallotSince : Course → Course → Type 0
-IsBallotSince quiet course = (quiet.runs ≡ true → (course.ballot ≡ quiet.ballot) × (course.runs ≡ true)) × (quiet.runs ≡ false → StaysGone quiet.ballot course)
+IsBallotSince quiet course = (quiet.runs ≡ true → (course.ballot ≡ quiet.ballot) × (course.running ≡ true)) × (quiet.runs ≡ false → StaysGone quiet.ballot course)
 
 -- while no order is under way each group keeps its ballot: `IsBallotSince` holds in quiet, and after each row before which no command of an order stood at a leader at the row's node; and none stands where no part of an order is left
 pub record RequestsKeepBallots : Type 0 where
@@ -83,7 +83,7 @@ pub record RequestsKeepBallots : Type 0 where
 abbrev pub SameViewsKeepBallot : Type 0
 SameViewsKeepBallot =
     (words : ℕ → ℕ → ℕ × ℕ) (at : Sets) (over : Ends) (by : SlotLeaders) (scenario : Scenario) (quiet rows : Rows) (base : Base) (t : IsSentThrough at over by words (births as_nodes scenario) quiet base) (u : IsSentThrough at over by words (births as_nodes scenario) rows base)
-    → HasMembers (births as_nodes scenario) quiet base → IsThere (births as_nodes scenario) quiet base.core.id → ((who : ℕ) → view_at (births as_nodes scenario) rows base.core.id who ≡ view_at (births as_nodes scenario) quiet base.core.id who) → t.course.runs ≡ true → (u.course.ballot ≡ t.course.ballot) × (u.course.runs ≡ true)
+    → HasMembers (births as_nodes scenario) quiet base → IsThere (births as_nodes scenario) quiet base.core.id → ((who : ℕ) → view_at (births as_nodes scenario) rows base.core.id who ≡ view_at (births as_nodes scenario) quiet base.core.id who) → t.course.running ≡ true → (u.course.ballot ≡ t.course.ballot) × (u.course.running ≡ true)
 
 -- no replica saw a later round than its group's ballot has, each saw round 1 or a later one, and in quiet a group's ballot has no later round than its replicas saw
 pub record RoundsAreSeen : Type 0 where

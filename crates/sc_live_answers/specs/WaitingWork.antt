@@ -27,9 +27,9 @@ pub record AreAtWork (task : Task) (words : ℕ → ℕ → ℕ × ℕ) (births 
 pub record IsTaskOf (births : List (Seat Player)) (quiet : Rows) (line : OrderLine) (task : Task) : Type 0 where
   pub number : task.number ≡ line.number
   pub group : task.group ≡ group_of_order line.order
-  pub there : task.splits ≡ true → IsThere births quiet task.group
-  pub new : task.splits ≡ true → IsNowhere births quiet task.name
-  pub unknown : task.splits ≡ true → (name : Draw) (who : ℕ) (r : ReplicaState) → view_at births quiet name who ≡ Some r → list_any (λ other. same_draw other task.name) r.group.core.born ≡ false
+  pub there : task.splitting ≡ true → IsThere births quiet task.group
+  pub new : task.splitting ≡ true → IsNowhere births quiet task.name
+  pub unknown : task.splitting ≡ true → (name : Draw) (who : ℕ) (r : ReplicaState) → view_at births quiet name who ≡ Some r → list_any (λ other. same_draw other task.name) r.group.core.born ≡ false
 
 -- an order given in a quiet journal in which each replica rests has a task, and `AreAtWork` holds after its row
 abbrev pub OrdersBeginWork : Type 0

@@ -30,27 +30,27 @@ use Rattle.sc_live_healed.proofs.FixedWalks.{IsFresh, IsFixedPlace}
 pub record Growth : Type 1 where
   pub Near : ℕ → ReplicaState → Type 0
   pub Names : ℕ → MailBody → Type 0
-  pub adds : ℕ
+  pub added : ℕ
   pub bound_at : ℕ → ℕ
-  pub then_ : (rows : ℕ) → bound_at rows + adds ≡ bound_at (rows + 1)
+  pub then_ : (rows : ℕ) → bound_at rows + added ≡ bound_at (rows + 1)
   pub begins : (me : ℕ) (base : Base) → Near (bound_at 0) (born_replica slots_ahead me base)
-  pub near_more : (bound : ℕ) (r : ReplicaState) → Near bound r → Near (bound + adds) r
-  pub names_more : (bound : ℕ) (body : MailBody) → Names bound body → Names (bound + adds) body
+  pub near_more : (bound : ℕ) (r : ReplicaState) → Near bound r → Near (bound + added) r
+  pub names_more : (bound : ℕ) (body : MailBody) → Names bound body → Names (bound + added) body
   pub requests : (bound : ℕ) (group : Draw) (client seq : ℕ) (op : Op) → Names bound (Request group client seq op)
   pub mailed_so : (base : Base) (me : ℕ) → IsFresh base me → (bound from : ℕ) (body : MailBody) (r : ReplicaState) → IsFixedBody base from me body → Names bound body → IsFixedPlace base me (r, []) → Near bound r
-      → Near (bound + adds) (mailed from body (r, [])).0.0 × Each (λ (mail : Mail). Names (bound + adds) mail.body) (mailed from body (r, [])).0.1
+      → Near (bound + added) (mailed from body (r, [])).0.0 × Each (λ (mail : Mail). Names (bound + added) mail.body) (mailed from body (r, [])).0.1
   pub ticked_so : (base : Base) (me : ℕ) → IsFresh base me → (bound : ℕ) (drawer : Drawer) (r : ReplicaState) → IsFixedPlace base me (r, []) → Near bound r
-      → Near (bound + adds) (tick_row false drawer (r, [])).0 × Each (λ (mail : Mail). Names (bound + adds) mail.body) (tick_row false drawer (r, [])).1
+      → Near (bound + added) (tick_row false drawer (r, [])).0 × Each (λ (mail : Mail). Names (bound + added) mail.body) (tick_row false drawer (r, [])).1
 
 module _ (g : Growth) (bases : List Base) (fresh : AreFresh bases) (node : NodeState) (k : IsFixedNode bases node) (bound : ℕ) where
   abbrev Before : ReplicaState → Type 0
   Before r = g.Near bound r
 
   abbrev After : ReplicaState → Type 0
-  After r = g.Near (bound + g.adds) r
+  After r = g.Near (bound + g.added) r
 
   abbrev Said : List Mail → Type 0
-  Said mails = Each (λ (mail : Mail). g.Names (bound + g.adds) mail.body) mails
+  Said mails = Each (λ (mail : Mail). g.Names (bound + g.added) mail.body) mails
 
   abbrev pub NodeAfter : NodeState × List Mail → Type 0
   NodeAfter step = Each After step.0.replicas × Said step.1
@@ -78,7 +78,7 @@ module _ (g : Growth) (bases : List Base) (fresh : AreFresh bases) (node : NodeS
       let place : Place = tick_row false drawer (r, []) in
       let now = g.ticked_so one.0 node.me (fresh.each one.0 one.1 node.me one.2) bound drawer r (into bases fresh node.me r one) n.0 in
       let fact = sym (one_ticks bases fresh node k drawer r mails one).1 in
-      let said : Said (mails ++ place.1) = Each-append (λ (mail : Mail). g.Names (bound + g.adds) mail.body) mails place.1 s now.1 in
+      let said : Said (mails ++ place.1) = Each-append (λ (mail : Mail). g.Names (bound + g.added) mail.body) mails place.1 s now.1 in
       let rest = tick_near (names_after_tick false drawer r) replicas (tick_row false drawer (r, mails)).1 here.1 n.1 (subst (λ (p : Place). Said p.1) fact said) in
       ((subst (λ (p : Place). After p.0) fact now.0, rest.0), rest.1)
 
@@ -131,10 +131,10 @@ module _ (g : Growth) (words : ℕ → ℕ → ℕ × ℕ) (scenario : Scenario)
     Names sent = Each (λ (mail : Mail). g.Names bound mail.body) sent
 
     abbrev Acted : Player × List Mail → Type 0
-    Acted p = PlayerGrown g (bound + g.adds) p.0 × Each (λ (mail : Mail). g.Names (bound + g.adds) mail.body) p.1
+    Acted p = PlayerGrown g (bound + g.added) p.0 × Each (λ (mail : Mail). g.Names (bound + g.added) mail.body) p.1
 
     stays : (p : Player) → PlayerGrown g bound p → Acted (p, [])
-    stays (Node node) n = (Each-weaker (λ (r : ReplicaState). g.Near bound r) (λ (r : ReplicaState). g.Near (bound + g.adds) r) (λ r b. g.near_more bound r b) node.replicas n, tt)
+    stays (Node node) n = (Each-weaker (λ (r : ReplicaState). g.Near bound r) (λ (r : ReplicaState). g.Near (bound + g.added) r) (λ r b. g.near_more bound r b) node.replicas n, tt)
     stays (Client client) n = (tt, tt)
 
     named : (sent : List Mail) (number : ℕ) (mail : Mail) → Names sent → numbered sent number ≡ Some mail → g.Names bound mail.body
@@ -143,7 +143,7 @@ module _ (g : Growth) (words : ℕ → ℕ → ℕ × ℕ) (scenario : Scenario)
 
     takes : (who : ℕ) (p : Player) (input : Input Mail OrderLine) → MayTake bases who input → ((mail : Mail) → input ≡ Got mail → g.Names bound mail.body) → IsFixedPlayer bases who p → PlayerGrown g bound p → Acted (player_table p input)
     takes who (Node node) input may names k n = steps_near g bases (fresh words scenario bounded off) node k.2 bound input k.1 (subst (λ (m : ℕ). MayTake bases m input) (sym k.0) may) names n
-    takes who (Client client) input may names k n = (tt, each_request (λ body. g.Names (bound + g.adds) body) (g.requests (bound + g.adds)) client input)
+    takes who (Client client) input may names k n = (tt, each_request (λ body. g.Names (bound + g.added) body) (g.requests (bound + g.added)) client input)
 
     acts : (sent : List Mail) (who : ℕ) (p : Player) (event : Event OrderLine) → Each (IsFixedMail bases) sent → Names sent → Brings sent who event → IsFixedPlayer bases who p → PlayerGrown g bound p → Acted (acted player_table p (input_of sent event))
     acts sent who p (Deliver number) s names b k n =
@@ -161,22 +161,22 @@ module _ (g : Growth) (words : ℕ → ℕ → ℕ × ℕ) (scenario : Scenario)
       row_acts who same step seat fact is_of =
           acts (mails rows) seat.who (value player_table seat rows) row.event now.fixed.sent now.sent (brings words scenario bounded off rows row without_orders now.fixed seat.who (same ∙ sym fact) step) (now.fixed.players seat is_of) (now.players seat is_of)
 
-      row_sent : IsStep (system_of as_nodes words scenario) rows row → Each (λ (mail : Mail). g.Names (bound + g.adds) mail.body) row.sent
+      row_sent : IsStep (system_of as_nodes words scenario) rows row → Each (λ (mail : Mail). g.Names (bound + g.added) mail.body) row.sent
       row_sent (inl step) =
           let event_is : row.event ≡ step.event = ap (λ (r : Row Mail OrderLine). r.event) step.row_is in
           let who_is : row.who ≡ step.seat.who = ap (λ (r : Row Mail OrderLine). r.who) step.row_is in
-          subst (λ (ms : List Mail). Each (λ (mail : Mail). g.Names (bound + g.adds) mail.body) ms) (sym (ap (λ (r : Row Mail OrderLine). r.sent) step.row_is))
+          subst (λ (ms : List Mail). Each (λ (mail : Mail). g.Names (bound + g.added) mail.body) ms) (sym (ap (λ (r : Row Mail OrderLine). r.sent) step.row_is))
           (subst (λ (event : Event OrderLine). Acted (acted player_table (value player_table step.seat rows) (input_of (mails rows) event))) event_is (row_acts step.seat.who who_is (inl step) step.seat refl step.born)).1
-      row_sent (inr step) = subst (λ (ms : List Mail). Each (λ (mail : Mail). g.Names (bound + g.adds) mail.body) ms) (sym (ap (λ (r : Row Mail OrderLine). r.sent) step.row_is)) tt
+      row_sent (inr step) = subst (λ (ms : List Mail). Each (λ (mail : Mail). g.Names (bound + g.added) mail.body) ms) (sym (ap (λ (r : Row Mail OrderLine). r.sent) step.row_is)) tt
 
-      next_near : IsStep (system_of as_nodes words scenario) rows row → IsGrownJournal g scenario (bound + g.adds) (rows ++ row ∷ [])
+      next_near : IsStep (system_of as_nodes words scenario) rows row → IsGrownJournal g scenario (bound + g.added) (rows ++ row ∷ [])
       next_near step = record {
         fixed = next_fixed words scenario bounded off rows row without_orders now.fixed step;
-        sent = subst (λ (ms : List Mail). Each (λ (mail : Mail). g.Names (bound + g.adds) mail.body) ms) (sym (mails-snoc rows row))
-            (Each-append (λ (mail : Mail). g.Names (bound + g.adds) mail.body) (mails rows) row.sent
-            (Each-weaker (λ (mail : Mail). g.Names bound mail.body) (λ (mail : Mail). g.Names (bound + g.adds) mail.body) (λ mail n. g.names_more bound mail.body n) (mails rows) now.sent) (row_sent step));
-        players = λ seat is_of. subst (PlayerGrown g (bound + g.adds)) (sym (value-snoc player_table seat rows row))
-            (cond_both (eqb row.who seat.who) (acted player_table (value player_table seat rows) (input_of (mails rows) row.event)).0 (value player_table seat rows) (PlayerGrown g (bound + g.adds))
+        sent = subst (λ (ms : List Mail). Each (λ (mail : Mail). g.Names (bound + g.added) mail.body) ms) (sym (mails-snoc rows row))
+            (Each-append (λ (mail : Mail). g.Names (bound + g.added) mail.body) (mails rows) row.sent
+            (Each-weaker (λ (mail : Mail). g.Names bound mail.body) (λ (mail : Mail). g.Names (bound + g.added) mail.body) (λ mail n. g.names_more bound mail.body n) (mails rows) now.sent) (row_sent step));
+        players = λ seat is_of. subst (PlayerGrown g (bound + g.added)) (sym (value-snoc player_table seat rows row))
+            (cond_both (eqb row.who seat.who) (acted player_table (value player_table seat rows) (input_of (mails rows) row.event)).0 (value player_table seat rows) (PlayerGrown g (bound + g.added))
             (λ t. (row_acts seat.who (eqb-true row.who seat.who t) step seat refl is_of).0) (λ _. (stays (value player_table seat rows) (now.players seat is_of)).0));
       }
 
@@ -187,5 +187,5 @@ module _ (g : Growth) (words : ℕ → ℕ → ℕ × ℕ) (scenario : Scenario)
       lawful-induction (system_of as_nodes words scenario) (λ (xs : Rows). AreWithoutOrders words scenario bounded off xs → IsGrownJournal g scenario (g.bound_at (length xs)) xs)
       (λ xs row keeps step more. (
       let parts = untold_parts words scenario bounded off xs row more in
-      let same : g.bound_at (length xs) + g.adds ≡ g.bound_at (length (xs ++ row ∷ [])) = g.then_ (length xs) ∙ ap g.bound_at (sym (length_push xs row)) in
+      let same : g.bound_at (length xs) + g.added ≡ g.bound_at (length (xs ++ row ∷ [])) = g.then_ (length xs) ∙ ap g.bound_at (sym (length_push xs row)) in
       subst (λ (n : ℕ). IsGrownJournal g scenario n (xs ++ row ∷ [])) same (next_near (g.bound_at (length xs)) xs row parts.1 (keeps parts.0) step))) (schedule scenario) rows (λ _. first_near) lawful without_orders

@@ -18,17 +18,17 @@ use Rattle.sc_live_orderly.proofs.QuietLineEnds.{acts-event}
 
 -- an event of crashes and orders alone that does an actor harm
 pub record Harm (O : Type 0) : Type 0 where
-  pub harms : ℕ → Event O → Bool
-  pub goes : (who : ℕ) → harms who Go ≡ false
-  pub delivers : (who number : ℕ) → harms who (Deliver number) ≡ false
-  pub ticks : (who : ℕ) → harms who Tick ≡ false
-  pub drops : (who number : ℕ) → harms who (Drop number) ≡ false
-  pub repeats : (who number : ℕ) → harms who (Again number) ≡ false
+  pub harmful : ℕ → Event O → Bool
+  pub goes : (who : ℕ) → harmful who Go ≡ false
+  pub delivers : (who number : ℕ) → harmful who (Deliver number) ≡ false
+  pub ticks : (who : ℕ) → harmful who Tick ≡ false
+  pub drops : (who number : ℕ) → harmful who (Drop number) ≡ false
+  pub repeats : (who number : ℕ) → harmful who (Again number) ≡ false
 
 -- a line does no harm
 abbrev pub IsHarmless : {O : Type 0} → Harm O → Line O → Type 0
-IsHarmless h (CrashLine who) = h.harms who Crash ≡ false
-IsHarmless h (ToldLine who order) = h.harms who (Told order) ≡ false
+IsHarmless h (CrashLine who) = h.harmful who Crash ≡ false
+IsHarmless h (ToldLine who order) = h.harmful who (Told order) ≡ false
 IsHarmless h _ = Unit {0}
 
 -- a task does no harm
@@ -83,18 +83,18 @@ module _ {A M O : Type 0} (s : System A M O) (h : Harm O) where
   -- ---- rows
 
   abbrev IsHarmlessRow : Row M O → Type 0
-  IsHarmlessRow row = h.harms row.who row.event ≡ false
+  IsHarmlessRow row = h.harmful row.who row.event ≡ false
 
   module _ (rows : List (Row M O)) where
-    acts_so : (who : ℕ) (event : Event O) (row : Row M O) → ((actor : ℕ) → h.harms actor event ≡ false) → acts s rows who event ≡ Some row → IsHarmlessRow row
-    acts_so who event row n e = ap (λ (x : Event O). h.harms row.who x) (sym (acts-event s rows who event row e)) ∙ n row.who
+    acts_so : (who : ℕ) (event : Event O) (row : Row M O) → ((actor : ℕ) → h.harmful actor event ≡ false) → acts s rows who event ≡ Some row → IsHarmlessRow row
+    acts_so who event row n e = ap (λ (x : Event O). h.harmful row.who x) (sym (acts-event s rows who event row e)) ∙ n row.who
 
     -- the row is the actor's own
-    acts_own : (who : ℕ) (event : Event O) (row : Row M O) → h.harms who event ≡ false → acts s rows who event ≡ Some row → IsHarmlessRow row
+    acts_own : (who : ℕ) (event : Event O) (row : Row M O) → h.harmful who event ≡ false → acts s rows who event ≡ Some row → IsHarmlessRow row
     acts_own who event row n e =
         let m = map-some (λ seat. row_of s.table seat rows event) (find (λ seat. eqb seat.who who) s.births) row e in
         let who_is : row.who ≡ who = sym (ap (λ (r : Row M O). r.who) m.2) ∙ find-who s.births who m.0 m.1 in
-        ap (λ (x : Event O). h.harms row.who x) (sym (acts-event s rows who event row e)) ∙ (ap (λ (n : ℕ). h.harms n event) who_is ∙ n)
+        ap (λ (x : Event O). h.harmful row.who x) (sym (acts-event s rows who event row e)) ∙ (ap (λ (n : ℕ). h.harmful n event) who_is ∙ n)
 
     delivered_so : (mail : ℕ) (row : Row M O) → delivery s rows mail ≡ Some row → IsHarmlessRow row
     delivered_so mail row e = (let p = and_then-some (λ m. acts s rows (s.receiver m) (Deliver mail)) (numbered (mails rows) mail) row e in acts_so (s.receiver p.0) (Deliver mail) row (λ actor. h.delivers actor mail) p.2)
@@ -105,11 +105,11 @@ module _ {A M O : Type 0} (s : System A M O) (h : Harm O) where
         by (may_get (numbers_of s.births) rows (s.receiver p.0)) p.2
       where
         by : (b : Bool) → cond b (Some (network {M = M} {O = O} (Again mail))) None ≡ Some row → IsHarmlessRow row
-        by true q = (let same : network (Again mail) ≡ row = cc in ap (λ (r : Row M O). h.harms r.who r.event) (sym same) ∙ h.repeats 0 mail)
+        by true q = (let same : network (Again mail) ≡ row = cc in ap (λ (r : Row M O). h.harmful r.who r.event) (sym same) ∙ h.repeats 0 mail)
         by false q = absurd (cc)
 
     dropped_so : (mail : ℕ) (row : Row M O) → network (Drop mail) ≡ row → IsHarmlessRow row
-    dropped_so mail row e = ap (λ (r : Row M O). h.harms r.who r.event) (sym e) ∙ h.drops 0 mail
+    dropped_so mail row e = ap (λ (r : Row M O). h.harmful r.who r.event) (sym e) ∙ h.drops 0 mail
 
     storm_so : (w v : ℕ) (row : Row M O) → storm_row s rows w v ≡ Some row → IsHarmlessRow row
     storm_so zero v row e = (let p = map-some (λ mail. network (Drop mail)) (picked s rows v) row e in dropped_so p.0 row p.2)

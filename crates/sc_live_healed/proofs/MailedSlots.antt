@@ -54,7 +54,7 @@ module _ (base : Base) (free : base.core.lock ≡ Free) (stands : base.core.gone
 
   -- what was in flight, where the mail is no vote for it
   held : (body : MailBody) → ((flight : Flight Command) → Counts from body r.leader.ballot flight) → (flight : Flight Command) → Among flight r.leader.flights → Carried body flight
-  held body counts flight a = record { was = flight; among = a; same_slot = refl; kept = λ node v. v; counts = counts flight }
+  held body counts flight a = record { earlier = flight; among = a; same_slot = refl; kept = λ node v. v; counts = counts flight }
 
   runs : (body : MailBody) → r.running ≡ true → IsFixedBody base from r.me body → Leaves body (mailed from body (r, [])).0
   unfolding mailed

@@ -43,7 +43,7 @@ abbrev pub slots_grow : Growth
 slots_grow = record {
   Near = λ bound r. StaysNear bound (r, []);
   Names = λ bound body. NamesNear bound body;
-  adds = slots_ahead;
+  added = slots_ahead;
   bound_at = λ rows. 1 + 4 * rows;
   then_ = λ rows. omega arith;
   begins = λ me base. record { reached = omega arith; floored = omega arith; ready = tt; flights = tt; says = tt };

@@ -159,7 +159,7 @@ abbrev pub rounds_grow : Growth
 rounds_grow = record {
   Near = λ bound r. r.top.round ≤ bound;
   Names = λ bound body. NamesRound bound body;
-  adds = 1;
+  added = 1;
   bound_at = λ rows. 1 + rows;
   then_ = λ rows. omega arith;
   begins = λ me base. omega arith;

@@ -15,7 +15,7 @@ IsWithoutOrders line = gives_order line ≡ false
 
 -- each order is a harm
 orders : {O : Type 0} → Harm O
-orders = record { harms = λ who event. is_told event; goes = λ who. refl; delivers = λ who number. refl; ticks = λ who. refl; drops = λ who number. refl; repeats = λ who number. refl }
+orders = record { harmful = λ who event. is_told event; goes = λ who. refl; delivers = λ who number. refl; ticks = λ who. refl; drops = λ who number. refl; repeats = λ who number. refl }
 
 untold_harmless : {O : Type 0} (lines : List (Line O)) → Each IsWithoutOrders lines → Each (IsHarmless orders) lines
 unfolding orders
@@ -47,7 +47,7 @@ none false = refl
 -- a crash of this actor is a harm
 crashes_of : {O : Type 0} → ℕ → Harm O
 crashes_of who = record {
-  harms = λ actor event. eqb actor who && is_crash event;
+  harmful = λ actor event. eqb actor who && is_crash event;
   goes = λ actor. none (eqb actor who);
   delivers = λ actor number. none (eqb actor who);
   ticks = λ actor. none (eqb actor who);

@@ -92,7 +92,7 @@ module _ (base : Base) (free : base.core.lock ≡ Free) (stands : base.core.gone
     stays flight a other = record {
       value = Each-among (λ (x : Flight Command). IsFixedCommand base x.value) r.leader.flights flight fixed.flights a;
       undecided = Each-among (IsUndecided base) r.leader.flights flight takes.undecided a;
-      from = inl (record { was = flight; among = a; same_slot = refl; kept = λ node v. v; counts = λ b s. absurd (other b s) });
+      from = inl (record { earlier = flight; among = a; same_slot = refl; kept = λ node v. v; counts = λ b s. absurd (other b s) });
     }
 
     -- nothing is counted
@@ -154,7 +154,7 @@ module _ (base : Base) (free : base.core.lock ≡ Free) (stands : base.core.gone
             value = Each-among (λ (x : Flight Command). IsFixedCommand base x.value) r.leader.flights g fixed.flights a;
             undecided = record { voters = vote.few; undecided = no_ };
             from = inl (record {
-              was = flight;
+              earlier = flight;
               among = among;
               same_slot = at ∙ sym here;
               kept = λ node h. vote.kept node h;

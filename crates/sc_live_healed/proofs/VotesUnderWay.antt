@@ -170,19 +170,19 @@ module _ (bases : List Base) (fresh : AreFresh bases) where
           let base : Base = t.base in
           let ballot : Ballot = t.replica.leader.ballot in
           let f = fresh.each base t.among node.me t.member in
-          still_under_way mail others more base node.me member ballot c.was flight rest c.same_slot (record {
+          still_under_way mail others more base node.me member ballot c.earlier flight rest c.same_slot (record {
             counted = λ v. c.kept member v;
             asked = λ command fact. (
                 let who : member ≡ mail.to = sym (ap (λ (x : Mail). x.to) fact) in
-                Answered (subst (λ (s : ℕ). IsAnswered more base member node.me ballot s) c.same_slot (subst (λ (w : ℕ). IsAnswered more base w node.me ballot c.was.slot) (sym who)
-                (own_asked base t.among ballot c.was.slot command (fact ∙ ap (λ (w : ℕ). mail_between node.me w (Accept base.core.id ballot c.was.slot command)) who)))));
-            accepted = λ fact. (let counts : Counts member (Accepted base.core.id ballot c.was.slot) ballot flight = subst (λ (x : Mail). Counts x.from x.body ballot flight) fact c.counts in Counted (counts refl c.same_slot));
-            refused = λ promised low fact. absurd (true≢false (sym on ∙ (ap (λ (x : Mail). (mailed x.from x.body (t.replica, [])).0.0.running) fact ∙ nack_mails member base.core.id promised t.replica (runs c.was c.among) low)));
+                Answered (subst (λ (s : ℕ). IsAnswered more base member node.me ballot s) c.same_slot (subst (λ (w : ℕ). IsAnswered more base w node.me ballot c.earlier.slot) (sym who)
+                (own_asked base t.among ballot c.earlier.slot command (fact ∙ ap (λ (w : ℕ). mail_between node.me w (Accept base.core.id ballot c.earlier.slot command)) who)))));
+            accepted = λ fact. (let counts : Counts member (Accepted base.core.id ballot c.earlier.slot) ballot flight = subst (λ (x : Mail). Counts x.from x.body ballot flight) fact c.counts in Counted (counts refl c.same_slot));
+            refused = λ promised low fact. absurd (true≢false (sym on ∙ (ap (λ (x : Mail). (mailed x.from x.body (t.replica, [])).0.0.running) fact ∙ nack_mails member base.core.id promised t.replica (runs c.earlier c.among) low)));
             installed = λ last sent sets up near fact. (
                 let body : IsFixedBody base member t.replica.me (Install base.core.id last sent sets) = subst (λ (x : Mail). IsFixedBody base x.from t.replica.me x.body) fact says in
-                let open_ = (in_open base f.free f.stands t.replica here t.fixed takes_slots c.was c.among).0 in
+                let open_ = (in_open base f.free f.stands t.replica here t.fixed takes_slots c.earlier c.among).0 in
                 absurd (true≢false (sym on ∙ (ap (λ (x : Mail). (mailed x.from x.body (t.replica, [])).0.0.running) fact ∙ install_mails base member base.core.id last sent sets t.replica t.fixed body near (omega (arith, open_, up))))));
-          }) (votes base t.among t.replica t.found c.was c.among member in_ lives)
+          }) (votes base t.among t.replica t.found c.earlier c.among member in_ lives)
 
       -- the replica after the mail
       own_votes : (flight : Flight Command) → Among flight (mailed mail.from mail.body (t.replica, [])).0.0.leader.flights → (member : ℕ) → is_member t.base.core.members member ≡ true → alive member

@@ -31,10 +31,10 @@ Counts from (Told order result) ballot flight = Unit {0}
 
 -- a command in flight was in flight at its slot before this mail from this node came: its votes are still counted, and so is the mail's, where it is one
 pub record IsCarried (from : ℕ) (body : MailBody) (ballot : Ballot) (before : List (Flight Command)) (flight : Flight Command) : Type 0 where
-  pub was : Flight Command
-  pub among : Among was before
-  pub same_slot : was.slot ≡ flight.slot
-  pub kept : (node : ℕ) → HasVoted node was → HasVoted node flight
+  pub earlier : Flight Command
+  pub among : Among earlier before
+  pub same_slot : earlier.slot ≡ flight.slot
+  pub kept : (node : ℕ) → HasVoted node earlier → HasVoted node flight
   pub counts : Counts from body ballot flight
 
 -- a mail from one actor to another

@@ -115,9 +115,9 @@ module _ {A M O : Type 0} (r : Rules A M O) (words : ℕ → ℕ → ℕ × ℕ)
       Follows old.rows rows → length old.rows < length rows → row ≡ get_or rows (length old.rows) row → IsBadRow (with_births r words births) lines rows (length new.rows + 1)
   IsStageAt-misses new task rest d row at can misses opens decides follows lt is =
       let s = with_births r words births in
-      let m = made s old.rows old.seats.items misses.seats d misses.made at.seats at.apart misses.makes can in
+      let m = made s old.rows old.seats.items misses.seats d misses.other at.seats at.apart misses.makes can in
       subst (λ xs. IsBadRow s lines rows (length xs + 1)) (sym misses.rows)
-      (IsStageAt-wrong task rest row at (opens misses.made m.row_is) follows lt is (λ allows. misses.differs (same_Some misses.made row (sym m.row_is ∙ decides allows))))
+      (IsStageAt-wrong task rest row at (opens misses.other m.row_is) follows lt is (λ allows. misses.differs (same_Some misses.other row (sym m.row_is ∙ decides allows))))
 
 module _ {A M O : Type 0} (s : System A M O) (rows : List (Row M O)) where
   not_over : (free : Bool) (left : ℕ) → 0 < left → is_quiet s rows ≡ false → is_over s rows (many free left) ≡ false
@@ -268,11 +268,11 @@ none_if (Some x) e = absurd (false≢true e)
 -- the row at the number of those that were taken
 pub record IsNextRow {M O : Type 0} (taken rows : List (Row M O)) (row : Row M O) : Type 0 where
   pub more : length taken < length rows
-  pub is : row ≡ get_or rows (length taken) row
+  pub row_is : row ≡ get_or rows (length taken) row
 
 -- the row at the end of those taken is the next
 pub next_row : {M O : Type 0} (taken rows : List (Row M O)) (row : Row M O) (at : ℕ) → at ≡ length taken → at < length rows → row ≡ get_or rows at row → IsNextRow taken rows row
-next_row taken rows row at e lt is = record { more = subst (λ n. n < length rows) e lt; is = subst (λ n. row ≡ get_or rows n row) e is }
+next_row taken rows row at e lt is = record { more = subst (λ n. n < length rows) e lt; row_is = subst (λ n. row ≡ get_or rows n row) e is }
 
 -- the rows end where all are taken
 pub no_row_next : {M O : Type 0} (taken rows : List (Row M O)) (row : Row M O) → length taken ≡ length rows → slice_get rows (length taken) ≡ Some row → ⊥
@@ -284,7 +284,7 @@ pub chooses_none : {A M O : Type 0} (receiver : M → ℕ) (old stage : Stage A 
     → IsNextRow stage.rows rows row → Some action ≡ chosen_action receiver (numbers_of stage.seats.items) stage.rows free row.who → ⊥
 chooses_none {A} {M} {O} receiver old stage rows free row action never same next chosen =
     let here : slice_get rows (length old.rows) ≡ Some row =
-    ap (λ (s : Stage A M O). slice_get rows (length s.rows)) (sym same) ∙ slice_get-get_or rows (length stage.rows) row next.more ∙ ap Some (sym next.is) in
+    ap (λ (s : Stage A M O). slice_get rows (length s.rows)) (sym same) ∙ slice_get-get_or rows (length stage.rows) row next.more ∙ ap Some (sym next.row_is) in
     none-some action (sym (chosen ∙ ap (λ (s : Stage A M O). chosen_action receiver (numbers_of s.seats.items) s.rows free row.who) same ∙ never row here))
 
 -- a stage begins with no row taken

@@ -32,10 +32,10 @@ pub record DidWithRow {A M O : Type 0} (r : Rules A M O) (old new : Stage A M O)
 
 -- The row of the action is another than `row`, and the stage has taken no row.
 pub record Misses {A M O : Type 0} (r : Rules A M O) (old new : Stage A M O) (action : Action O) (row : Row M O) : Type 0 where
-  pub made : Row M O
+  pub other : Row M O
   pub seats : List (Seat A)
-  pub makes : Makes r.table (mails old.rows) old.seats.items seats action made
-  pub differs : made ≡ row → ⊥
+  pub makes : Makes r.table (mails old.rows) old.seats.items seats action other
+  pub differs : other ≡ row → ⊥
   pub rows : new.rows ≡ old.rows
 
 -- Wherever the walk has reached the tasks `before` and any further tasks at the old stage, the rows end here: they are lawful, and the new stage is what they leave.

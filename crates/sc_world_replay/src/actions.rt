@@ -51,7 +51,7 @@ pub(crate) fn line_action<A, M: Parcel, O: Dup + Drop>(
     line: &Line<O>,
 ) -> Result<Option<Action<O>>, OutOfMemory>
     requires { IsUpToDate M.receiver stage.now }
-    ensures is { IfOk result
+    ensures action { IfOk result
         (λ action.
         action
         ≡ line_action M.receiver (numbers_of stage.now.seats.items) stage.now.rows line.now) }
@@ -87,7 +87,7 @@ pub(crate) fn line_action<A, M: Parcel, O: Dup + Drop>(
 /// pending.
 pub(crate) fn lowest_action<A, M: Parcel, O>(stage: &Stage<A, M, O>) -> Option<Action<O>>
     requires { IsUpToDate M.receiver stage.now }
-    ensures is { result
+    ensures action { result
         ≡ lowest_action M.receiver (numbers_of stage.now.seats.items) stage.now.rows }
     ensures can { IfSome result
         (λ action. can_act (numbers_of stage.now.seats.items) action ≡ true) }
@@ -105,7 +105,7 @@ pub(crate) fn lowest_action<A, M: Parcel, O>(stage: &Stage<A, M, O>) -> Option<A
 /// for it.
 pub(crate) fn first_action<A, M: Parcel, O>(stage: &Stage<A, M, O>, who: u32) -> Option<Action<O>>
     requires { IsUpToDate M.receiver stage.now }
-    ensures is { result
+    ensures action { result
         ≡ line_action M.receiver (numbers_of stage.now.seats.items) stage.now.rows
         (Line.Deliver who 1) }
     ensures can { IfSome result

@@ -61,7 +61,7 @@ where
     A::Order: Same,
     requires taking { IsTaking A.Mail.receiver stage.old rows.now }
     requires room { stage.old.skipped < 2 ^ 64 - 1 }
-    ensures is { IfOk result
+    ensures checked { IfOk result
         (λ checked.
         IsChecked (rules_of A.table A.Mail.receiver) stage.old (Once line.now ∷ []) stage.new
         rows.now checked) }
@@ -92,7 +92,7 @@ where
 // `free` the first of the actor `who`.
 fn chosen_action<A, M: Parcel, O>(stage: &Stage<A, M, O>, free: bool, who: u32) -> Option<Action<O>>
     requires { IsUpToDate M.receiver stage.now }
-    ensures is { result
+    ensures action { result
         ≡ chosen_action M.receiver (numbers_of stage.now.seats.items) stage.now.rows free who }
     ensures can { IfSome result
         (λ action. can_act (numbers_of stage.now.seats.items) action ≡ true) }
@@ -116,7 +116,7 @@ where
     A::Mail: Same,
     A::Order: Same,
     requires taking { IsTaking A.Mail.receiver stage.old rows.now }
-    ensures is { IfOk result
+    ensures checked { IfOk result
         (λ checked.
         IsChecked (rules_of A.table A.Mail.receiver) stage.old (many free most ∷ []) stage.new
         rows.now checked) }
@@ -161,7 +161,7 @@ where
     A::Mail: Same,
     A::Order: Same,
     requires taking { IsTaking A.Mail.receiver stage.old rows.now }
-    ensures is { IfOk result
+    ensures checked { IfOk result
         (λ checked.
         IsChecked (rules_of A.table A.Mail.receiver) stage.old (Storms words ∷ []) stage.new
         rows.now checked) }
@@ -199,7 +199,7 @@ where
     A::Mail: Same,
     A::Order: Same,
     requires taking { IsTaking A.Mail.receiver stage.old rows.now }
-    ensures is { IfOk result
+    ensures checked { IfOk result
         (λ checked.
         IsChecked (rules_of A.table A.Mail.receiver) stage.old
         (storm_steps (two_words number) 0 most) stage.new rows.now checked) }
@@ -232,7 +232,7 @@ where
     A::Order: Same,
     requires taking { IsTaking A.Mail.receiver stage.old rows.now }
     requires room { stage.old.skipped < 2 ^ 64 - 1 }
-    ensures is { IfOk result
+    ensures checked { IfOk result
         (λ checked.
         IsChecked (rules_of A.table A.Mail.receiver) stage.old (tasks_of two_words line.now)
         stage.new

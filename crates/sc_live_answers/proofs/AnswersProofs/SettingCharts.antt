@@ -110,12 +110,12 @@ module _ (all_bounded : ValidScenariosAreBounded) (named : LawfulReplicasAreName
     bounded = λ group node. way_low far _ _;
     far = λ group node. refl;
     named = λ group node home. led_once seats later (quiet_upto (players words seats) later (length later)) group (upto_low (players words seats) later (length later)) (subst (λ q. is_led seats q group ≡ true) (sym prefix) (led group node (home.r, home.is_there)));
-    stand = λ frame a. subst (λ q. Among frame.core.id (reach_in sent (names_at seats q) (all_replicas seats q)).stands × ((reach_in sent (names_at seats q) (all_replicas seats q)).ends frame.core.id ≡ 0)) (sym prefix)
+    stand = λ frame a. subst (λ q. Among frame.core.id (reach_in sent (names_at seats q) (all_replicas seats q)).standing × ((reach_in sent (names_at seats q) (all_replicas seats q)).distance frame.core.id ≡ 0)) (sym prefix)
         (let f = frame_named frame a in
         let none = ap (λ n. went_in n all) f.2 ∙ stands_none f.0 f.1 in
         (Among-filter (λ name. not (is_some (went_in name all))) names frame.core.id (subst (λ n. Among n names) (sym f.2) (here_named f.0 f.1.lead.me (f.1.lead, f.1.newest.is_there))) (ap (λ o. not (is_some o)) none), ends_none (length names) all frame.core.id none));
     go = λ group into went. subst
-        (λ q. Each (λ other. other ≡ group → ⊥) (reach_in sent (names_at seats q) (all_replicas seats q)).stands × ((reach_in sent (names_at seats q) (all_replicas seats q)).ends into.group + 1 ≤ (reach_in sent (names_at seats q) (all_replicas seats q)).ends group)) (sym prefix)
+        (λ q. Each (λ other. other ≡ group → ⊥) (reach_in sent (names_at seats q) (all_replicas seats q)).standing × ((reach_in sent (names_at seats q) (all_replicas seats q)).distance into.group + 1 ≤ (reach_in sent (names_at seats q) (all_replicas seats q)).distance group)) (sym prefix)
         (left_out (λ name. not (is_some (went_in name all))) group names (ap (λ o. not (is_some o)) (went_is group into went)), falls names all turn turns group into (went_is group into went));
   }
 

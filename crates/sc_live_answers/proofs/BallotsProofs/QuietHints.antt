@@ -59,11 +59,11 @@ module _ (words : ℕ → ℕ → ℕ × ℕ) (at : Sets) (over : Ends) (by : Sl
   has_one = even_has words at over by (births as_nodes scenario) prefix base t born
 
   -- the one that leads
-  leader : course.runs ≡ true → (lead : ReplicaState) × (view_at (births as_nodes scenario) prefix base.core.id course.ballot.node ≡ Some lead) × (lead.running ≡ true)
+  leader : course.running ≡ true → (lead : ReplicaState) × (view_at (births as_nodes scenario) prefix base.core.id course.ballot.node ≡ Some lead) × (lead.running ≡ true)
   leader = even_leader words at over by (births as_nodes scenario) prefix base t born
 
   -- where none leads, the group is gone
-  over_then : course.runs ≡ false → course.gone ≡ true
+  over_then : course.running ≡ false → course.gone ≡ true
   over_then = even_over words at over by (births as_nodes scenario) prefix base t none
 
   module _ (node : ℕ) (r : ReplicaState) (here : view_at (births as_nodes scenario) prefix base.core.id node ≡ Some r) (off : r.running ≡ false) (stands : r.group.core.gone ≡ None) where
@@ -74,14 +74,14 @@ module _ (words : ℕ → ℕ → ℕ × ℕ) (at : Sets) (over : Ends) (by : Sl
     promise_here = ap (promise_in base) here
 
     -- it is not the one that leads
-    apart : course.runs ≡ true → node ≡ course.ballot.node → ⊥
+    apart : course.running ≡ true → node ≡ course.ballot.node → ⊥
     apart runs fact =
         let lead = leader runs in
         let same : r ≡ lead.0 = same_Some r lead.0 (sym here ∙ (ap (view_at all prefix name) fact ∙ lead.1)) in
         true≢false (sym lead.2 ∙ (ap (λ (x : ReplicaState). x.running) (sym same) ∙ off))
 
     -- one that takes the leader of the ballot for it that it has promised
-    open_rises : course.runs ≡ true → IsOpen at course.newest node → RisesAt (view_at (births as_nodes scenario) prefix) base.core.id r
+    open_rises : course.running ≡ true → IsOpen at course.newest node → RisesAt (view_at (births as_nodes scenario) prefix) base.core.id r
     open_rises runs opened =
         let lead = leader runs in
         let promise : now.promise node ≡ course.ballot = ap (pledged (now.promise node)) (sym (none node)) ∙ (follows.ready node opened).promised in
@@ -104,7 +104,7 @@ module _ (words : ℕ → ℕ → ℕ × ℕ) (at : Sets) (over : Ends) (by : Sl
         record { hint_is = hint; there = one.0; is_there = one.1; nearer = near one.0 one.1 (subst (IsPassed now marks) pledge f.passed) }
       where
         near : (there : ReplicaState) → view_at all prefix base.core.id r.top.node ≡ Some there → IsPassed now marks r.top → (there.running ≡ true) ⊎ (((into : Route) × (there.group.core.gone ≡ Some into)) ⊎ (r.top.round < there.top.round))
-        near there e (inl same) = elim (cases_Bool course.runs) [
+        near there e (inl same) = elim (cases_Bool course.running) [
           | inl runs ↦ (let lead = leader runs in
               let fact : lead.0 ≡ there = same_Some lead.0 there (sym lead.1 ∙ (ap (λ (b : Ballot). view_at all prefix name b.node) (sym same) ∙ e)) in
               inl (ap (λ (x : ReplicaState). x.running) (sym fact) ∙ lead.2))
@@ -130,7 +130,7 @@ module _ (words : ℕ → ℕ → ℕ × ℕ) (at : Sets) (over : Ends) (by : Sl
     rises : RisesAt (view_at (births as_nodes scenario) prefix) base.core.id r
     rises = elim (open_or at node course.newest) [
       | inr closed ↦ closed_rises (λ o. absurd (closed o))
-      | inl opened ↦ elim (cases_Bool course.runs) [ inl runs ↦ open_rises runs opened | inr off_ ↦ closed_rises (λ o. over_then off_) ]
+      | inl opened ↦ elim (cases_Bool course.running) [ inl runs ↦ open_rises runs opened | inr off_ ↦ closed_rises (λ o. over_then off_) ]
     ]
 
 -- So where none of the group's mail is under way, and its first members have made their replicas, hints rise.

@@ -62,7 +62,7 @@ module _ (words : ℕ → ℕ → ℕ × ℕ) (at : Sets) (over : Ends) (by : Sl
   abbrev now : Course
   now = t.course
 
-  one_runs : (node : ℕ) (o : Option ReplicaState) → view_at all rows base.core.id node ≡ o → is_running o ≡ true → (node ≡ now.ballot.node) × (now.runs ≡ true)
+  one_runs : (node : ℕ) (o : Option ReplicaState) → view_at all rows base.core.id node ≡ o → is_running o ≡ true → (node ≡ now.ballot.node) × (now.running ≡ true)
   one_runs node None e runs = absurd (true≢false (sym runs))
   one_runs node (Some r) e runs = (let given = t.led.followed.given.gives node r e runs in (given.1, given.0.runs))
 
@@ -89,12 +89,12 @@ module _ (words : ℕ → ℕ → ℕ × ℕ) (at : Sets) (over : Ends) (by : Sl
 
   -- ---- where nothing of an order stands at the leader, it leads on
 
-  module _ (none : (r : ReplicaState) → view_at (births as_nodes scenario) rows base.core.id seat.who ≡ Some r → r.running ≡ true → works r ≡ []) (leads : t.course.runs ≡ true) where
+  module _ (none : (r : ReplicaState) → view_at (births as_nodes scenario) rows base.core.id seat.who ≡ Some r → r.running ≡ true → works r ≡ []) (leads : t.course.running ≡ true) where
     abbrev KeepsOn : Course → Type 0
-    KeepsOn c = (c.ballot ≡ t.course.ballot) × (c.runs ≡ true)
+    KeepsOn c = (c.ballot ≡ t.course.ballot) × (c.running ≡ true)
 
     same_on : (later : Course) → later ≡ t.course → KeepsOn later
-    same_on later same = (ap (λ (c : Course). c.ballot) same, ap (λ (c : Course). c.runs) same ∙ leads)
+    same_on later same = (ap (λ (c : Course). c.ballot) same, ap (λ (c : Course). c.running) same ∙ leads)
 
     on_by : (later : Course) → IsGroupRow at over by all rows seat event base t.course later → KeepsOn later
     on_by later (RowPasses same leaves) = same_on later same
@@ -107,7 +107,7 @@ module _ (words : ℕ → ℕ → ℕ × ℕ) (at : Sets) (over : Ends) (by : Sl
     ])
     on_by later (RowElects r after ballot row_ off e same) = absurd (true≢false (sym leads ∙ e.self_election.idle))
 
-    pub on_then : (s.through.course.ballot ≡ t.course.ballot) × (s.through.course.runs ≡ true)
+    pub on_then : (s.through.course.ballot ≡ t.course.ballot) × (s.through.course.running ≡ true)
     on_then = subst (λ (c : Course). KeepsOn c) (sym s.same) (on_by s.step.later s.step.row)
 
   -- ---- where an order is given, none elects itself
@@ -127,7 +127,7 @@ module _ (words : ℕ → ℕ → ℕ × ℕ) (at : Sets) (over : Ends) (by : Sl
   module _ (stage : Stage) (a : IsAt stage (scene_at (births as_nodes scenario) rows)) where
     -- ---- where one runs, it leads in the scene
 
-    led_runs : MustLead stage base.core.id → now.runs ≡ true
+    led_runs : MustLead stage base.core.id → now.running ≡ true
     led_runs m =
         let lead = must_lead (scene_at all rows) stage base.core.id a m in
         (one_runs lead.0 (view_at all rows base.core.id lead.0) refl (lead_runs (view_at all rows base.core.id) (numbers_of all) lead.0 lead.1)).1
@@ -140,7 +140,7 @@ module _ (words : ℕ → ℕ → ℕ × ℕ) (at : Sets) (over : Ends) (by : Sl
 
     module _ (first : Ballot) where
       abbrev IsOne : Course → Type 0
-      IsOne c = (c.ballot ≡ first) ⊎ ((c.ballot.round ≤ first.round + 1) × (c.runs ≡ true))
+      IsOne c = (c.ballot ≡ first) ⊎ ((c.ballot.round ≤ first.round + 1) × (c.running ≡ true))
 
       module _ (was : HasOneRound first stage base.core.id t.course) where
         led_one : (r : ReplicaState) (after : Place) → IsReplicasRow all rows seat event base.core.id (Some r) after → r.running ≡ true → (l : LeadsWell at over by all rows seat event base now after) → IsOne (led_course l.led.bound now after.0)
@@ -166,7 +166,7 @@ module _ (words : ℕ → ℕ → ℕ × ℕ) (at : Sets) (over : Ends) (by : Sl
         one_then later (RowLeads r after row_ runs counts l same) = subst IsOne (sym same) (led_one r after row_ runs l)
         one_then later (RowElects r after ballot row_ off e same) = subst IsOne (sym same) (elected_one r after ballot row_ off e)
 
-        module _ (telling : GivesAnOrder event → t.course.ballot ≡ first) (asked : (deal : Deal) (to : ℕ) → stage ≡ Asks deal to → deal.asked ≡ base.core.id → (t.course.ballot ≡ first) × (t.course.runs ≡ true)) (before : Before base.core.id stage) (begins : stage ≡ Still → GivesAnOrder event) where
+        module _ (telling : GivesAnOrder event → t.course.ballot ≡ first) (asked : (deal : Deal) (to : ℕ) → stage ≡ Asks deal to → deal.asked ≡ base.core.id → (t.course.ballot ≡ first) × (t.course.running ≡ true)) (before : Before base.core.id stage) (begins : stage ≡ Still → GivesAnOrder event) where
           ballot_is : now.ballot ≡ first
           ballot_is = elim (before) [
             | inl m ↦ was.leads m
@@ -191,7 +191,7 @@ module _ (words : ℕ → ℕ → ℕ × ℕ) (at : Sets) (over : Ends) (by : Sl
           leads_then later (RowLeads r after row_ runs counts l same) = ap (λ (c : Course). c.ballot) same ∙ ballot_is
           leads_then later (RowElects r after ballot row_ off e same) = absurd (none_elects ballot after e)
 
-      module _ (later : Stage) (goes : (later ≡ stage) ⊎ GoesBy rows event stage later) (telling : GivesAnOrder event → t.course.ballot ≡ first) (asked : (deal : Deal) (to : ℕ) → stage ≡ Asks deal to → deal.asked ≡ base.core.id → (t.course.ballot ≡ first) × (t.course.runs ≡ true))
+      module _ (later : Stage) (goes : (later ≡ stage) ⊎ GoesBy rows event stage later) (telling : GivesAnOrder event → t.course.ballot ≡ first) (asked : (deal : Deal) (to : ℕ) → stage ≡ Asks deal to → deal.asked ≡ base.core.id → (t.course.ballot ≡ first) × (t.course.running ≡ true))
           (was : HasOneRound first stage base.core.id t.course) where
         from_before : MustLead later base.core.id → Before base.core.id stage
         from_before m = elim (goes) [ inl same ↦ inl (subst (λ x. MustLead x base.core.id) same m) | inr g ↦ step_back base.core.id g.group stage later g.step m ]

@@ -118,7 +118,7 @@ module _ (words : ℕ → ℕ → ℕ × ℕ) (at : Sets) (over : Ends) (by : Sl
     abbrev Hinted : Mark → Type 0
     Hinted mark = (after.hint ≡ hint_by at by r.acceptor.promised r.hint mark) ⊎ ((course.gone ≡ true) × (next after ≡ course.newest))
 
-    module _ (mark : Mark) (took : taken_mark base.core.id (mails rows) event ≡ Some mark) (off : r.running ≡ false) (other : course.runs ≡ true → seat.who ≡ course.ballot.node → ⊥) (steps : (mailed mail.from mail.body (r, [])).0.0.running ≡ false) (reaches : (slot : ℕ) → mark ≡ Teaches slot → next (mailed mail.from mail.body (r, [])).0.0 ≡ suc slot) where
+    module _ (mark : Mark) (took : taken_mark base.core.id (mails rows) event ≡ Some mark) (off : r.running ≡ false) (other : course.running ≡ true → seat.who ≡ course.ballot.node → ⊥) (steps : (mailed mail.from mail.body (r, [])).0.0.running ≡ false) (reaches : (slot : ℕ) → mark ≡ Teaches slot → next (mailed mail.from mail.body (r, [])).0.0 ≡ suc slot) where
       as_mark : (own_mark : Mark) → mark_of base.core.id mail.from mail.body ≡ Some own_mark → Hinted own_mark → Hinted mark
       as_mark own_mark fact h = subst Hinted (same_Some own_mark mark (sym (mark_is own_mark fact) ∙ took)) h
 

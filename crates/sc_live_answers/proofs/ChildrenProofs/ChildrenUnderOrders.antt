@@ -79,6 +79,6 @@ children_of false told child name P p (base ∷ made) k = absurd k.0
 
 pub children_were : DeliveriesKeepWork → ChildrenWereNowhere
 children_were keeps words scenario quiet rows seat number line task of row work mail group node r t here =
-    children_of task.splits task.group task.name group (λ child. IsNowhere (births as_nodes scenario) quiet child.core.id) (λ on base fact. subst (IsNowhere (births as_nodes scenario) quiet) (sym fact) (of.new on)) (mailed mail.from mail.body (r, [])).1
-    (Each-weaker (λ (child : Base). Creates task group child × (list_any (λ other. same_draw other child.core.id) r.group.core.born ≡ false)) (λ (child : Base). CreatesBy task.splits task.group task.name group child) (λ child k. k.0) (mailed mail.from mail.body (r, [])).1
+    children_of task.splitting task.group task.name group (λ child. IsNowhere (births as_nodes scenario) quiet child.core.id) (λ on base fact. subst (IsNowhere (births as_nodes scenario) quiet) (sym fact) (of.new on)) (mailed mail.from mail.body (r, [])).1
+    (Each-weaker (λ (child : Base). Creates task group child × (list_any (λ other. same_draw other child.core.id) r.group.core.born ≡ false)) (λ (child : Base). CreatesBy task.splitting task.group task.name group child) (λ child k. k.0) (mailed mail.from mail.body (r, [])).1
     (keeps.creation words scenario rows seat number task row work mail group node r t here))

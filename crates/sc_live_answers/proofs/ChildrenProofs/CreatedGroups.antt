@@ -38,16 +38,16 @@ knows_still from body r name s has = (let goes = mailed_goes r [] from body s in
 
 -- the child that a task creates
 pub record IsCreated (task : Task) (group : Draw) (r : ReplicaState) (kid : Base) : Type 0 where
-  pub splits : task.splits ≡ true
+  pub splits : task.splitting ≡ true
   pub own : group ≡ task.group
   pub name : kid.core.id ≡ task.name
   pub free : kid.core.lock ≡ Free
   pub new : HasCreated kid.core.id r.group.core.born → ⊥
 
 pub created : (task : Task) (group : Draw) (r : ReplicaState) (kid : Base) → Creates task group kid → list_any (λ other. same_draw other kid.core.id) r.group.core.born ≡ false → IsCreated task group r kid
-created task group r kid k new = by task.splits refl k
+created task group r kid k new = by task.splitting refl k
   where
-    by : (b : Bool) → task.splits ≡ b → CreatesBy b task.group task.name group kid → IsCreated task group r kid
+    by : (b : Bool) → task.splitting ≡ b → CreatesBy b task.group task.name group kid → IsCreated task group r kid
     by true e k = record { splits = e; own = k.0; name = k.1; free = k.2; new = λ has. true≢false (sym has ∙ new) }
     by false e k = absurd k
 

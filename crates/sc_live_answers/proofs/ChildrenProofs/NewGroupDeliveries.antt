@@ -101,8 +101,8 @@ off_true : (b : Bool) → b ≡ true → IsOff b → ⊥
 off_true true e k = k
 off_true false e k = true≢false (sym e)
 
-says_stateless : (task : Task) (body : MailBody) → task.splits ≡ true → SaysWork task body → IsStateless body
-says_stateless task (Install group slot base sets) on s = absurd (off_true task.splits on s.0)
+says_stateless : (task : Task) (body : MailBody) → task.splitting ≡ true → SaysWork task body → IsStateless body
+says_stateless task (Install group slot base sets) on s = absurd (off_true task.splitting on s.0)
 says_stateless task _ on s = tt
 
 -- ---- a delivery
@@ -154,16 +154,16 @@ module _ (laws : OfJournals) (well : ScenariosAreWellBorn) (keeps : DeliveriesKe
   -- ---- which are there
 
   new_one : (base : Base) → Among base (groups_at as_nodes scenario.groups journal) → IsNowhere (births as_nodes scenario) quiet base.core.id → (x : ReplicaState) → view_at (births as_nodes scenario) after base.core.id seat.who ≡ Some x
-      → RowKind words (births as_nodes scenario) rows seat number mail → (task.splits ≡ true) × (base.core.id ≡ task.name)
+      → RowKind words (births as_nodes scenario) rows seat number mail → (task.splitting ≡ true) × (base.core.id ≡ task.name)
   new_one base fact nowhere x v (inl stay) = prior.only base fact nowhere (seat.who, x, sym (stay base.core.id) ∙ v)
   new_one base fact nowhere x v (inr (inr m)) = prior.only base fact nowhere (seat.who, x, sym (m.others base.core.id (λ i. no_mail base fact nowhere (ap group_of_mail m.body ∙ ap Some (sym i)))) ∙ v)
   new_one base fact nowhere x v (inr (inl t)) = by (t.others base.core.id (not_own t base fact nowhere))
     where
-      by : OneOf base.core.id seat.who (mailed mail.from mail.body (t.r, [])).1 (view_at (births as_nodes scenario) after base.core.id seat.who) (view_at (births as_nodes scenario) rows base.core.id seat.who) → (task.splits ≡ true) × (base.core.id ≡ task.name)
+      by : OneOf base.core.id seat.who (mailed mail.from mail.body (t.r, [])).1 (view_at (births as_nodes scenario) after base.core.id seat.who) (view_at (births as_nodes scenario) rows base.core.id seat.who) → (task.splitting ≡ true) × (base.core.id ≡ task.name)
       by (inl same) = prior.only base fact nowhere (seat.who, x, sym same ∙ v)
       by (inr (child, a, id, none, makes)) = (let b = b_of t child a in (b.splits, sym id ∙ b.name))
 
-  only : (base : Base) → Among base (groups_at as_nodes scenario.groups journal) → IsNowhere (births as_nodes scenario) quiet base.core.id → IsThere (births as_nodes scenario) after base.core.id → (task.splits ≡ true) × (base.core.id ≡ task.name)
+  only : (base : Base) → Among base (groups_at as_nodes scenario.groups journal) → IsNowhere (births as_nodes scenario) quiet base.core.id → IsThere (births as_nodes scenario) after base.core.id → (task.splitting ≡ true) × (base.core.id ≡ task.name)
   only base fact nowhere (who, x, v) = elim (cases_eq who seat.who) [
     | inl e ↦ new_one base fact nowhere x (ap (view_at (births as_nodes scenario) after base.core.id) (sym e) ∙ v) kind
     | inr ne ↦ prior.only base fact nowhere (who, x, sym (else_stays base.core.id who ne) ∙ v)
@@ -171,7 +171,7 @@ module _ (laws : OfJournals) (well : ScenariosAreWellBorn) (keeps : DeliveriesKe
 
   -- ---- the parent knows it
 
-  module _ (on : task.splits ≡ true) (base : Base) (fact : Among base (groups_at as_nodes scenario.groups journal)) (id : base.core.id ≡ task.name) where
+  module _ (on : task.splitting ≡ true) (base : Base) (fact : Among base (groups_at as_nodes scenario.groups journal)) (id : base.core.id ≡ task.name) where
     nowhere : IsNowhere (births as_nodes scenario) quiet base.core.id
     nowhere = subst (IsNowhere (births as_nodes scenario) quiet) (sym id) (w.of.new on)
 
@@ -179,7 +179,7 @@ module _ (laws : OfJournals) (well : ScenariosAreWellBorn) (keeps : DeliveriesKe
     stateless = says_stateless task mail.body on says
 
     no_state : (m : Makes words (births as_nodes scenario) rows seat number mail) → ⊥
-    no_state m = (let bad : SaysWork task (Install m.group m.slot m.state m.sets) = subst (SaysWork task) m.body says in off_true task.splits on bad.0)
+    no_state m = (let bad : SaysWork task (Install m.group m.slot m.state m.sets) = subst (SaysWork task) m.body says in off_true task.splitting on bad.0)
 
     apart : (t : Takes words (births as_nodes scenario) rows seat number mail) → task.name ≡ t.group → ⊥
     apart t i = not_own t base fact nowhere (id ∙ i)

@@ -91,7 +91,7 @@ module _ (laws : OfJournals) (more_laws : OfMembers) (words : ℕ → ℕ → �
     abbrev Has : Type 0
     Has = HasReplica (view_at (births as_nodes scenario) rows) base.core.id who
 
-    module _ (on : task.splits ≡ true) (id : base.core.id ≡ task.name) where
+    module _ (on : task.splitting ≡ true) (id : base.core.id ≡ task.name) where
       created_of : (r : ReplicaState) × (view_at (births as_nodes scenario) rows task.group there.0 ≡ Some r) × Knows task.name r
       created_of = prior.known on base fact id there.0 there.1 (ap (λ n. view_at (births as_nodes scenario) rows n there.0) (sym id) ∙ there.2)
 

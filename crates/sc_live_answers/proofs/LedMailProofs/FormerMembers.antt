@@ -86,10 +86,10 @@ module _ (at : Sets) (by : SlotLeaders) (now after : Progress) (node : ℕ) (tak
             ]
           ]);
       last = λ off gone.
-          (let off_ : now.course.runs ≡ false = ap (λ (c : Course). c.runs) (sym same) ∙ off in
+          (let off_ : now.course.running ≡ false = ap (λ (c : Course). c.running) (sym same) ∙ off in
           let gone_ : now.course.gone ≡ true = ap (λ (c : Course). c.gone) (sym same) ∙ gone in
           subst (λ (c : Course). after.next c.ballot.node ≡ c.newest) (sym same) (last_on (k.last off_ gone_)));
-      left = λ off stands. subst (λ (c : Course). IsOpen at c.newest c.ballot.node) (sym same) (k.left (ap (λ (c : Course). c.runs) (sym same) ∙ off) (ap (λ (c : Course). c.gone) (sym same) ∙ stands));
+      left = λ off stands. subst (λ (c : Course). IsOpen at c.newest c.ballot.node) (sym same) (k.left (ap (λ (c : Course). c.running) (sym same) ∙ off) (ap (λ (c : Course). c.gone) (sym same) ∙ stands));
     }
       where
         last_on : now.next now.course.ballot.node ≡ now.course.newest → after.next now.course.ballot.node ≡ now.course.newest
@@ -284,8 +284,8 @@ module _ (at : Sets) (by : SlotLeaders) (now after : Progress) (node : ℕ) (tak
       ]
     ]
       where
-        off : after.course.runs ≡ false
-        off = elim (cases_Bool after.course.runs) [ inl t ↦ absurd (true≢false (sym gone ∙ (l.stays t).1)) | inr f ↦ f ]
+        off : after.course.running ≡ false
+        off = elim (cases_Bool after.course.running) [ inl t ↦ absurd (true≢false (sym gone ∙ (l.stays t).1)) | inr f ↦ f ]
 
         stop : (1 ≤ l.executed) × (after.course.bound ≡ after.course.newest)
         stop = l.stops off

@@ -50,7 +50,7 @@ owes_most r q off stands = by r.running q.running r.group.core.gone q.group.core
 
 -- another leads, or the group is gone
 abbrev pub IsApart : Course → ℕ → Type 0
-IsApart course who = ((course.runs ≡ true) × (who ≡ course.ballot.node → ⊥)) ⊎ (course.gone ≡ true)
+IsApart course who = ((course.running ≡ true) × (who ≡ course.ballot.node → ⊥)) ⊎ (course.gone ≡ true)
 
 module _ (at : Sets) (over : Ends) (by : SlotLeaders) (words : ℕ → ℕ → ℕ × ℕ) (births : List (Seat Player)) (prefix rows more : Rows) (base : Base) (course : Course) (one : HasOneLog at over by births prefix base) (begins : prefix ≡ rows ++ more) (led : IsWellLed at over by words births rows base course) where
   abbrev name : Draw

@@ -41,7 +41,7 @@ module _ (words : ℕ → ℕ → ℕ × ℕ) (births : List (Seat Player)) (row
   marked : HasMark base mail (Installs slot)
   marked = ap (mark_of base.core.id mail.from) body ∙ same_mark base.core.id (Installs slot)
 
-  apart : g.course.runs ≡ true → seat.who ≡ g.course.ballot.node → ⊥
+  apart : g.course.running ≡ true → seat.who ≡ g.course.ballot.node → ⊥
   apart =
       (let low : (progress_at births rows base g.course).next seat.who ≤ slot = (all_fit g.at words births rows seat node base g.course the_scene number mail takes (Installs slot) marked).0 in
       no_lead g.at words births rows seat node base g.course the_scene number mail takes (Installs slot) marked (omega (arith, low)))

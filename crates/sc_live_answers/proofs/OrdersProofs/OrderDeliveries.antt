@@ -192,7 +192,7 @@ module _ (named_at : JournalMailFinds) (strays : StrayMailFinds) (for_node : Mai
     -- ---- what is asked
 
     -- of a coordinator in the stage, whose leader is there
-    asks_so : (stage : Stage) (tx coord asked : Draw) (turn : Turn) (chief : ℕ) → IsAt stage now → (now.at coord).bond ≡ Asking tx asked turn → now.lead coord ≡ Some chief → chart.ways.asks tx ≡ Some (asked, is_watch turn)
+    asks_so : (stage : Stage) (tx coord asked : Draw) (turn : Turn) (chief : ℕ) → IsAt stage now → (now.at coord).bond ≡ Asking tx asked turn → now.lead coord ≡ Some chief → chart.ways.asked_group tx ≡ Some (asked, is_watch turn)
     asks_so stage tx coord asked turn chief stands bond led =
         let runs = runs_there (view_at all rows coord chief) (lead_runs (view_at all rows coord) (numbers_of all) chief led) in
         asks_law all rows stage tx coord asked turn runs.0 known.alone stands bond (among_all all rows coord chief runs.0 runs.1) runs.2 (named_so all rows coord chief runs.0 runs.1)
@@ -214,10 +214,10 @@ module _ (named_at : JournalMailFinds) (strays : StrayMailFinds) (for_node : Mai
       question_fresh : IsFresh (Asks q.deal q.to) name
       question_fresh = subst (IsFresh (Asks q.deal q.to)) q.asked_is (fresh.asked now q.deal q.to stands_so)
 
-      question_asks : chart.ways.asks tx ≡ Some (name, watch)
+      question_asks : chart.ways.asked_group tx ≡ Some (name, watch)
       question_asks =
           let asked = asks_so (Asks q.deal q.to) q.deal.tx q.deal.coord q.deal.asked q.deal.turn q.deal.chief stands_so (ap (λ (h : Here). h.bond) stands_so.parties.0.0) stands_so.leads.0 in
-          ap chart.ways.asks (sym q.tx_is) ∙ (asked ∙ (ap (λ n. Some (n, is_watch q.deal.turn)) q.asked_is ∙ ap (λ w. Some (name, w)) q.watch_is))
+          ap chart.ways.asked_group (sym q.tx_is) ∙ (asked ∙ (ap (λ n. Some (n, is_watch q.deal.turn)) q.asked_is ∙ ap (λ w. Some (name, w)) q.watch_is))
 
       question_points : (r : ReplicaState) → replica_of name node.replicas ≡ Some r → Points chart.ways name r
       question_points r here = points (Asks q.deal q.to) question_fresh (sym q.stage_is) r here

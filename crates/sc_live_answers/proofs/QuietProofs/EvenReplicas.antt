@@ -23,7 +23,7 @@ module _ (words : ℕ → ℕ → ℕ × ℕ) (at : Sets) (over : Ends) (by : Sl
   now = progress_at births prefix base course
 
   -- the one that leads
-  pub leader : ((node : ℕ) → is_member base.core.members node ≡ true → HasReplica (view_at births prefix) base.core.id node) → t.course.runs ≡ true → (lead : ReplicaState) × (view_at births prefix base.core.id t.course.ballot.node ≡ Some lead) × (lead.running ≡ true)
+  pub leader : ((node : ℕ) → is_member base.core.members node ≡ true → HasReplica (view_at births prefix) base.core.id node) → t.course.running ≡ true → (lead : ReplicaState) × (view_at births prefix base.core.id t.course.ballot.node ≡ Some lead) × (lead.running ≡ true)
   leader born runs = by_view (view_at births prefix name course.ballot.node) refl (t.led.followed.given.runs runs)
     where
       by_view : (o : Option ReplicaState) → view_at births prefix base.core.id course.ballot.node ≡ o → IsLedBy base course o → (lead : ReplicaState) × (view_at births prefix base.core.id course.ballot.node ≡ Some lead) × (lead.running ≡ true)
@@ -51,7 +51,7 @@ module _ (words : ℕ → ℕ → ℕ × ℕ) (at : Sets) (over : Ends) (by : Sl
     even = quiet-even at now (marks_at (players words births) prefix name) t.one.log.rosters none t.led.followed.follows
 
     -- where none leads, the group is gone
-    pub over_then : t.course.runs ≡ false → t.course.gone ≡ true
+    pub over_then : t.course.running ≡ false → t.course.gone ≡ true
     over_then off = elim (cases_Bool course.gone) [
       | inl t_ ↦ t_
       | inr stands ↦ (let low = t.led.followed.follows.self_election off stands in

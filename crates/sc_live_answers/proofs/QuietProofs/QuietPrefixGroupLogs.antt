@@ -32,7 +32,7 @@ module _ (by : SlotLeaders) (words : ℕ → ℕ → ℕ × ℕ) (scenario : Sce
       (one, has.0, has.1, sym (place by words scenario journal prefix base course q one has.0 has.1) ∙ newest_next by words scenario journal prefix base course q one member)
 
   -- where one leads, it has nothing in flight
-  leader_bound : course.runs ≡ true → course.bound ≤ course.newest
+  leader_bound : course.running ≡ true → course.bound ≤ course.newest
   leader_bound runs =
       let leads = q.led.followed.follows.leads runs in
       let node = course.ballot.node in
@@ -49,7 +49,7 @@ module _ (by : SlotLeaders) (words : ℕ → ℕ → ℕ × ℕ) (scenario : Sce
 
   -- so nothing is offered that is not executed
   pub bound_low : course.bound ≤ course.newest
-  bound_low = elim (cases_Bool course.runs) [
+  bound_low = elim (cases_Bool course.running) [
     | inl runs ↦ leader_bound runs
     | inr off ↦ (let same = q.led.followed.follows.offered off in omega (arith, same))
   ]

@@ -121,9 +121,9 @@ module _ (begun : Requests) (set : Setting) (fact : IsSetting set) (linked : IsL
             let r = ring_known frame s.is_frame s.says.0 in
             let next_ = learn_in_turn.not_mine r.ring r.reached (pos_of (key_of w.op)) frame client.known r.round r.first r.among (w.chosen_is ∙ ap Some s.says.0) (lacks arc succ s) in
             record {
-              among = subst (λ d. Among d chart.reach.stands) name stands.0;
+              among = subst (λ d. Among d chart.reach.standing) name stands.0;
               none = ap (λ d. way_to d client.known) (ap (λ (x : Link). x.group) s.says.1.says.2) ∙ next_.0;
-              ends = ap chart.reach.ends (sym name) ∙ stands.1;
+              ends = ap chart.reach.distance (sym name) ∙ stands.1;
             }
 
         leaves : (into : Route) → CalmSays begun set mail.from mail.to (Answer w.group w.seq (Gone into)) → LeavesFor chart.reach w.group into.group client

@@ -274,7 +274,7 @@ module _ (all_bounded : ValidScenariosAreBounded) (frames_law : QuietJournalsHav
     same_round : (base : Base) (among : Among base (groups_at as_nodes scenario.groups journal)) → (asked.sent base among).course.ballot.round ≡ (rests.sent base among).course.ballot.round
     same_round base among =
         let b = asked.ballots base among in
-        elim (cases_Bool (rests.sent base among).course.runs) [
+        elim (cases_Bool (rests.sent base among).course.running) [
           | inl runs ↦ ap (λ (x : Ballot). x.round) (b.0 runs).0
           | inr off ↦ ap (λ (x : Ballot). x.round) (b.1 off).ballot
         ]

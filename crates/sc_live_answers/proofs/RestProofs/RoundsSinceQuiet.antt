@@ -35,7 +35,7 @@ same_keep words at over by scenario quiet rows base t u born there same runs =
 
 module _ (words : ℕ → ℕ → ℕ × ℕ) (at : Sets) (over : Ends) (by : SlotLeaders) (scenario : Scenario) (quiet : Rows) (base : Base) (q : IsSentThrough at over by words (births as_nodes scenario) quiet base) (none : (who : ℕ) → marks_at (players words (births as_nodes scenario)) quiet base.core.id who ≡ []) where
   -- where none leads, the group is gone
-  quiet_gone : q.course.runs ≡ false → StaysGone q.course.ballot q.course
+  quiet_gone : q.course.running ≡ false → StaysGone q.course.ballot q.course
   quiet_gone off = record { ballot = refl; off = off; gone = over_then words at over by (births as_nodes scenario) quiet base q none off }
 
   module _ (born : HasMembers (births as_nodes scenario) quiet base) (most : ℕ) (some : 1 ≤ most) (low : (node : ℕ) (r : ReplicaState) → view_at (births as_nodes scenario) quiet base.core.id node ≡ Some r → r.top.round ≤ most) where
@@ -97,8 +97,8 @@ orders_keep idle wb = record {
 }
   where
     asked_same : (words : ℕ → ℕ → ℕ × ℕ) (at : Sets) (over : Ends) (by : SlotLeaders) (scenario : Scenario) (quiet rows : Rows) (base : Base) (q : IsSentThrough at over by words (births as_nodes scenario) quiet base) (t : IsSentThrough at over by words (births as_nodes scenario) rows base)
-        → HasMembers (births as_nodes scenario) quiet base → (stage : Stage) → AreUntouched words (births as_nodes scenario) quiet rows stage → (deal : Deal) (to : ℕ) → stage ≡ Asks deal to → deal.asked ≡ base.core.id → q.course.runs ≡ true
-        → (t.course.ballot ≡ q.course.ballot) × (t.course.runs ≡ true)
+        → HasMembers (births as_nodes scenario) quiet base → (stage : Stage) → AreUntouched words (births as_nodes scenario) quiet rows stage → (deal : Deal) (to : ℕ) → stage ≡ Asks deal to → deal.asked ≡ base.core.id → q.course.running ≡ true
+        → (t.course.ballot ≡ q.course.ballot) × (t.course.running ≡ true)
     asked_same words at over by scenario quiet rows base q t members stage untouched deal to fact named runs =
         let here : AreUntouched words (births as_nodes scenario) quiet rows (Asks deal to) = subst (AreUntouched words (births as_nodes scenario) quiet rows) fact untouched in
         let fresh : IsFresh (Asks deal to) base.core.id = subst (IsFresh (Asks deal to)) named (asked_fresh _ deal to here.stands) in

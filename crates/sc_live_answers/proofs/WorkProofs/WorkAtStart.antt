@@ -73,13 +73,13 @@ module _ (well : ScenariosAreWellBorn) (words : ℕ → ℕ → ℕ × ℕ) (sce
   abbrev Done : Type 0
   Done = (task : Task) × IsTaskOf (births as_nodes scenario) quiet line task × AreAtWork task words (births as_nodes scenario) (with_event quiet seat (Told line))
 
-  finish : (task : Task) → IsTaskOf (births as_nodes scenario) quiet line task → Begins (affair_of task.number task.splits task.group task.name) → Done
+  finish : (task : Task) → IsTaskOf (births as_nodes scenario) quiet line task → Begins (affair_of task.number task.splitting task.group task.name) → Done
   finish task of b =
-      (task, of, held_work task words (births as_nodes scenario) (with_event quiet seat (Told line)) (goes_on (affair_of task.number task.splits task.group task.name) words (births as_nodes scenario) quiet seat (Told line) timely b (quiet_held (affair_of task.number task.splits task.group task.name) (begins_free task.number task.splits task.group task.name))))
+      (task, of, held_work task words (births as_nodes scenario) (with_event quiet seat (Told line)) (goes_on (affair_of task.number task.splitting task.group task.name) words (births as_nodes scenario) quiet seat (Told line) timely b (quiet_held (affair_of task.number task.splitting task.group task.name) (begins_free task.number task.splitting task.group task.name))))
 
   -- an order of which nothing comes
   nothing : Begins (affair_of line.number false group group) → Done
-  nothing b = finish (record { number = line.number; group = group; name = group; splits = false }) (record { number = refl; group = refl; there = λ t. absurd (true≢false (sym t)); new = λ t. absurd (true≢false (sym t)); unknown = λ t. absurd (true≢false (sym t)) }) b
+  nothing b = finish (record { number = line.number; group = group; name = group; splitting = false }) (record { number = refl; group = refl; there = λ t. absurd (true≢false (sym t)); new = λ t. absurd (true≢false (sym t)); unknown = λ t. absurd (true≢false (sym t)) }) b
 
   client_begins : (client : ClientState) → value player_table seat quiet ≡ Client client → Done
   client_begins client fact =
@@ -144,7 +144,7 @@ module _ (well : ScenariosAreWellBorn) (words : ℕ → ℕ → ℕ × ℕ) (sce
       by_taken None e =
           let fine = order_fine node.draws line r (rests group seat.who r (view_of group (Some r) here)).0 own (rests group seat.who r (view_of group (Some r) here)).1 (rests group seat.who r (view_of group (Some r) here)).2 kept.1 in
           let born = born_node seat.actor refl in
-          finish (record { number = line.number; group = group; name = next_name node.draws; splits = is_split line.order })
+          finish (record { number = line.number; group = group; name = next_name node.draws; splitting = is_split line.order })
           (record { number = refl; group = refl; there = λ t. (seat.who, r, view_of group (Some r) here); unknown = λ t. drawn_unknown words scenario quiet bounded lawful seat line born.0 born.1 seated node fact r here e (split_names line.order t); new = λ t. drawn_nowhere words scenario quiet bounded lawful seat line born.0 born.1 seated node fact r here e (split_names line.order t) })
           (begins (affair_of line.number (is_split line.order) group (next_name node.draws)) (begins_free line.number (is_split line.order) group (next_name node.draws)) (fine.0.1, fine.0.2, fine.0.3, fine.0.4, fine.0.5) fine.1)
 

@@ -86,7 +86,7 @@ module _ (well : ScenariosAreWellBorn) (a : Affair) (begins : BeginsFree a) (wor
 -- ---- of a task
 
 -- what a mail says of a task is what it says of its affair
-says_so : (n : ℕ) (b : Bool) (told child : Draw) (body : MailBody) → SaysWork (record { number = n; group = told; name = child; splits = b }) body → Says (affair_of n b told child) body
+says_so : (n : ℕ) (b : Bool) (told child : Draw) (body : MailBody) → SaysWork (record { number = n; group = told; name = child; splitting = b }) body → Says (affair_of n b told child) body
 says_so n false told child (Request group client seq op) q = q
 says_so n false told child (Answer group seq answer) q = q
 says_so n false told child (Learn group slot command) q = q
@@ -106,7 +106,7 @@ says_so n false told child (TxWatched tx coord part vote) q = q
 says_so n false told child (ToldMail order result) q = q
 says_so n true told child _ q = q
 
-says_back : (n : ℕ) (b : Bool) (told child : Draw) (body : MailBody) → Says (affair_of n b told child) body → SaysWork (record { number = n; group = told; name = child; splits = b }) body
+says_back : (n : ℕ) (b : Bool) (told child : Draw) (body : MailBody) → Says (affair_of n b told child) body → SaysWork (record { number = n; group = told; name = child; splitting = b }) body
 says_back n false told child (Request group client seq op) q = q
 says_back n false told child (Answer group seq answer) q = q
 says_back n false told child (Learn group slot command) q = q
@@ -126,11 +126,11 @@ says_back n false told child (TxWatched tx coord part vote) q = q
 says_back n false told child (ToldMail order result) q = q
 says_back n true told child _ q = q
 
-held_so : (n : ℕ) (b : Bool) (told child name : Draw) (r : ReplicaState) → IsAtWork (record { number = n; group = told; name = child; splits = b }) name r → HeldSo (affair_of n b told child) name r
+held_so : (n : ℕ) (b : Bool) (told child name : Draw) (r : ReplicaState) → IsAtWork (record { number = n; group = told; name = child; splitting = b }) name r → HeldSo (affair_of n b told child) name r
 held_so n true told child name r k = (k.backlog, k.acts, k.flights, k.ready, k.state)
 held_so n false told child name r k = (k.backlog, k.acts, k.flights, k.ready, k.state)
 
-held_back : (n : ℕ) (b : Bool) (told child name : Draw) (r : ReplicaState) → HeldSo (affair_of n b told child) name r → IsAtWork (record { number = n; group = told; name = child; splits = b }) name r
+held_back : (n : ℕ) (b : Bool) (told child name : Draw) (r : ReplicaState) → HeldSo (affair_of n b told child) name r → IsAtWork (record { number = n; group = told; name = child; splitting = b }) name r
 held_back n true told child name r k = record { backlog = k.0; acts = k.1; flights = k.2; ready = k.3; state = k.4 }
 held_back n false told child name r k = record { backlog = k.0; acts = k.1; flights = k.2; ready = k.3; state = k.4 }
 
@@ -146,24 +146,24 @@ module _ (well : ScenariosAreWellBorn) (words : ℕ → ℕ → ℕ × ℕ) (sce
       (creation well (affair_of n false told child) (begins_free n false told child) words scenario rows seat number g k mail group node r t here)
 
 module _ (task : Task) (words : ℕ → ℕ → ℕ × ℕ) (births : List (Seat Player)) (rows : Rows) where
-  pub work_held : AreAtWork task words births rows → AreHeld (affair_of task.number task.splits task.group task.name) words births rows
+  pub work_held : AreAtWork task words births rows → AreHeld (affair_of task.number task.splitting task.group task.name) words births rows
   work_held k = record {
-    replicas = λ name who r v. held_so task.number task.splits task.group task.name name r (k.replicas name who r v);
-    mail = λ who fact. Each-weaker (λ (mail : Mail). SaysWork task mail.body) (IsGood (affair_of task.number task.splits task.group task.name)) (λ mail q. says_so task.number task.splits task.group task.name mail.body q) (rest (players words births) rows who) (k.mail who fact);
+    replicas = λ name who r v. held_so task.number task.splitting task.group task.name name r (k.replicas name who r v);
+    mail = λ who fact. Each-weaker (λ (mail : Mail). SaysWork task mail.body) (IsGood (affair_of task.number task.splitting task.group task.name)) (λ mail q. says_so task.number task.splitting task.group task.name mail.body q) (rest (players words births) rows who) (k.mail who fact);
   }
 
-  pub held_work : AreHeld (affair_of task.number task.splits task.group task.name) words births rows → AreAtWork task words births rows
+  pub held_work : AreHeld (affair_of task.number task.splitting task.group task.name) words births rows → AreAtWork task words births rows
   held_work k = record {
-    replicas = λ name who r v. held_back task.number task.splits task.group task.name name r (k.replicas name who r v);
-    mail = λ who fact. Each-weaker (IsGood (affair_of task.number task.splits task.group task.name)) (λ (mail : Mail). SaysWork task mail.body) (λ mail q. says_back task.number task.splits task.group task.name mail.body q) (rest (players words births) rows who) (k.mail who fact);
+    replicas = λ name who r v. held_back task.number task.splitting task.group task.name name r (k.replicas name who r v);
+    mail = λ who fact. Each-weaker (IsGood (affair_of task.number task.splitting task.group task.name)) (λ (mail : Mail). SaysWork task mail.body) (λ mail q. says_back task.number task.splitting task.group task.name mail.body q) (rest (players words births) rows who) (k.mail who fact);
   }
 
 pub deliveries_keep : ScenariosAreWellBorn → DeliveriesKeepWork
 deliveries_keep well = record {
   keeps = λ words scenario rows seat number task g k.
-      held_work task words (births as_nodes scenario) (with_event rows seat (Deliver number)) (keeps well (affair_of task.number task.splits task.group task.name) (begins_free task.number task.splits task.group task.name) words scenario rows seat number g (work_held task words (births as_nodes scenario) rows k));
+      held_work task words (births as_nodes scenario) (with_event rows seat (Deliver number)) (keeps well (affair_of task.number task.splitting task.group task.name) (begins_free task.number task.splitting task.group task.name) words scenario rows seat number g (work_held task words (births as_nodes scenario) rows k));
   creation = λ words scenario rows seat number task g k mail group node r t here.
-      unborn_by well words scenario rows seat number g task.number task.splits task.group task.name (work_held task words (births as_nodes scenario) rows k) mail group node r t here;
+      unborn_by well words scenario rows seat number g task.number task.splitting task.group task.name (work_held task words (births as_nodes scenario) rows k) mail group node r t here;
   unasked = λ words births rows seat number task born timely k mail group client seq op at e.
       subst (SaysWork task) e (takes_one words births rows seat number born timely (λ (m : Mail). SaysWork task m.body) (k.mail seat.who (is_born-from (players words births) seat.who seat born)) mail at);
   unanswered = λ words births rows seat number task born timely k mail group seq answer at e.
@@ -183,8 +183,8 @@ does_work b told child name _ d = (_, refl)
 pub stands_alone : WorkStandsAlone
 stands_alone = record {
   alone = λ task name r k. record {
-    flights = Each-weaker (λ flight. Does task name flight.value) (λ flight. IsWork flight.value) (λ flight d. does_work task.splits task.group task.name name flight.value d.0) r.leader.flights k.flights;
-    ready = Each-weaker (λ (entry : ℕ × Command). Does task name entry.1) (λ (entry : ℕ × Command). IsWork entry.1) (λ entry d. does_work task.splits task.group task.name name entry.1 d.0) r.ready k.ready;
+    flights = Each-weaker (λ flight. Does task name flight.value) (λ flight. IsWork flight.value) (λ flight d. does_work task.splitting task.group task.name name flight.value d.0) r.leader.flights k.flights;
+    ready = Each-weaker (λ (entry : ℕ × Command). Does task name entry.1) (λ (entry : ℕ × Command). IsWork entry.1) (λ entry d. does_work task.splitting task.group task.name name entry.1 d.0) r.ready k.ready;
   };
   rests = λ r rest none. (ap works_in rest.acts, ap works_in rest.backlog);
 }

@@ -15,11 +15,11 @@ use Rattle.sc_live_journals.proofs.ChartsProofs.LedNames.{Extends, names_grow}
 
 -- ways where another is asked
 abbrev ways_with : Ways → (Draw → Option (Draw × Bool)) → Ways
-ways_with ways asks = record ways { asks = asks }
+ways_with ways asks = record ways { asked_group = asks }
 
-elsewhere_same : (ways : Ways) (asks : Draw → Option (Draw × Bool)) (tx : Draw) (hint : Option ℕ) → asks tx ≡ ways.asks tx → elsewhere_owes (ways_with ways asks) tx hint ≡ elsewhere_owes ways tx hint
+elsewhere_same : (ways : Ways) (asks : Draw → Option (Draw × Bool)) (tx : Draw) (hint : Option ℕ) → asks tx ≡ ways.asked_group tx → elsewhere_owes (ways_with ways asks) tx hint ≡ elsewhere_owes ways tx hint
 elsewhere_same ways asks tx None same = refl
-elsewhere_same ways asks tx (Some node) same = ap (λ o. 1 + asked_owes (ways_with ways asks) node o) same ∙ asked_same (ways.asks tx)
+elsewhere_same ways asks tx (Some node) same = ap (λ o. 1 + asked_owes (ways_with ways asks) node o) same ∙ asked_same (ways.asked_group tx)
   where
     asked_same : (o : Option (Draw × Bool)) → 1 + asked_owes (ways_with ways asks) node o ≡ 1 + asked_owes ways node o
     asked_same None = refl
@@ -27,7 +27,7 @@ elsewhere_same ways asks tx (Some node) same = ap (λ o. 1 + asked_owes (ways_wi
     asked_same (Some (group, false)) = refl
 
 -- a mail owes the same, but where it is to be asked elsewhere
-body_same : (ways : Ways) (asks : Draw → Option (Draw × Bool)) (to : ℕ) (body : MailBody) → ((tx coord : Draw) (hint : Option ℕ) → body ≡ TxElsewhere tx coord hint → asks tx ≡ ways.asks tx)
+body_same : (ways : Ways) (asks : Draw → Option (Draw × Bool)) (to : ℕ) (body : MailBody) → ((tx coord : Draw) (hint : Option ℕ) → body ≡ TxElsewhere tx coord hint → asks tx ≡ ways.asked_group tx)
     → body_owes (ways_with ways asks) to body ≡ body_owes ways to body
 body_same ways asks to (Answer group seq (Says.Value reply)) same = refl
 body_same ways asks to (Answer group seq (Says.NotMine arc succ)) same = refl
@@ -54,7 +54,7 @@ module _ (words : ℕ → ℕ → ℕ × ℕ) (births : List (Seat Player)) (far
   -- what the chart has of the last quiet journal
   abbrev with_prefix : Rows → Chart
   with_prefix prefix = record {
-    ways = record { far = far_at far births prefix; most = far; asks = λ tx. asked_in tx (all_replicas births after) };
+    ways = record { far = far_at far births prefix; most = far; asked_group = λ tx. asked_in tx (all_replicas births after) };
     groups = names_at births after;
     reach = reach_in sent (names_at births prefix) (all_replicas births prefix);
   }

@@ -116,7 +116,7 @@ module _ (at : Sets) (over : Ends) (by : SlotLeaders) (words : ℕ → ℕ → �
   -- ---- it does not elect itself
 
   module _ (stays : Stays (entered command r)) where
-    never : course.runs ≡ false → course.gone ≡ false → seat.who ≡ least_of (members_at at course.newest) → suc slot ≡ course.newest → ⊥
+    never : course.running ≡ false → course.gone ≡ false → seat.who ≡ least_of (members_at at course.newest) → suc slot ≡ course.newest → ⊥
     never idle stands least last = by_stays stays
       where
         by_stays : Stays (entered command r) → ⊥

@@ -65,13 +65,13 @@ module _ (at : Sets) (over : Ends) (by : SlotLeaders) (words : ℕ → ℕ → �
   first_is = head at words births rows seat node base course (scene at over by words births rows seat node base course s) number mail takes (Installs slot) fact
 
   -- a member sends it
-  sent_member : (state : Base) → members_at at (slot + 1) ≡ state.core.members → (course.runs ≡ true → seat.who ≡ course.ballot.node → ⊥) → is_member state.core.members (by slot) ≡ true
+  sent_member : (state : Base) → members_at at (slot + 1) ≡ state.core.members → (course.running ≡ true → seat.who ≡ course.ballot.node → ⊥) → is_member state.core.members (by slot) ≡ true
   sent_member state same apart =
       ap (λ ms. is_member ms (by slot)) (sym same)
       ∙ (subst (AreHeeded at by course seat.who ((progress_at births rows base course).promise seat.who) (hints_at births rows base seat.who)) first_is (s.led.heeded.heeds seat.who apart)).0
 
   -- it is not the last one where none leads
-  sent_waits : course.runs ≡ false → course.gone ≡ false → suc slot < course.newest
+  sent_waits : course.running ≡ false → course.gone ≡ false → suc slot < course.newest
   sent_waits idle stands =
       elim (cases_lt (suc slot) course.newest) [
         | inl lt ↦ lt
@@ -146,7 +146,7 @@ module _ (at : Sets) (over : Ends) (by : SlotLeaders) (words : ℕ → ℕ → �
       off_other other = apart_off at words births rows seat node base course the_scene r row.was other
 
       -- a mail that leaves the next slot
-      keeps_place : StepsBy mark r after → next after.0 ≡ next r → (course.runs ≡ true → seat.who ≡ course.ballot.node → IsCount mark → ⊥) → LeavesLead at births rows seat (Deliver number) base course
+      keeps_place : StepsBy mark r after → next after.0 ≡ next r → (course.running ≡ true → seat.who ≡ course.ballot.node → IsCount mark → ⊥) → LeavesLead at births rows seat (Deliver number) base course
           → (r.running ≡ false → after.0.hint ≡ hint_by at by r.acceptor.promised r.hint mark) → IsLedStep at over by words births rows seat (Deliver number) base course
       keeps_place steps same counts lead hint =
           let kind = steps_take at births rows seat (Deliver number) base course mark r after row (named at words births rows seat node base course the_scene number mail takes r has) has.well.0 takes_it steps counts
@@ -159,7 +159,7 @@ module _ (at : Sets) (over : Ends) (by : SlotLeaders) (words : ℕ → ℕ → �
           }
 
       -- a mail that takes the node further, where it does not lead
-      pub takes_further : r.running ≡ false → StepsBy mark r after → (IsCount mark → ⊥) → (course.runs ≡ true → seat.who ≡ course.ballot.node → ⊥) → WaitsStill at course seat.who (next after.0)
+      pub takes_further : r.running ≡ false → StepsBy mark r after → (IsCount mark → ⊥) → (course.running ≡ true → seat.who ≡ course.ballot.node → ⊥) → WaitsStill at course seat.who (next after.0)
           → (after.0.hint ≡ hint_by at by r.acceptor.promised r.hint mark) ⊎ ((course.gone ≡ true) × (next after.0 ≡ course.newest)) → IsLedStep at over by words births rows seat (Deliver number) base course
       takes_further off steps none apart waits hint =
           let kind = steps_take at births rows seat (Deliver number) base course mark r after row (named at words births rows seat node base course the_scene number mail takes r has) has.well.0 takes_it steps (λ runs mine. none) waits in

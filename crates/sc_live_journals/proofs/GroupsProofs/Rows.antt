@@ -248,7 +248,7 @@ module _ (at : Sets) (over : Ends) (by : SlotLeaders) (words : ℕ → ℕ → �
             (λ who. subst (λ ms. Each (λ (d : Dated). course.newest ≤ d.1) (dated_for name who ms)) (sym row.sends_all) (e.low who)) was_low;
         own = own_is_kept.self_election at now (after_ c) seat.who taken sent marks marks_then (row_in c) self_election stage.was.followed.follows (record { none = λ who. refl; told = e.told }) stage.was.own;
         orderly = orderly_then (λ other view runs. subst IsOrderly (same_some (view_at births then_ name seat.who) after.0 other row.fact view) e.orderly);
-        young = λ none. absurd (true≢false (sym (ap (λ (x : Course). x.runs) (stage.was.young (none_before (some_there after row.fact) none))) ∙ self_election.idle));
+        young = λ none. absurd (true≢false (sym (ap (λ (x : Course). x.running) (stage.was.young (none_before (some_there after row.fact) none))) ∙ self_election.idle));
         ends = sym self_election.stands ∙ stage.was.ends;
         rests = stage.was.rests;
       }

@@ -52,7 +52,7 @@ elected_leads at two course slot command r after rosters lead bound running reac
         };
       });
       newest = ap (λ (c : Course). c.newest) fact ∙ newest;
-      runs = ap (λ (c : Course). c.runs) fact;
+      runs = ap (λ (c : Course). c.running) fact;
       stands = ap (λ (c : Course). c.gone) fact;
       executed = here;
       promise = promised;

@@ -15,7 +15,7 @@ pub leads_too : (at : Sets) (one two : Progress) (r : ReplicaState) → one.cour
 leads_too at one two r same here promised l = record {
   led = subst (λ (c : Course). IsLed at c r) same l.led;
   newest = sym (ap (λ (c : Course). c.newest) same) ∙ l.newest;
-  runs = sym (ap (λ (c : Course). c.runs) same) ∙ l.runs;
+  runs = sym (ap (λ (c : Course). c.running) same) ∙ l.runs;
   stands = sym (ap (λ (c : Course). c.gone) same) ∙ l.stands;
   executed = here;
   promise = promised;

@@ -56,12 +56,12 @@ module _ (at : Sets) (words : ℕ → ℕ → ℕ × ℕ) (births : List (Seat P
     ]
 
     -- another leads, or none
-    pub idle_apart : r.running ≡ false → course.runs ≡ true → seat.who ≡ course.ballot.node → ⊥
+    pub idle_apart : r.running ≡ false → course.running ≡ true → seat.who ≡ course.ballot.node → ⊥
     idle_apart off runs mine =
         let running : r.running ≡ true = subst (IsLedBy base course) was (subst (λ n. IsLedBy base course (view_at births rows name n)) (sym mine) (scene.followed.given.runs runs)) in
         true≢false (sym running ∙ off)
 
-    pub apart_off : (course.runs ≡ true → seat.who ≡ course.ballot.node → ⊥) → r.running ≡ false
+    pub apart_off : (course.running ≡ true → seat.who ≡ course.ballot.node → ⊥) → r.running ≡ false
     apart_off none = elim (cases_Bool r.running) [ inl t ↦ (let l = leads_here t in absurd (none l.0.runs l.1)) | inr f ↦ f ]
 
     -- one that is to lead next has not executed all
@@ -100,7 +100,7 @@ module _ (at : Sets) (words : ℕ → ℕ → ℕ × ℕ) (births : List (Seat P
           omega (arith, all, same, more))
 
       -- a mail that takes the node further does not come to the leader
-      pub no_lead : suc (now.next seat.who) ≤ next_by (now.next seat.who) mark → course.runs ≡ true → seat.who ≡ course.ballot.node → ⊥
+      pub no_lead : suc (now.next seat.who) ≤ next_by (now.next seat.who) mark → course.running ≡ true → seat.who ≡ course.ballot.node → ⊥
       no_lead up runs mine =
           (let all = (scene.followed.follows.leads runs).executed in
           let here = ap now.next mine in

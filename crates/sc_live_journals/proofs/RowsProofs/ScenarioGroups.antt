@@ -52,7 +52,7 @@ born_leads at base now same roster first stands course executed promise =
         may = record { ballot = refl; sets = sets_at at base.core.members slots_ahead 1 same; low = omega arith; high = omega arith; taken = λ slot low high. absurd (omega (arith, low, high)); free = λ slot low. refl };
       });
       newest = ap (λ (c : Course). c.newest) course;
-      runs = ap (λ (c : Course). c.runs) course;
+      runs = ap (λ (c : Course). c.running) course;
       stands = ap (λ (c : Course). c.gone) course;
       executed = executed;
       promise = promise;

@@ -97,7 +97,7 @@ like_leads at one two r acceptor hint top same here promised l =
         may = record { ballot = may.ballot; sets = may.sets; low = may.low; high = may.high; taken = may.taken; free = may.free };
       });
       newest = sym (ap (λ (c : Course). c.newest) same) ∙ l.newest;
-      runs = sym (ap (λ (c : Course). c.runs) same) ∙ l.runs;
+      runs = sym (ap (λ (c : Course). c.running) same) ∙ l.runs;
       stands = sym (ap (λ (c : Course). c.gone) same) ∙ l.stands;
       executed = here;
       promise = promised;
@@ -127,14 +127,14 @@ module _ (at : Sets) (births : List (Seat Player)) (rows : Rows) (seat : Seat Pl
     runs = λ c fact. subst (IsLedBy base course) (sym stays) (subst (λ n. IsLedBy base course (view_at births rows name n)) (sym fact) (was.given.runs c));
   }
 
-  quiet_leaves : (r : ReplicaState) → view_at births then_ name seat.who ≡ Some r → r.running ≡ false → (course.runs ≡ true → seat.who ≡ course.ballot.node → ⊥) → LeavesLead at births rows seat event base course
+  quiet_leaves : (r : ReplicaState) → view_at births then_ name seat.who ≡ Some r → r.running ≡ false → (course.running ≡ true → seat.who ≡ course.ballot.node → ⊥) → LeavesLead at births rows seat event base course
   quiet_leaves r fact off apart = record {
     own = λ other e runs. absurd (true≢false (sym runs ∙ (ap (λ (x : ReplicaState). x.running) (same_some (view_at births then_ name seat.who) other r e fact) ∙ off)));
     runs = λ c mine. absurd (apart c mine);
   }
 
   born_leaves : ((slot : ℕ) → slot < 1 + slots_ahead → at slot ≡ base.core.members) → IsRoster base.core.members → is_member base.core.members base.core.first ≡ true → base.core.gone ≡ None → (seat.who ≡ base.core.first → course ≡ begun_course base)
-      → (course.runs ≡ true → seat.who ≡ course.ballot.node → seat.who ≡ base.core.first) → view_at births then_ name seat.who ≡ Some (born_replica slots_ahead seat.who base) → LeavesLead at births rows seat event base course
+      → (course.running ≡ true → seat.who ≡ course.ballot.node → seat.who ≡ base.core.first) → view_at births then_ name seat.who ≡ Some (born_replica slots_ahead seat.who base) → LeavesLead at births rows seat event base course
   born_leaves same roster first stands begun_ mine fact = record {
     own = λ r e runs.
         (let own : born_replica slots_ahead seat.who base ≡ r = same_some (view_at births then_ name seat.who) (born_replica slots_ahead seat.who base) r fact e in

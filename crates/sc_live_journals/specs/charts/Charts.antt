@@ -93,8 +93,8 @@ ends_by (suc n) replicas group = elim (went_in group replicas) [ None ↦ 0 | So
 -- Of these groups those that stand, with the number of gone groups on the way from each group to one that stands.
 abbrev pub reach_in : ℕ → List Draw → List ReplicaState → Reach
 reach_in most names replicas = record {
-  stands = filter (λ name. not (is_some (went_in name replicas))) names;
-  ends = ends_by (length names) replicas;
+  standing = filter (λ name. not (is_some (went_in name replicas))) names;
+  distance = ends_by (length names) replicas;
   most = most;
 }
 
@@ -106,7 +106,7 @@ chart_at far sent s rows = record {
   ways = record {
     far = far_at far s.births (quiet_prefix s rows);
     most = far;
-    asks = λ tx. asked_in tx (all_replicas s.births rows);
+    asked_group = λ tx. asked_in tx (all_replicas s.births rows);
   };
   groups = names_at s.births rows;
   reach = reach_in sent (names_at s.births (quiet_prefix s rows)) (all_replicas s.births (quiet_prefix s rows));

@@ -24,7 +24,7 @@ LearntEntriesAreExecuted = (from slot : ℕ) (command : Command) (r : ReplicaSta
 -- No node leads the group, which stands, and the replica is to lead it next: the entry at this slot is the last one, after it the members and the open slots are the group's,
 -- the replica may elect itself by the entry, and its ballot is later than the group's.
 pub record IsNextLead (at : Sets) (course : Course) (slot : ℕ) (command : Command) (r : ReplicaState) : Type 0 where
-  pub idle : course.runs ≡ false
+  pub idle : course.running ≡ false
   pub stands : course.gone ≡ false
   pub low : slot ≤ last_slot
   pub last : suc slot ≡ course.newest

@@ -16,7 +16,7 @@ use Rattle.sc_live_journals.specs.rows.PlayerRows.{with_event, IsKind, LeavesAlo
 -- If the course says that this node leads, its replica does, or is yet to be created.
 pub record LeavesLead (at : Sets) (births : List (Seat Player)) (rows : Rows) (seat : Seat Player) (event : Event OrderLine) (base : Base) (course : Course) : Type 0 where
   pub own : (r : ReplicaState) → view_at births (with_event rows seat event) base.core.id seat.who ≡ Some r → r.running ≡ true → IsLeadOf at (progress_at births (with_event rows seat event) base course) r × (seat.who ≡ course.ballot.node)
-  pub runs : course.runs ≡ true → seat.who ≡ course.ballot.node → IsLedBy base course (view_at births (with_event rows seat event) base.core.id seat.who)
+  pub runs : course.running ≡ true → seat.who ≡ course.ballot.node → IsLedBy base course (view_at births (with_event rows seat event) base.core.id seat.who)
 
 -- Rows of which `LeavesLead` holds.
 pub record LeadsStay : Type 0 where
@@ -25,10 +25,10 @@ pub record LeadsStay : Type 0 where
       → view_at births (with_event rows seat event) base.core.id seat.who ≡ view_at births rows base.core.id seat.who → LeavesLead at births rows seat event base course
   -- a row after which the node's replica does not lead, where the course does not say that it does
   pub quiet : (at : Sets) (births : List (Seat Player)) (rows : Rows) (seat : Seat Player) (event : Event OrderLine) (base : Base) (course : Course) (r : ReplicaState)
-      → view_at births (with_event rows seat event) base.core.id seat.who ≡ Some r → r.running ≡ false → (course.runs ≡ true → seat.who ≡ course.ballot.node → ⊥) → LeavesLead at births rows seat event base course
+      → view_at births (with_event rows seat event) base.core.id seat.who ≡ Some r → r.running ≡ false → (course.running ≡ true → seat.who ≡ course.ballot.node → ⊥) → LeavesLead at births rows seat event base course
   -- a row in which the node creates its replica at the group's birth
   pub born : (at : Sets) (births : List (Seat Player)) (rows : Rows) (seat : Seat Player) (event : Event OrderLine) (base : Base) (course : Course) → ((slot : ℕ) → slot < 1 + slots_ahead → at slot ≡ base.core.members)
-      → IsRoster base.core.members → is_member base.core.members base.core.first ≡ true → base.core.gone ≡ None → (seat.who ≡ base.core.first → course ≡ begun_course base) → (course.runs ≡ true → seat.who ≡ course.ballot.node → seat.who ≡ base.core.first)
+      → IsRoster base.core.members → is_member base.core.members base.core.first ≡ true → base.core.gone ≡ None → (seat.who ≡ base.core.first → course ≡ begun_course base) → (course.running ≡ true → seat.who ≡ course.ballot.node → seat.who ≡ base.core.first)
       → view_at births (with_event rows seat event) base.core.id seat.who ≡ Some (born_replica slots_ahead seat.who base) → LeavesLead at births rows seat event base course
   -- a row in which the node's replica takes its own accept request
   pub accepts : (at : Sets) (words : ℕ → ℕ → ℕ × ℕ) (births : List (Seat Player)) (rows : Rows) (seat : Seat Player) (event : Event OrderLine) (base : Base) (course : Course) (from slot : ℕ) (ballot : Ballot) (command : Command) (r : ReplicaState)

@@ -74,7 +74,7 @@ IsLedBy base course (Some r) = r.running ≡ true
 -- If the course says that a node leads, the replica there does, or is yet to be created.
 pub record IsCourseOf (at : Sets) (births : List (Seat Player)) (rows : Rows) (base : Base) (course : Course) : Type 0 where
   pub gives : (node : ℕ) (r : ReplicaState) → view_at births rows base.core.id node ≡ Some r → r.running ≡ true → IsLeadOf at (progress_at births rows base course) r × (node ≡ course.ballot.node)
-  pub runs : course.runs ≡ true → IsLedBy base course (view_at births rows base.core.id course.ballot.node)
+  pub runs : course.running ≡ true → IsLedBy base course (view_at births rows base.core.id course.ballot.node)
 
 -- The group follows its leader after these rows, in this course.
 pub record IsFollowedAt (at : Sets) (words : ℕ → ℕ → ℕ × ℕ) (births : List (Seat Player)) (rows : Rows) (base : Base) (course : Course) : Type 0 where

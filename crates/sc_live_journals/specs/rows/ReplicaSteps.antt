@@ -13,7 +13,7 @@ use Rattle.sc_live_journals.specs.rows.PlayerRows.{with_event, IsKind, IsReplica
 
 -- If no node leads a group that stands, and this one is to lead next, its next slot is still below the group's newest one.
 abbrev pub WaitsStill : Sets → Course → ℕ → ℕ → Type 0
-WaitsStill at course node next = course.runs ≡ false → course.gone ≡ false → node ≡ least_of (members_at at course.newest) → next < course.newest
+WaitsStill at course node next = course.running ≡ false → course.gone ≡ false → node ≡ least_of (members_at at course.newest) → next < course.newest
 
 -- A replica that takes a mail as its mark says does so in its group,
 -- if it does not lead where the mark is a vote or a promise, and does not execute the last entry where it is to lead next.
@@ -21,7 +21,7 @@ abbrev pub StepsTake : Type 0
 StepsTake =
     (at : Sets) (births : List (Seat Player)) (rows : Rows) (seat : Seat Player) (event : Event OrderLine) (base : Base) (course : Course) (mark : Mark) (r : ReplicaState) (after : Place)
     → IsReplicasRow births rows seat event base.core.id (Some r) after → name_of r ≡ base.core.id → r.me ≡ seat.who → taken_mark base.core.id (mails rows) event ≡ Some mark → StepsBy mark r after
-    → (course.runs ≡ true → seat.who ≡ course.ballot.node → IsCount mark → ⊥) → WaitsStill at course seat.who (next after.0)
+    → (course.running ≡ true → seat.who ≡ course.ballot.node → IsCount mark → ⊥) → WaitsStill at course seat.who (next after.0)
     → IsKind (Takes at) births rows seat event base course course
 
 -- A node that creates a replica from a state, sent by a member, takes that mail in its group.
@@ -39,12 +39,12 @@ pub record UncountedPass : Type 0 where
 
 -- The course of a group after a node elected itself with this ballot.
 abbrev pub elected_course : Course → Ballot → Course
-elected_course course ballot = record { newest = course.newest; bound = course.bound; ballot = ballot; is_first = false; runs = true; gone = false; voters = λ slot. None; counted = λ node. false }
+elected_course course ballot = record { newest = course.newest; bound = course.bound; ballot = ballot; is_first = false; running = true; gone = false; voters = λ slot. None; counted = λ node. false }
 
 -- No node leads the group, which stands; the replica is the least member, executes the last entry, and has a later ballot;
 -- these are the members of the slots that are open then, all of them nodes.
 pub record IsToLead (at : Sets) (course : Course) (slot : ℕ) (open_sets : List (List ℕ)) (r : ReplicaState) : Type 0 where
-  pub idle : course.runs ≡ false
+  pub idle : course.running ≡ false
   pub stands : course.gone ≡ false
   pub last : suc slot ≡ course.newest
   pub least : r.me ≡ least_of (members_at at course.newest)
@@ -69,7 +69,7 @@ StillIdle =
 
 -- The course of a group after a row that leaves its leader as `r`, with this bound.
 abbrev pub led_course : ℕ → Course → ReplicaState → Course
-led_course bound course r = record course { newest = next r; bound = bound; runs = r.running; gone = is_some r.group.core.gone; voters = voters_of r; counted = λ node. is_member r.leader.promisers node }
+led_course bound course r = record course { newest = next r; bound = bound; running = r.running; gone = is_some r.group.core.gone; voters = voters_of r; counted = λ node. is_member r.leader.promisers node }
 
 -- The leader's row is of kind `Leads` in its group; if the replica leads on, it does so in the group's course after the row.
 pub record LedBy (at : Sets) (births : List (Seat Player)) (rows : Rows) (seat : Seat Player) (event : Event OrderLine) (base : Base) (course : Course) (after : Place) : Type 0 where

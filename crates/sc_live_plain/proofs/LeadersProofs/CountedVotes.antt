@@ -71,7 +71,7 @@ module _ (begun : Requests) (frame : Frame) (fact : IsFrame frame) (taken : ℕ)
         low = omega arith;
         reached = omega arith;
         more = omega arith;
-        begins = [];
+        begun_flights = [];
         flights_are = sym (append-nil fs);
         new = tt;
         early = early_taken (changed fs es) taken (record { most = l.slots.most; once = λ s. same s ∙ l.slots.once s });

@@ -92,7 +92,7 @@ module _ (begun : Requests) (frame : Frame) (fact : IsFrame frame) (taken : ℕ)
         low = omega arith;
         reached = omega arith;
         more = omega arith;
-        begins = [];
+        begun_flights = [];
         flights_are = sym (append-nil r.leader.flights);
         new = tt;
         early = early_taken r taken l.slots;
@@ -149,7 +149,7 @@ module _ (begun : Requests) (frame : Frame) (fact : IsFrame frame) (taken : ℕ)
           low = omega arith;
           reached = omega arith;
           more = omega arith;
-          begins = [];
+          begun_flights = [];
           flights_are = sym (append-nil r.leader.flights);
           new = tt;
           early = early_taken (record r { backlog = backlog }) taken (record { most = l.slots.most; once = l.slots.once });

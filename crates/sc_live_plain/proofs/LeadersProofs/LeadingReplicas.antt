@@ -226,9 +226,9 @@ pub record Leads (begun : Requests) (frame : Frame) (first free : ℕ) (held : L
   pub low : first ≤ next place.0
   pub reached : next place.0 ≤ free
   pub more : free ≤ next place.0 + taken
-  pub begins : List (Flight Command)
-  pub flights_are : place.0.leader.flights ≡ held ++ begins
-  pub new : Each (IsNew free) begins
+  pub begun_flights : List (Flight Command)
+  pub flights_are : place.0.leader.flights ≡ held ++ begun_flights
+  pub new : Each (IsNew free) begun_flights
   pub early : Each (λ (entry : ℕ × Command). entry.0 < free) place.0.ready
   pub said : Each (IsSaid begun frame first free (next place.0) (next place.0 + taken)) place.1
   pub learns : (who : ℕ) → is_member frame.core.members who ≡ true → (who ≡ frame.lead → ⊥) → learns_to frame.core.id who place.1 ≡ numbers_from first (next place.0 - first)

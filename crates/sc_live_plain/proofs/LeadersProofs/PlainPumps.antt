@@ -206,9 +206,9 @@ module _ (begun : Requests) (frame : Frame) (fact : IsFrame frame) (first free :
           low = k.low;
           reached = k.reached;
           more = omega (arith, more);
-          begins = k.begins ++ (record { slot = slot; value = Call client seq op; voters = None }) ∷ [];
+          begun_flights = k.begun_flights ++ (record { slot = slot; value = Call client seq op; voters = None }) ∷ [];
           flights_are = ap (λ l. l ++ (record { slot = slot; value = Call client seq op; voters = None }) ∷ []) k.flights_are ∙ append_assoc held k.begins ((record { slot = slot; value = Call client seq op; voters = None }) ∷ []);
-          new = Each-push (IsNew free) k.begins (record { slot = slot; value = Call client seq op; voters = None }) k.new (record { late = omega (arith, more, at); unvoted = refl });
+          new = Each-push (IsNew free) k.begun_flights (record { slot = slot; value = Call client seq op; voters = None }) k.new (record { late = omega (arith, more, at); unvoted = refl });
           early = k.early;
           said = offered_said;
           learns = λ who m ne. all_learns r.me (Accept (name_of r) r.leader.ballot slot (Call client seq op)) frame.core.id who (frame.at slot) mails refl ∙ k.learns who m ne;

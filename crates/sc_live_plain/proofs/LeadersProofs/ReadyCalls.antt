@@ -261,7 +261,7 @@ module _ (begun : Requests) (frame : Frame) (fact : IsFrame frame) (first free :
           low = omega (arith, up, low);
           reached = omega (arith, up, end);
           more = omega (arith, up, end);
-          begins = k.begins;
+          begun_flights = k.begun_flights;
           flights_are = flights_after ∙ k.flights_are;
           new = k.new;
           early = subst (Each (λ (entry : ℕ × Command). entry.0 < free)) (sym ready_after)

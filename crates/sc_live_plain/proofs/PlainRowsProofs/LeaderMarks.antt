@@ -155,10 +155,10 @@ module _ (begun : Requests) (frame : Frame) (first free : ℕ) (flights held : L
       let none = no_ready place.0.ready k.early in
       let found = find_some (λ (x : Flight Command). eqb x.slot slot) place.0.leader.flights (omega (arith, once, one, none)) in
       let there : flight_at slot place.0.leader.flights ≡ Some found.0 = found.1 in
-      let split : flight_at slot (held ++ k.begins) ≡ flight_at slot k.begins = find_right (λ (x : Flight Command). eqb x.slot slot) held k.begins (past slot least) in
-      let begun_ : flight_at slot k.begins ≡ Some found.0 = sym split ∙ (ap (flight_at slot) (sym k.flights_are) ∙ there) in
-      let among = find_found (λ (x : Flight Command). eqb x.slot slot) k.begins found.0 begun_ in
-      let fact = Each-among (IsNew free) k.begins found.0 k.new among.0 in
+      let split : flight_at slot (held ++ k.begun_flights) ≡ flight_at slot k.begun_flights = find_right (λ (x : Flight Command). eqb x.slot slot) held k.begun_flights (past slot least) in
+      let begun_ : flight_at slot k.begun_flights ≡ Some found.0 = sym split ∙ (ap (flight_at slot) (sym k.flights_are) ∙ there) in
+      let among = find_found (λ (x : Flight Command). eqb x.slot slot) k.begun_flights found.0 begun_ in
+      let fact = Each-among (IsNew free) k.begun_flights found.0 k.new among.0 in
       ap kept_of there ∙ ap (λ v. Some (kept_voters v)) fact.unvoted
     where
       no_ready : (es : List (ℕ × Command)) → Each (λ (entry : ℕ × Command). entry.0 < free) es → entries_at slot es ≡ 0
@@ -189,11 +189,11 @@ module _ (begun : Requests) (frame : Frame) (first free : ℕ) (flights held : L
         sends = λ who. subst (λ x. Each (IsNewMark x after.bound) (sends who)) (sym b) (subst (λ x. Each (IsNewMark free x) (sends who)) (sym b') (all_new who));
         offered = λ slot a. (let fact = among_mark (IsNewMark free end) name frame.lead place.1 (Asks slot) (all_new frame.lead) a in v' slot ∙ offered_flies past slot fact.0 fact.1);
         flying = λ slot voters e. (let fact = flight_low slot voters (sym (v' slot) ∙ e) in let on_ = fact.0 in omega (arith, n', on_));
-        kept = λ slot voters e away. v' slot ∙ (ap (λ fs. voters_in fs slot) k.flights_are ∙ votes_kept held k.begins free k.new slot voters (on.kept slot voters (sym (v slot) ∙ e) away));
+        kept = λ slot voters e away. v' slot ∙ (ap (λ fs. voters_in fs slot) k.flights_are ∙ votes_kept held k.begun_flights free k.new slot voters (on.kept slot voters (sym (v slot) ∙ e) away));
         grown = λ slot voters e.
             (let now_ : voters_in place.0.leader.flights slot ≡ Some voters = sym (v' slot) ∙ e in
             let range = flight_low slot voters now_ in
-            elim (votes_split held k.begins free k.new slot voters (ap (λ fs. voters_in fs slot) (sym k.flights_are) ∙ now_)) [
+            elim (votes_split held k.begun_flights free k.new slot voters (ap (λ fs. voters_in fs slot) (sym k.flights_are) ∙ now_)) [
               | inl old ↦ (let was = on.before slot voters old in inr (record { before = was.0; flew = v slot ∙ was.1; keeps = was.2; counts = was.3 }))
               | inr new ↦ (
                   let least = new.0 in

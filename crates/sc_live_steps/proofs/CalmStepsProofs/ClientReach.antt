@@ -38,7 +38,7 @@ module _ (reach : Reach) where
   -- ---- how often a client may be sent on
 
   abbrev ends_of : KnownGroups → ℕ
-  ends_of known = sum_by (λ (entry : Draw × Way). reach.ends entry.0) known
+  ends_of known = sum_by (λ (entry : Draw × Way). reach.distance entry.0) known
 
   ends_set : (test : Draw → Bool) (known : KnownGroups) (way : Way) → ends_of (set_value test known way) ≡ ends_of known
   ends_set test [] way = refl
@@ -46,12 +46,12 @@ module _ (reach : Reach) where
     where
       by : (b : Bool) → ends_of (set_value test ks way) ≡ ends_of ks → ends_of (cond b ((k.0, way) ∷ ks) (k ∷ set_value test ks way)) ≡ ends_of (k ∷ ks)
       by true more =
-          let a = sum_by-cons (λ (entry : Draw × Way). reach.ends entry.0) (k.0, way) ks in
-          let b = sum_by-cons (λ (entry : Draw × Way). reach.ends entry.0) k ks in
+          let a = sum_by-cons (λ (entry : Draw × Way). reach.distance entry.0) (k.0, way) ks in
+          let b = sum_by-cons (λ (entry : Draw × Way). reach.distance entry.0) k ks in
           omega (arith, a, b)
       by false more =
-          let a = sum_by-cons (λ (entry : Draw × Way). reach.ends entry.0) k (set_value test ks way) in
-          let b = sum_by-cons (λ (entry : Draw × Way). reach.ends entry.0) k ks in
+          let a = sum_by-cons (λ (entry : Draw × Way). reach.distance entry.0) k (set_value test ks way) in
+          let b = sum_by-cons (λ (entry : Draw × Way). reach.distance entry.0) k ks in
           omega (arith, a, b, more)
 
   ends_changed : (change : Way → Way) (group : Draw) (known : KnownGroups) (o : Option Way) → ends_of (changed change group known o) ≡ ends_of known
@@ -59,14 +59,14 @@ module _ (reach : Reach) where
   ends_changed change group known (Some way) = ends_set (same_draw group) known (change way)
 
   -- one more that stands adds no end
-  ends_learnt : (group : Draw) (lo : ℕ) (members : List ℕ) (known : KnownGroups) → reach.ends group ≡ 0 → ends_of (group_learnt group lo members known) ≡ ends_of known
+  ends_learnt : (group : Draw) (lo : ℕ) (members : List ℕ) (known : KnownGroups) → reach.distance group ≡ 0 → ends_of (group_learnt group lo members known) ≡ ends_of known
   ends_learnt group lo members known none = by (is_some (way_to group known))
     where
       by : (b : Bool) → ends_of (cond b (starting group lo known) (known ++ (group, new_way lo members) ∷ [])) ≡ ends_of known
       by true = ends_changed (λ way. record way { lo = lo }) group known (way_to group known)
-      by false = let s = sum_by_push (λ (entry : Draw × Way). reach.ends entry.0) known (group, new_way lo members) in omega (arith, s, none)
+      by false = let s = sum_by_push (λ (entry : Draw × Way). reach.distance entry.0) known (group, new_way lo members) in omega (arith, s, none)
 
-  ends_told : (group : Draw) (arc : Arc) (succ : Link) (known : KnownGroups) → reach.ends succ.group ≡ 0 → ends_of (learnt_from_not_mine group arc succ known) ≡ ends_of known
+  ends_told : (group : Draw) (arc : Arc) (succ : Link) (known : KnownGroups) → reach.distance succ.group ≡ 0 → ends_of (learnt_from_not_mine group arc succ known) ≡ ends_of known
   ends_told group arc succ known none =
       ends_learnt succ.group (end_of arc) succ.members (starting group arc.lo known) none ∙ ends_changed (λ way. record way { lo = arc.lo }) group known (way_to group known)
 
@@ -83,7 +83,7 @@ module _ (reach : Reach) where
   changed_same : (change : Way → Way) (group : Draw) (known : KnownGroups) (o : Option Way) → sent_on reach (changed change group known o) ≡ sent_on reach known
   changed_same change group known None = refl
   changed_same change group known (Some way) =
-      let a = unknown_same known (set_value (same_draw group) known (change way)) (λ other. set_knows (same_draw group) (same_draw other) known (change way)) reach.stands in
+      let a = unknown_same known (set_value (same_draw group) known (change way)) (λ other. set_knows (same_draw group) (same_draw other) known (change way)) reach.standing in
       let b = ends_set (same_draw group) known (change way) in
       omega (arith, a, b)
 
@@ -110,9 +110,9 @@ module _ (reach : Reach) where
   leaves_less group into client fact =
       let now = ap (sent_on reach) (gone_known group into fact.way client.known fact.known) in
       let was = ap (sent_on reach) fact.known in
-      let few = all_unknown group fact.way ((into.group, new_way into.lo into.members) ∷ []) reach.stands fact.gone in
-      let a = sum_by-cons (λ (entry : Draw × Way). reach.ends entry.0) (into.group, new_way into.lo into.members) [] in
-      let b = sum_by-cons (λ (entry : Draw × Way). reach.ends entry.0) (group, fact.way) [] in
+      let few = all_unknown group fact.way ((into.group, new_way into.lo into.members) ∷ []) reach.standing fact.gone in
+      let a = sum_by-cons (λ (entry : Draw × Way). reach.distance entry.0) (into.group, new_way into.lo into.members) [] in
+      let b = sum_by-cons (λ (entry : Draw × Way). reach.distance entry.0) (group, fact.way) [] in
       let near = fact.nearer in
       omega (arith, now, was, few, a, b, near)
 
@@ -241,7 +241,7 @@ module _ (ways : Ways) (reach : Reach) (client : ClientState) (bounded : AreBoun
 
       learns : waits_for client.waiting seq ≡ true → LearnsOf reach succ.group client → client_turn_owes ways reach (request_sent after) + 1 ≤ client_owes ways reach client + 27
       learns waits fact =
-          let told = told_one ways reach.stands group arc succ client bounded fact.among fact.none in
+          let told = told_one ways reach.standing group arc succ client bounded fact.among fact.none in
           let owes = told.0 in
           let few = told.1 in
           let knows = told_unknown in
@@ -250,8 +250,8 @@ module _ (ways : Ways) (reach : Reach) (client : ClientState) (bounded : AreBoun
           let same = request_search reach ways.most after in
           omega (arith, owes, less, same)
         where
-          told_unknown : unknown reach.stands (request_sent after).0.known ≡ unknown reach.stands (learnt_from_not_mine group arc succ client.known)
-          told_unknown = ap (unknown reach.stands) (sent_knows after (chosen_for after (waiting_request after)))
+          told_unknown : unknown reach.standing (request_sent after).0.known ≡ unknown reach.standing (learnt_from_not_mine group arc succ client.known)
+          told_unknown = ap (unknown reach.standing) (sent_knows after (chosen_for after (waiting_request after)))
 
   gone_pays : (from seq : ℕ) (group : Draw) (into : Route) → MayHear ways reach from group seq client (Says.Gone into) → client_turn_owes ways reach (got from (Answer group seq (Says.Gone into)) client) + 1 ≤ client_owes ways reach client + 27
   gone_pays from seq group into may = asked_pays from seq group after (λ waits asked. leaves waits (may (waits, asked)))

@@ -48,26 +48,26 @@ module _ (ways : Ways) where
 
   -- ---- asked again
 
-  asks_again : (lock : Lock) (r : ReplicaState) (from : ℕ) (tx : Draw) (node : ℕ) (mails : List Mail) → ((body : Body) (heard : Option Heard) → (order : ℕ) → lock ≡ Coordinating tx body order heard → body_owes ways node (question r.me r.group.core tx body heard) ≤ asked_owes ways node (ways.asks tx))
+  asks_again : (lock : Lock) (r : ReplicaState) (from : ℕ) (tx : Draw) (node : ℕ) (mails : List Mail) → ((body : Body) (heard : Option Heard) → (order : ℕ) → lock ≡ Coordinating tx body order heard → body_owes ways node (question r.me r.group.core tx body heard) ≤ asked_owes ways node (ways.asked_group tx))
       → ((locked : Draw) (body : Body) (order : ℕ) (heard : Option Heard) → lock ≡ Coordinating locked body order heard → same_draw locked tx ≡ true → locked ≡ tx)
-      → sum_by (mail_owes ways) (asked_next lock r.me r.group.core from tx (Some node) mails) ≤ sum_by (mail_owes ways) mails + asked_owes ways node (ways.asks tx)
+      → sum_by (mail_owes ways) (asked_next lock r.me r.group.core from tx (Some node) mails) ≤ sum_by (mail_owes ways) mails + asked_owes ways node (ways.asked_group tx)
   asks_again Free r from tx node mails asks name = omega arith
   asks_again (Promised locked offer) r from tx node mails asks name = omega arith
   asks_again (Watching locked watch) r from tx node mails asks name = omega arith
   asks_again (Coordinating locked body order heard) r from tx node mails asks name = by (same_draw locked tx) refl
     where
-      by : (b : Bool) → same_draw locked tx ≡ b → sum_by (mail_owes ways) (cond b (asked_node r.me r.group.core tx body heard node mails) mails) ≤ sum_by (mail_owes ways) mails + asked_owes ways node (ways.asks tx)
+      by : (b : Bool) → same_draw locked tx ≡ b → sum_by (mail_owes ways) (cond b (asked_node r.me r.group.core tx body heard node mails) mails) ≤ sum_by (mail_owes ways) mails + asked_owes ways node (ways.asked_group tx)
       by false e = omega arith
       by true e =
           let s = sent_owes ways r.me node (question r.me r.group.core tx body heard) mails in
           let le = asks body heard order (ap (λ (x : Draw). Coordinating x body order heard) (name locked body order heard refl e)) in
           omega (arith, s, le)
 
-  pub elsewhere_lowers : (from : ℕ) (tx : Draw) (node : ℕ) (place : Place) → AsksAs ways tx node place.0 → place_owes ways (elsewhere_row from tx (Some node) place) + 1 ≤ place_owes ways place + (1 + asked_owes ways node (ways.asks tx))
+  pub elsewhere_lowers : (from : ℕ) (tx : Draw) (node : ℕ) (place : Place) → AsksAs ways tx node place.0 → place_owes ways (elsewhere_row from tx (Some node) place) + 1 ≤ place_owes ways place + (1 + asked_owes ways node (ways.asked_group tx))
   unfolding elsewhere_row
   elsewhere_lowers from tx node (r, mails) asks = by (settled r) (asks_again r.group.core.lock r from tx node mails (λ body heard order fact. asks body heard order fact) (λ locked body order heard fact same. draw_is locked tx same))
     where
-      by : (b : Bool) → sum_by (mail_owes ways) (asked_next r.group.core.lock r.me r.group.core from tx (Some node) mails) ≤ sum_by (mail_owes ways) mails + asked_owes ways node (ways.asks tx) →
-          place_owes ways (cond {A = Place} b (r, asked_next r.group.core.lock r.me r.group.core from tx (Some node) mails) (r, mails)) + 1 ≤ place_owes ways (r, mails) + (1 + asked_owes ways node (ways.asks tx))
+      by : (b : Bool) → sum_by (mail_owes ways) (asked_next r.group.core.lock r.me r.group.core from tx (Some node) mails) ≤ sum_by (mail_owes ways) mails + asked_owes ways node (ways.asked_group tx) →
+          place_owes ways (cond {A = Place} b (r, asked_next r.group.core.lock r.me r.group.core from tx (Some node) mails) (r, mails)) + 1 ≤ place_owes ways (r, mails) + (1 + asked_owes ways node (ways.asked_group tx))
       by true le = omega (arith, le)
       by false le = omega arith

@@ -180,7 +180,7 @@ module _ (ways : Ways) (command : Command) (before : Place) (may : MayPump befor
 
 -- it does not matter how far it is to one that runs
 pub near : Ways
-near = record { far = λ group node. 0; most = 0; asks = λ tx. None }
+near = record { far = λ group node. 0; most = 0; asked_group = λ tx. None }
 
 near_bounded : AreBounded near
 unfolding near

@@ -135,7 +135,7 @@ module _ (ways : Ways) where
   votes_owe (Cast.No why) from tx offer r mails = let s = sent_owes ways r.me from (TxVote tx offer.coord offer.part (Votes.No why)) mails in omega (arith, s)
   votes_owe Cast.Ended from tx offer r mails = omega arith
 
-  pub offer_lowers : (from : ℕ) (tx : Draw) (offer : Offer) (place : Place) → MayPump place.0 → Points ways offer.part place.0 → ways.asks tx ≡ Some (offer.part, false) → place_owes ways (offer_row from tx offer place) + 1 ≤ place_owes ways place + prepare_owes ways offer.part place.0.me
+  pub offer_lowers : (from : ℕ) (tx : Draw) (offer : Offer) (place : Place) → MayPump place.0 → Points ways offer.part place.0 → ways.asked_group tx ≡ Some (offer.part, false) → place_owes ways (offer_row from tx offer place) + 1 ≤ place_owes ways place + prepare_owes ways offer.part place.0.me
   unfolding offer_row
   offer_lowers from tx offer (r, mails) may points asks = by (standing_vote r.group.core tx) refl
     where
@@ -158,7 +158,7 @@ module _ (ways : Ways) where
   watches_owe (Cast.No why) from tx watch r mails = let s = sent_owes ways r.me from (TxWatched tx watch.coord watch.part (Cast.No why)) mails in omega (arith, s)
   watches_owe Cast.Ended from tx watch r mails = omega arith
 
-  pub watch_lowers : (from : ℕ) (tx : Draw) (watch : Watch) (place : Place) → MayPump place.0 → Points ways watch.part place.0 → ways.asks tx ≡ Some (watch.part, true) → place_owes ways (watch_row from tx watch place) + 1 ≤ place_owes ways place + watch_owes ways watch.part place.0.me
+  pub watch_lowers : (from : ℕ) (tx : Draw) (watch : Watch) (place : Place) → MayPump place.0 → Points ways watch.part place.0 → ways.asked_group tx ≡ Some (watch.part, true) → place_owes ways (watch_row from tx watch place) + 1 ≤ place_owes ways place + watch_owes ways watch.part place.0.me
   unfolding watch_row
   watch_lowers from tx watch (r, mails) may points asks = by (standing_vote r.group.core tx) refl
     where

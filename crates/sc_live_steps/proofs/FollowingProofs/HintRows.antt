@@ -69,7 +69,7 @@ module _ (at : Sets) (by : SlotLeaders) (now after : Progress) (node : ℕ) (tak
         reached_then : ℕ
         reached_then = reached (after.next node) (marks_after node)
 
-    own_ends : now.course.runs ≡ true → (node ≡ now.course.ballot.node → ⊥) → IsOpen at now.course.newest node → hinted at by (after.promise node) (hints_after node) (marks_after node) ≡ Some now.course.ballot.node
+    own_ends : now.course.running ≡ true → (node ≡ now.course.ballot.node → ⊥) → IsOpen at now.course.newest node → hinted at by (after.promise node) (hints_after node) (marks_after node) ≡ Some now.course.ballot.node
     own_ends r ne o = elim (goes t.mark t.takes (λ _. ne)) [
       | inl same ↦ ap (hinted at by (after.promise node) (hints_after node)) row.own
           ∙ (ap (λ x. hinted at by (after.promise node) x (row.left ++ sent node)) same
@@ -121,11 +121,11 @@ module _ (at : Sets) (by : SlotLeaders) (now after : Progress) (node : ℕ) (tak
       counted s least most = w.counts s least (let up = l.newest in omega (arith, most, up))
 
       ends_then : (s : ℕ) → newest ≤ s → suc s ≡ newest + l.executed
-          → (is_member (members_at at (s + 1)) lead ≡ true) ⊎ ((after.course.runs ≡ false) × (suc s ≡ after.course.newest) × (is_member (members_at at (s + 1)) who ≡ true → is_member (members_at at s) who ≡ true))
+          → (is_member (members_at at (s + 1)) lead ≡ true) ⊎ ((after.course.running ≡ false) × (suc s ≡ after.course.newest) × (is_member (members_at at (s + 1)) who ≡ true → is_member (members_at at s) who ≡ true))
       ends_then s least fact = (let last : suc s ≡ after.course.newest = (let up = l.newest in omega (arith, fact, up)) in
           elim (w.alone s least last) [
             | inl m ↦ inl m
-            | inr nobody ↦ elim (cases_Bool after.course.runs) [
+            | inr nobody ↦ elim (cases_Bool after.course.running) [
               | inl r ↦ inl (let same : after.course.newest ≡ s + 1 = omega (arith, last) in subst (λ n. is_member (members_at at n) lead ≡ true) same (subst (λ n. is_member (members_at at after.course.newest) n ≡ true) l.mine (l.stays r).0))
               | inr off ↦ inr (off, last, nobody who)
             ]
@@ -145,7 +145,7 @@ module _ (at : Sets) (by : SlotLeaders) (now after : Progress) (node : ℕ) (tak
           (told-heeded at by now.course after.course who apart l.executed newest then_promise then_hint member counted (λ s least most. w.stayed s least (let up = l.newest in omega (arith, most, up))) ends_then)
           (offers-heeded at by after.course after.course now.course.bound who who _ _ (l.offers who) (l.asks who)))))
 
-      all_stay : after.course.runs ≡ true → (s : ℕ) → newest ≤ s → s < newest + l.executed → is_member (members_at at (s + 1)) lead ≡ true
+      all_stay : after.course.running ≡ true → (s : ℕ) → newest ≤ s → s < newest + l.executed → is_member (members_at at (s + 1)) lead ≡ true
       all_stay r s least most = (let up = l.newest in elim (cases_lt (suc s) after.course.newest) [
         | inl lt ↦ w.stayed s least lt
         | inr ge ↦ (let same : after.course.newest ≡ s + 1 = omega (arith, ge, most, up) in subst (λ n. is_member (members_at at n) lead ≡ true) same (subst (λ n. is_member (members_at at after.course.newest) n ≡ true) l.mine (l.stays r).0))
@@ -164,7 +164,7 @@ module _ (at : Sets) (by : SlotLeaders) (now after : Progress) (node : ℕ) (tak
             )
           ])
 
-      ends_there : after.course.runs ≡ true → IsOpen at after.course.newest who → hinted at by (after.promise who) (hints_after who) (marks_after who) ≡ Some after.course.ballot.node
+      ends_there : after.course.running ≡ true → IsOpen at after.course.newest who → hinted at by (after.promise who) (hints_after who) (marks_after who) ≡ Some after.course.ballot.node
       ends_there r o =
           there_hinted who ne
           ∙ (ap (hinted at by then_promise then_hint) (l.sends who)

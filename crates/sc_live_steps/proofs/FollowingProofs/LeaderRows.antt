@@ -239,14 +239,14 @@ module _ (at : Sets) (now after : Progress) (node : ℕ) (taken : Option Mark) (
   abbrev HasPromisedAfter : ℕ → Ballot → Type 0
   HasPromisedAfter who ballot = (after.course.counted who ≡ true) ⊎ Among (Promises who ballot) (marks_after ballot.node)
 
-  promised_after : after.course.runs ≡ true → (who : ℕ) → HasPromised now.course who (marks lead) → HasPromisedAfter who now.course.ballot
+  promised_after : after.course.running ≡ true → (who : ℕ) → HasPromised now.course who (marks lead) → HasPromisedAfter who now.course.ballot
   promised_after r who (inl c) = inl (l.counted r who c)
   promised_after r who (inr a) = elim (stays now after node taken sent marks marks_after row lead (Promises who now.course.ballot) a) [
     | inl both ↦ inl (l.counts r who both.1)
     | inr b ↦ inr b
   ]
 
-  promising : after.course.runs ≡ true → (who : ℕ) → IsPromising now.course who (marks who) (marks lead) → Among (Prepares now.course.ballot) (marks_after who) ⊎ HasPromisedAfter who now.course.ballot
+  promising : after.course.running ≡ true → (who : ℕ) → IsPromising now.course who (marks who) (marks lead) → Among (Prepares now.course.ballot) (marks_after who) ⊎ HasPromisedAfter who now.course.ballot
   promising r who (inl a) = elim (stays now after node taken sent marks marks_after row who (Prepares now.course.ballot) a) [
     | inl both ↦ absurd (taken_no (Prepares now.course.ballot) (λ n. n) both.1)
     | inr b ↦ inl b
@@ -270,13 +270,13 @@ module _ (at : Sets) (now after : Progress) (node : ℕ) (taken : Option Mark) (
     ]
   ]
 
-  promising_after : after.course.runs ≡ true → now.course.is_first ≡ false → (who : ℕ) → IsOpen at newest_after who → Among (Prepares now.course.ballot) (marks_after who) ⊎ HasPromisedAfter who now.course.ballot
+  promising_after : after.course.running ≡ true → now.course.is_first ≡ false → (who : ℕ) → IsOpen at newest_after who → Among (Prepares now.course.ballot) (marks_after who) ⊎ HasPromisedAfter who now.course.ballot
   promising_after r later who o = elim (open_before later who o) [
     | inl old ↦ promising r who (was.promises l.runs later who old)
     | inr new ↦ inl (goes now after node taken sent marks marks_after row who (Prepares now.course.ballot) new)
   ]
 
-  undone_after : after.course.runs ≡ true → (ballot : Ballot) (slot : ℕ) → Among (Asks ballot slot) (marks_after node) → after.course.voters slot ≡ Some []
+  undone_after : after.course.running ≡ true → (ballot : Ballot) (slot : ℕ) → Among (Asks ballot slot) (marks_after node) → after.course.voters slot ≡ Some []
   undone_after r ballot slot a = elim (among-either (Asks ballot slot) row.left (sent node) (subst (Among (Asks ballot slot)) row.own a)) [
     | inl b ↦ (kept_asks ballot slot b).same r
     | inr b ↦ l.unvoted r ballot slot (subst (Among (Asks ballot slot)) own_sent b)

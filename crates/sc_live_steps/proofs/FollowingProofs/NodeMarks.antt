@@ -203,7 +203,7 @@ module _ (at : Sets) (now after : Progress) (node : ℕ) (taken : Option Mark) (
   ]
 
   -- the one that leads is taken no further
-  leads_after : now.course.runs ≡ true → after.next lead ≡ now.course.newest
+  leads_after : now.course.running ≡ true → after.next lead ≡ now.course.newest
   leads_after r =
       let executed = (was.leads r).executed in
       elim (cases_eq lead node) [
@@ -215,10 +215,10 @@ module _ (at : Sets) (now after : Progress) (node : ℕ) (taken : Option Mark) (
       ]
 
   -- it takes no vote and no promise in such a row
-  no_count : now.course.runs ≡ true → (mark : Mark) → IsCount mark → (lead ≡ node) × (taken ≡ Some mark) → ⊥
+  no_count : now.course.running ≡ true → (mark : Mark) → IsCount mark → (lead ≡ node) × (taken ≡ Some mark) → ⊥
   no_count r mark c both = t.counts r (sym both.0) (subst IsCount (sym (is_taken mark both.1)) c)
 
-  voting : now.course.runs ≡ true → (slot : ℕ) (voters : List ℕ) (who : ℕ) → IsVoting now.course.ballot who slot voters (marks who) (marks lead) → IsVoting now.course.ballot who slot voters (marks_after who) (marks_after lead)
+  voting : now.course.running ≡ true → (slot : ℕ) (voters : List ℕ) (who : ℕ) → IsVoting now.course.ballot who slot voters (marks who) (marks lead) → IsVoting now.course.ballot who slot voters (marks_after who) (marks_after lead)
   voting r slot voters who (inl v) = inl v
   voting r slot voters who (inr (inl a)) = elim (stays now after node taken sent marks marks_after row who (Asks now.course.ballot slot) a) [
     | inl both ↦ (let said : sent lead ≡ answered node (now.promise node) (Asks now.course.ballot slot) lead = t.sends lead ∙ ap (λ m. answered node (now.promise node) m lead) (is_taken (Asks now.course.ballot slot) both.1) in
@@ -231,7 +231,7 @@ module _ (at : Sets) (now after : Progress) (node : ℕ) (taken : Option Mark) (
     | inr b ↦ inr (inr b)
   ]
 
-  promised_still : now.course.runs ≡ true → (who : ℕ) → HasPromised now.course who (marks lead) → HasPromised now.course who (marks_after lead)
+  promised_still : now.course.running ≡ true → (who : ℕ) → HasPromised now.course who (marks lead) → HasPromised now.course who (marks_after lead)
   promised_still r who (inl c) = inl c
   promised_still r who (inr a) = elim (stays now after node taken sent marks marks_after row lead (Promises who now.course.ballot) a) [
     | inl both ↦ absurd (no_count r (Promises who now.course.ballot) tt both)
@@ -239,7 +239,7 @@ module _ (at : Sets) (now after : Progress) (node : ℕ) (taken : Option Mark) (
   ]
 
   -- one that is asked to promise does so, unless it has
-  promises_now : now.course.runs ≡ true → now.course.is_first ≡ false → t.mark ≡ Prepares now.course.ballot → HasPromised now.course node (marks_after lead)
+  promises_now : now.course.running ≡ true → now.course.is_first ≡ false → t.mark ≡ Prepares now.course.ballot → HasPromised now.course node (marks_after lead)
   promises_now r later fact = elim (cases_below (now.promise node) now.course.ballot) [
     | inl up ↦ (let said : sent lead ≡ answered node (now.promise node) (Prepares now.course.ballot) lead = t.sends lead ∙ ap (λ m. answered node (now.promise node) m lead) fact in
         let promise : sent lead ≡ Promises node now.course.ballot ∷ [] =
@@ -249,14 +249,14 @@ module _ (at : Sets) (now after : Progress) (node : ℕ) (taken : Option Mark) (
         promised_still r node (was.pledges r later node (same_from_at_least (now.promise node) now.course.ballot least asked.1)))
   ]
 
-  promising : now.course.runs ≡ true → now.course.is_first ≡ false → (who : ℕ) → IsPromising now.course who (marks who) (marks lead) → IsPromising now.course who (marks_after who) (marks_after lead)
+  promising : now.course.running ≡ true → now.course.is_first ≡ false → (who : ℕ) → IsPromising now.course who (marks who) (marks lead) → IsPromising now.course who (marks_after who) (marks_after lead)
   promising r later who (inl a) = elim (stays now after node taken sent marks marks_after row who (Prepares now.course.ballot) a) [
     | inl both ↦ inr (subst (λ n. HasPromised now.course n (marks_after lead)) (sym both.0) (promises_now r later (is_taken (Prepares now.course.ballot) both.1)))
     | inr b ↦ inl b
   ]
   promising r later who (inr h) = inr (promised_still r who h)
 
-  pledging : now.course.runs ≡ true → now.course.is_first ≡ false → (who : ℕ) → after.promise who ≡ now.course.ballot → HasPromised now.course who (marks_after lead)
+  pledging : now.course.running ≡ true → now.course.is_first ≡ false → (who : ℕ) → after.promise who ≡ now.course.ballot → HasPromised now.course who (marks_after lead)
   pledging r later who e = elim (cases_eq who node) [
     | inl fact ↦ subst (λ n. HasPromised now.course n (marks_after lead)) (sym fact) (elim (promise_from (now.promise node) now.course.ballot t.mark (sym t.promise ∙ (ap after.promise (sym fact) ∙ e))) [
       | inl old ↦ promised_still r node (was.pledges r later node old)

@@ -63,7 +63,7 @@ module _ (at : Sets) (now after : Progress) (node : ℕ) (taken : Option Mark) (
     home_of (Asks ballot slot) promise who k = cond_both (eqb who ballot.node) (Votes node ballot slot ∷ []) [] (Each (IsHome now.course who)) (λ _. (tt, tt)) (λ _. tt)
     home_of _ promise who k = tt
 
-    stop_row : now.course.runs ≡ false → (who : ℕ) → AreLearntLast now.course.newest (marks_after who)
+    stop_row : now.course.running ≡ false → (who : ℕ) → AreLearntLast now.course.newest (marks_after who)
     stop_row off who = elim (cases_eq who node) [
       | inl fact ↦ subst (λ n. AreLearntLast now.course.newest (marks_after n)) (sym fact) (subst (AreLearntLast now.course.newest) (sym row.own)
           (last_counts now.course.newest row.left (sent node) (last_left taken row.left now.course.newest (subst (AreLearntLast now.course.newest) row.takes (o.stop off node))) (counts node)))
@@ -107,7 +107,7 @@ module _ (at : Sets) (now after : Progress) (node : ℕ) (taken : Option Mark) (
     home_then who = each-row now after node taken sent marks marks_after row (IsHome now.course who) who (o.home who) (sent_each (IsHome now.course who) (λ _. tt) (λ _. tt) tt (λ _ _. tt) who)
 
     -- once a promise is counted
-    own_then : after.course.runs ≡ true → (who : ℕ) → after.course.counted who ≡ true → Each IsNoPrepare (marks_after lead)
+    own_then : after.course.running ≡ true → (who : ℕ) → after.course.counted who ≡ true → Each IsNoPrepare (marks_after lead)
     own_then r who counted = elim (c.grown r who counted) [
       | inl before ↦ each-row now after node taken sent marks marks_after row IsNoPrepare lead (o.own l.runs who before) own_none
       | inr takes ↦ (let here : marks node ≡ Promises who now.course.ballot ∷ row.left = row.takes ∙ ap (λ x. listed x ++ row.left) takes in
@@ -116,7 +116,7 @@ module _ (at : Sets) (now after : Progress) (node : ℕ) (taken : Option Mark) (
           subst (λ n. Each IsNoPrepare (marks_after n)) l.mine (subst (Each IsNoPrepare) (sym row.own) (Each-append IsNoPrepare row.left (sent node) (all_neither now.course.ballot row.left only others) (subst (λ n. Each IsNoPrepare (sent n)) (sym l.mine) own_none))))
     ]
 
-    stop_then : after.course.runs ≡ false → (who : ℕ) → AreLearntLast after.course.newest (marks_after who)
+    stop_then : after.course.running ≡ false → (who : ℕ) → AreLearntLast after.course.newest (marks_after who)
     stop_then off who =
         let some = (l.stops off).0 in
         let up = l.newest in

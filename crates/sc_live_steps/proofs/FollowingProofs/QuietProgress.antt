@@ -99,8 +99,8 @@ module _ (at : Sets) (now : Progress) (marks : ℕ → List Mark) (rosters : (sl
   counted node (inr (inr a)) = absurd (nothing now.course.ballot.node (Promises node now.course.ballot) a)
 
   -- one leads: else the least member has not executed all, but all members have
-  running : now.course.gone ≡ false → now.course.runs ≡ true
-  running stands = elim (cases_Bool now.course.runs) [
+  running : now.course.gone ≡ false → now.course.running ≡ true
+  running stands = elim (cases_Bool now.course.running) [
     | inl t ↦ t
     | inr f ↦ (let heir = least_of (members_at at newest) in
         let low = was.self_election f stands in

@@ -148,7 +148,7 @@ heirs_elect at by now hints marks slot rest command r h fact told = elim (nodes_
     hinted : is_among (members (entered command r)) (entered command r).hint ≡ is_among (members_at at (slot + 1)) (hints r.me)
     hinted = ap (λ m. is_among m (entered command r).hint) (sym told.members_are) ∙ ap (is_among (members_at at (slot + 1))) (kept.0 ∙ told.hint)
 
-    by_gone : (now.course.runs ≡ false) × (suc slot ≡ now.course.newest) → (o : Option Route) → (entered command r).group.core.gone ≡ o → Stays (entered command r) ⊎ IsHeir now slot command r
+    by_gone : (now.course.running ≡ false) × (suc slot ≡ now.course.newest) → (o : Option Route) → (entered command r).group.core.gone ≡ o → Stays (entered command r) ⊎ IsHeir now slot command r
     by_gone last (Some into) e = inl (inr (inr (into, e)))
     by_gone last None e = elim (cases_eq (least_of (members (entered command r))) (entered command r).me) [
       | inr ne ↦ inl (inr (inl ne))

@@ -9,7 +9,7 @@ use Rattle.sc_node_table.specs.NodeDefinitions.{ReplicaState, Place}
 pub record Ways : Type 0 where
   pub far : Draw → ℕ → ℕ
   pub most : ℕ
-  pub asks : Draw → Option (Draw × Bool)
+  pub asked_group : Draw → Option (Draw × Bool)
 
 -- What a command that waits owes. Its round is 26 deliveries: nine accept requests, nine votes, and eight nodes that learn it.
 -- The rest is an answer, or what the entry may cause.
@@ -56,7 +56,7 @@ asked_owes ways node (Some (group, false)) = prepare_owes ways group node
 
 -- What the reply owes that sends a coordinator to another node: its own delivery and the mail that it causes.
 abbrev pub elsewhere_owes : Ways → Draw → Option ℕ → ℕ
-elsewhere_owes ways tx (Some node) = 1 + asked_owes ways node (ways.asks tx)
+elsewhere_owes ways tx (Some node) = 1 + asked_owes ways node (ways.asked_group tx)
 elsewhere_owes ways tx None = 1
 
 -- What a mail to this node owes, by its body; 0 for a report to the desk, which is not delivered.

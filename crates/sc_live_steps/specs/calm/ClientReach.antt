@@ -12,13 +12,13 @@ use Rattle.sc_live_steps.specs.calm.CalmPotential.{Ways, answer_owes, mail_owes}
 
 -- The groups that stand; for each group, how many groups that are gone lie on the way from it to one that stands; and a bound of how often a client is sent on to another group.
 pub record Reach : Type 0 where
-  pub stands : List Draw
-  pub ends : Draw → ℕ
+  pub standing : List Draw
+  pub distance : Draw → ℕ
   pub most : ℕ
 
 -- How often a client may still be sent on: once to each group that stands and that it does not know, and once for each gone group on the way from those that it knows.
 abbrev pub sent_on : Reach → KnownGroups → ℕ
-sent_on reach known = unknown reach.stands known + sum_by (λ entry. reach.ends entry.0) known
+sent_on reach known = unknown reach.standing known + sum_by (λ entry. reach.distance entry.0) known
 
 -- What a client owes for being sent on, where no way is longer than `far`: while a request waits, as often as that may still happen;
 -- before its next request, `most` times, and the way to the node that it asks.
@@ -46,16 +46,16 @@ Awaits from group seq client = (waits_for client.waiting seq ≡ true) × (was_a
 
 -- The client learns of a successor that stands and that it does not know.
 pub record LearnsOf (reach : Reach) (succ : Draw) (client : ClientState) : Type 0 where
-  pub among : Among succ reach.stands
+  pub among : Among succ reach.standing
   pub none : way_to succ client.known ≡ None
-  pub ends : reach.ends succ ≡ 0
+  pub ends : reach.distance succ ≡ 0
 
 -- The client knows one group alone, which does not stand, and is sent on to one that is nearer to a group that stands.
 pub record LeavesFor (reach : Reach) (group into : Draw) (client : ClientState) : Type 0 where
   pub way : Way
   pub known : client.known ≡ (group, way) ∷ []
-  pub gone : Each (λ other. other ≡ group → ⊥) reach.stands
-  pub nearer : reach.ends into + 1 ≤ reach.ends group
+  pub gone : Each (λ other. other ≡ group → ⊥) reach.standing
+  pub nearer : reach.distance into + 1 ≤ reach.distance group
 
 -- What has to hold of a client that takes an answer, by what the answer says.
 abbrev pub MayHear : Ways → Reach → ℕ → Draw → ℕ → ClientState → AnswerBody → Type 0

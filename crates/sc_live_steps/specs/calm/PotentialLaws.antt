@@ -139,8 +139,8 @@ Points ways group r = r.running ≡ false → r.group.core.gone ≡ None → (no
 pub record AsksLower : Type 0 where
   pub promise : (ways : Ways) (from : ℕ) (group : Draw) (ballot : Ballot) (place : Place) → MayPump place.0 → Lowers ways from (Promise group ballot []) place
   pub request : (ways : Ways) (from client seq : ℕ) (op : Op) (place : Place) → MayPump place.0 → Points ways (name_of place.0) place.0 → Lowers ways from (Request (name_of place.0) client seq op) place
-  pub offer : (ways : Ways) (from : ℕ) (tx : Draw) (offer : Offer) (place : Place) → MayPump place.0 → Points ways offer.part place.0 → ways.asks tx ≡ Some (offer.part, false) → Lowers ways from (TxPrepare tx offer) place
-  pub watch : (ways : Ways) (from : ℕ) (tx : Draw) (watch : Watch) (place : Place) → MayPump place.0 → Points ways watch.part place.0 → ways.asks tx ≡ Some (watch.part, true) → Lowers ways from (TxWatch tx watch) place
+  pub offer : (ways : Ways) (from : ℕ) (tx : Draw) (offer : Offer) (place : Place) → MayPump place.0 → Points ways offer.part place.0 → ways.asked_group tx ≡ Some (offer.part, false) → Lowers ways from (TxPrepare tx offer) place
+  pub watch : (ways : Ways) (from : ℕ) (tx : Draw) (watch : Watch) (place : Place) → MayPump place.0 → Points ways watch.part place.0 → ways.asked_group tx ≡ Some (watch.part, true) → Lowers ways from (TxWatch tx watch) place
 
 -- A leader that leaves raises nothing: the command of its leave owed the election that its group then owes.
 abbrev pub LeadersMayLeave : Type 0
@@ -150,7 +150,7 @@ LeadersMayLeave =
 -- What the coordinator of a transaction asks of this node owes no more than what the ways say that it asks.
 abbrev pub AsksAs : Ways → Draw → ℕ → ReplicaState → Type 0
 AsksAs ways tx node r =
-    (body : Body) (heard : Option Heard) (order : ℕ) → r.group.core.lock ≡ Coordinating tx body order heard → body_owes ways node (question r.me r.group.core tx body heard) ≤ asked_owes ways node (ways.asks tx)
+    (body : Body) (heard : Option Heard) (order : ℕ) → r.group.core.lock ≡ Coordinating tx body order heard → body_owes ways node (question r.me r.group.core tx body heard) ≤ asked_owes ways node (ways.asked_group tx)
 
 -- A state lowers what is owed at a replica that does not lead, of a group that stands; and so does, at a coordinator, the reply that sends it to another node.
 pub record MovesLower : Type 0 where

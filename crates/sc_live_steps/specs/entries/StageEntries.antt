@@ -11,7 +11,7 @@ use Rattle.sc_live_steps.specs.orders.OrderDefinitions.{Turn, is_watch, Asking, 
 -- A coordinator asks what its bond says; so, where the ways of a chart name the same group and turn, what it asks owes no more than they say.
 abbrev pub BondsAsk : Type 0
 BondsAsk =
-    (ways : Ways) (tx asked : Draw) (turn : Turn) (node : ℕ) (r : ReplicaState) → bond_of r.group.core ≡ Asking tx asked turn → ways.asks tx ≡ Some (asked, is_watch turn) → AsksAs ways tx node r
+    (ways : Ways) (tx asked : Draw) (turn : Turn) (node : ℕ) (r : ReplicaState) → bond_of r.group.core ≡ Asking tx asked turn → ways.asked_group tx ≡ Some (asked, is_watch turn) → AsksAs ways tx node r
 
 -- By this entry no member comes or goes: a transaction begins, or a group votes in one.
 abbrev pub KeepsMembers : Command → Type 0

@@ -14,7 +14,7 @@ use Rattle.sc_live_steps.specs.following.PaxosTables.{marks_for, StepsBy, IsInTi
 -- The replica is to lead next: no node leads its group, which stands, and `command` is the last entry. The replica agrees with the group's progress,
 -- the members after the entry are one to nine nodes, all members are numbers of nodes, and the replica's next ballot is later than the group's.
 pub record MayLeadNext (at : Sets) (now : Progress) (slot : ℕ) (command : Command) (r : ReplicaState) : Type 0 where
-  pub idle : now.course.runs ≡ false
+  pub idle : now.course.running ≡ false
   pub stands : now.course.gone ≡ false
   pub last : suc slot ≡ now.course.newest
   pub bound : now.course.bound ≡ now.course.newest
@@ -31,7 +31,7 @@ abbrev pub elected_by : ℕ → Progress → ReplicaState → Progress
 elected_by me now r = record {
   next = λ who. if who == me then next r else now.next who;
   promise = λ who. if who == me then r.acceptor.promised else now.promise who;
-  course = record { newest = next r; bound = now.course.bound; ballot = r.leader.ballot; is_first = false; runs = true; gone = is_some r.group.core.gone; voters = voters_of r; counted = λ node. is_member r.leader.promisers node };
+  course = record { newest = next r; bound = now.course.bound; ballot = r.leader.ballot; is_first = false; running = true; gone = is_some r.group.core.gone; voters = voters_of r; counted = λ node. is_member r.leader.promisers node };
 }
 
 -- The replica's row is of kind `Elects`; after it the replica leads in the new progress, and what it has in flight and ready is in order.
@@ -60,6 +60,6 @@ moved_by me now r = record now { next = λ who. if who == me then next r else no
 -- the mark is no vote or promise where the replica leads, and not the last entry where the replica is to lead next.
 abbrev pub StepsTake : Type 0
 StepsTake =
-    (at : Sets) (now : Progress) (mark : Mark) (r : ReplicaState) (after : Place) → now.next r.me ≡ next r → now.promise r.me ≡ r.acceptor.promised → StepsBy mark r after → (now.course.runs ≡ true → r.me ≡ now.course.ballot.node → IsCount mark → ⊥)
-    → (now.course.runs ≡ false → now.course.gone ≡ false → r.me ≡ least_of (members_at at now.course.newest) → next after.0 < now.course.newest)
+    (at : Sets) (now : Progress) (mark : Mark) (r : ReplicaState) (after : Place) → now.next r.me ≡ next r → now.promise r.me ≡ r.acceptor.promised → StepsBy mark r after → (now.course.running ≡ true → r.me ≡ now.course.ballot.node → IsCount mark → ⊥)
+    → (now.course.running ≡ false → now.course.gone ≡ false → r.me ≡ least_of (members_at at now.course.newest) → next after.0 < now.course.newest)
     → Takes at now (moved_by r.me now after.0) r.me (Some mark) (λ who. marks_for (name_of r) who after.1)

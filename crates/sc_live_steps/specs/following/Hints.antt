@@ -28,7 +28,7 @@ hinted at by promise hint (mark ∷ marks) = hinted at by (promise_by promise ma
 
 -- The node that counted the entry at this slot is a member after it; or `node` is not the least member then; or the entry is the last one, and no node leads.
 abbrev pub MayLeave : Sets → SlotLeaders → Course → ℕ → ℕ → Type 0
-MayLeave at by course node slot = (is_member (members_at at (slot + 1)) (by slot) ≡ true) ⊎ ((least_of (members_at at (slot + 1)) ≡ node → ⊥) ⊎ ((course.runs ≡ false) × (suc slot ≡ course.newest)))
+MayLeave at by course node slot = (is_member (members_at at (slot + 1)) (by slot) ≡ true) ⊎ ((least_of (members_at at (slot + 1)) ≡ node → ⊥) ⊎ ((course.running ≡ false) × (suc slot ≡ course.newest)))
 
 -- A node learns an entry from the node that it takes for the leader, and `MayLeave` holds of the entry; a state is sent by a member. Nothing is asked of other mails.
 abbrev pub IsHeeded : Sets → SlotLeaders → Course → ℕ → Option ℕ → Mark → Type 0
@@ -46,14 +46,14 @@ AreHeeded at by course node promise hint (mark ∷ marks) = IsHeeded at by cours
 
 -- The node does not lead.
 abbrev pub IsOther : Course → ℕ → Type 0
-IsOther course node = course.runs ≡ true → node ≡ course.ballot.node → ⊥
+IsOther course node = course.running ≡ true → node ≡ course.ballot.node → ⊥
 
 -- Whom each node takes for the leader. While a node leads, each other node that decides an open slot takes it for the leader once it has taken its mail.
 -- Where none leads and the group stands, the node that counted the last entry is no member.
 pub record IsHeeding (at : Sets) (by : SlotLeaders) (now : Progress) (hints : ℕ → Option ℕ) (marks : ℕ → List Mark) : Type 0 where
   pub heeds : (node : ℕ) → IsOther now.course node → AreHeeded at by now.course node (now.promise node) (hints node) (marks node)
-  pub ends : now.course.runs ≡ true → (node : ℕ) → (node ≡ now.course.ballot.node → ⊥) → IsOpen at now.course.newest node → hinted at by (now.promise node) (hints node) (marks node) ≡ Some now.course.ballot.node
-  pub left : now.course.runs ≡ false → now.course.gone ≡ false → (slot : ℕ) → suc slot ≡ now.course.newest → is_member (members_at at now.course.newest) (by slot) ≡ false
+  pub ends : now.course.running ≡ true → (node : ℕ) → (node ≡ now.course.ballot.node → ⊥) → IsOpen at now.course.newest node → hinted at by (now.promise node) (hints node) (marks node) ≡ Some now.course.ballot.node
+  pub left : now.course.running ≡ false → now.course.gone ≡ false → (slot : ℕ) → suc slot ≡ now.course.newest → is_member (members_at at now.course.newest) (by slot) ≡ false
 
 -- What a kind of row says of whom its node takes for the leader before and after it.
 abbrev pub HintKind : Type 1
@@ -104,8 +104,8 @@ pub record HintsAreKept : Type 0 where
 -- `last`, `sent`: where no node leads a group that stands, a node that learns the last entry takes no member for the leader, and no state under way is the last one.
 pub record NodesHeed : Type 0 where
   pub told : (at : Sets) (by : SlotLeaders) (now : Progress) (hints : ℕ → Option ℕ) (marks : ℕ → List Mark) (node slot : ℕ) (rest : List Mark) → IsHeeding at by now hints marks → IsOther now.course node → marks node ≡ Teaches slot ∷ rest
-      → (is_among (members_at at (slot + 1)) (hints node) ≡ true) ⊎ ((least_of (members_at at (slot + 1)) ≡ node → ⊥) ⊎ ((now.course.runs ≡ false) × (suc slot ≡ now.course.newest)))
-  pub last : (at : Sets) (by : SlotLeaders) (now : Progress) (hints : ℕ → Option ℕ) (marks : ℕ → List Mark) (node slot : ℕ) (rest : List Mark) → IsHeeding at by now hints marks → now.course.runs ≡ false → now.course.gone ≡ false
+      → (is_among (members_at at (slot + 1)) (hints node) ≡ true) ⊎ ((least_of (members_at at (slot + 1)) ≡ node → ⊥) ⊎ ((now.course.running ≡ false) × (suc slot ≡ now.course.newest)))
+  pub last : (at : Sets) (by : SlotLeaders) (now : Progress) (hints : ℕ → Option ℕ) (marks : ℕ → List Mark) (node slot : ℕ) (rest : List Mark) → IsHeeding at by now hints marks → now.course.running ≡ false → now.course.gone ≡ false
       → marks node ≡ Teaches slot ∷ rest → suc slot ≡ now.course.newest → is_among (members_at at now.course.newest) (hints node) ≡ false
-  pub sent : (at : Sets) (by : SlotLeaders) (now : Progress) (hints : ℕ → Option ℕ) (marks : ℕ → List Mark) (node slot : ℕ) (rest : List Mark) → IsHeeding at by now hints marks → now.course.runs ≡ false → now.course.gone ≡ false
+  pub sent : (at : Sets) (by : SlotLeaders) (now : Progress) (hints : ℕ → Option ℕ) (marks : ℕ → List Mark) (node slot : ℕ) (rest : List Mark) → IsHeeding at by now hints marks → now.course.running ≡ false → now.course.gone ≡ false
       → marks node ≡ Installs slot ∷ rest → suc slot ≡ now.course.newest → ⊥

@@ -50,8 +50,8 @@ pub record Takes (at : Sets) (now after : Progress) (node : ℕ) (taken : Option
   pub promise : after.promise node ≡ promise_by (now.promise node) mark
   pub course : after.course ≡ now.course
   pub sends : (who : ℕ) → sent who ≡ answered node (now.promise node) mark who
-  pub counts : now.course.runs ≡ true → node ≡ now.course.ballot.node → IsCount mark → ⊥
-  pub waits : now.course.runs ≡ false → now.course.gone ≡ false → node ≡ least_of (members_at at now.course.newest) → after.next node < now.course.newest
+  pub counts : now.course.running ≡ true → node ≡ now.course.ballot.node → IsCount mark → ⊥
+  pub waits : now.course.running ≡ false → now.course.gone ≡ false → node ≡ least_of (members_at at now.course.newest) → after.next node < now.course.newest
 
 -- What is sent to a node that the entry at a slot adds: the state after the entry, and a Prepare unless the ballot is the group's first.
 abbrev pub welcome : Course → ℕ → List Mark
@@ -110,7 +110,7 @@ pub record IsKept (now after : Course) (slot : ℕ) (voters : List ℕ) : Type 0
 -- sends them to the members, sends the state to those that join, and offers at new slots.
 -- It stops where it is no member any more or the group is gone; then all that was offered is executed.
 pub record Leads (at : Sets) (now after : Progress) (node : ℕ) (taken : Option Mark) (sent : ℕ → List Mark) : Type 0 where
-  pub runs : now.course.runs ≡ true
+  pub runs : now.course.running ≡ true
   pub mine : node ≡ now.course.ballot.node
   pub takes : Each IsCount (listed taken)
   pub executed : ℕ
@@ -122,18 +122,18 @@ pub record Leads (at : Sets) (now after : Progress) (node : ℕ) (taken : Option
   pub within : after.course.newest ≤ now.course.bound
   pub bound : now.course.bound ≤ after.course.bound
   pub high : after.course.bound ≤ after.course.newest + slots_ahead
-  pub stays : after.course.runs ≡ true → (is_member (members_at at after.course.newest) node ≡ true) × (after.course.gone ≡ false)
-  pub leaves : after.course.runs ≡ false → after.course.gone ≡ false → is_member (members_at at after.course.newest) node ≡ false
-  pub stops : after.course.runs ≡ false → (1 ≤ executed) × (after.course.bound ≡ after.course.newest)
+  pub stays : after.course.running ≡ true → (is_member (members_at at after.course.newest) node ≡ true) × (after.course.gone ≡ false)
+  pub leaves : after.course.running ≡ false → after.course.gone ≡ false → is_member (members_at at after.course.newest) node ≡ false
+  pub stops : after.course.running ≡ false → (1 ≤ executed) × (after.course.bound ≡ after.course.newest)
   pub offers : ℕ → List Mark
   pub sends : (who : ℕ) → sent who ≡ taught_from at now.course now.course.newest executed who ++ offers who
   pub asks : (who : ℕ) → Each (IsOffer at after.course now.course.bound who) (offers who)
-  pub unvoted : after.course.runs ≡ true → (ballot : Ballot) (slot : ℕ) → Among (Asks ballot slot) (offers node) → after.course.voters slot ≡ Some []
+  pub unvoted : after.course.running ≡ true → (ballot : Ballot) (slot : ℕ) → Among (Asks ballot slot) (offers node) → after.course.voters slot ≡ Some []
   pub flying : (slot : ℕ) (voters : List ℕ) → after.course.voters slot ≡ Some voters → IsInFlight at after.course slot voters
   pub kept : (slot : ℕ) (voters : List ℕ) → now.course.voters slot ≡ Some voters → Each (λ mark. IsElsewhere mark slot) (listed taken) → IsKept now.course after.course slot voters
   pub grown : (slot : ℕ) (voters : List ℕ) → after.course.voters slot ≡ Some voters → IsOffered at now.course sent slot voters ⊎ IsCounted at now.course taken slot voters
-  pub counted : after.course.runs ≡ true → (who : ℕ) → now.course.counted who ≡ true → after.course.counted who ≡ true
-  pub counts : after.course.runs ≡ true → (who : ℕ) → taken ≡ Some (Promises who now.course.ballot) → after.course.counted who ≡ true
+  pub counted : after.course.running ≡ true → (who : ℕ) → now.course.counted who ≡ true → after.course.counted who ≡ true
+  pub counts : after.course.running ≡ true → (who : ℕ) → taken ≡ Some (Promises who now.course.ballot) → after.course.counted who ≡ true
 
 -- The mark is the last entry of the newest state, to be learnt, or that state itself.
 abbrev pub IsLast : ℕ → Mark → Type 0
@@ -145,7 +145,7 @@ pub record Elects (at : Sets) (now after : Progress) (node : ℕ) (taken : Optio
   pub mark : Mark
   pub takes : taken ≡ Some mark
   pub last : IsLast now.course.newest mark
-  pub idle : now.course.runs ≡ false
+  pub idle : now.course.running ≡ false
   pub stands : now.course.gone ≡ false
   pub least : node ≡ least_of (members_at at now.course.newest)
   pub next : after.next node ≡ now.course.newest
@@ -155,7 +155,7 @@ pub record Elects (at : Sets) (now after : Progress) (node : ℕ) (taken : Optio
   pub later : below now.course.ballot after.course.ballot ≡ true
   pub mine : after.course.ballot.node ≡ node
   pub first : after.course.is_first ≡ false
-  pub runs : after.course.runs ≡ true
+  pub runs : after.course.running ≡ true
   pub stays : after.course.gone ≡ false
   pub voters : (slot : ℕ) → after.course.voters slot ≡ None
   pub sends : (who : ℕ) → (sent who ≡ []) ⊎ (IsOpen at now.course.newest who × (sent who ≡ Prepares after.course.ballot ∷ []))
@@ -166,7 +166,7 @@ abbrev pub begun : List ℕ → Ballot → Progress
 begun members ballot = record {
   next = λ node. if is_member members node then 1 else 0;
   promise = λ node. ballot;
-  course = record { newest = 1; bound = 1; ballot = ballot; is_first = true; runs = true; gone = false; voters = λ slot. None; counted = λ node. false };
+  course = record { newest = 1; bound = 1; ballot = ballot; is_first = true; running = true; gone = false; voters = λ slot. None; counted = λ node. false };
 }
 
 -- Each row of this kind keeps `IsFollowing`, if one to nine nodes decide each slot.

@@ -29,7 +29,7 @@ pub record IsPolled (members voters : List ℕ) : Type 0 where
 pub record IsLeadOf (at : Sets) (now : Progress) (r : ReplicaState) : Type 0 where
   pub led : IsLed at now.course r
   pub newest : now.course.newest ≡ next r
-  pub runs : now.course.runs ≡ true
+  pub runs : now.course.running ≡ true
   pub stands : now.course.gone ≡ false
   pub executed : now.next r.me ≡ next r
   pub promise : now.promise r.me ≡ r.acceptor.promised
@@ -42,7 +42,7 @@ abbrev pub progress_by : ℕ → Progress → ReplicaState → Progress
 progress_by bound now r = record {
   next = λ who. if who == r.me then next r else now.next who;
   promise = λ who. if who == r.me then r.acceptor.promised else now.promise who;
-  course = record now.course { newest = next r; bound = bound; runs = r.running; gone = is_some r.group.core.gone; voters = voters_of r; counted = λ node. is_member r.leader.promisers node };
+  course = record now.course { newest = next r; bound = bound; running = r.running; gone = is_some r.group.core.gone; voters = voters_of r; counted = λ node. is_member r.leader.promisers node };
 }
 
 -- A row of a replica that leads is of kind `Leads` in its group's progress. The replica is a member after each entry that it executes but the last,

@@ -117,7 +117,7 @@ pub record Course : Type 0 where
   pub bound : ℕ
   pub ballot : Ballot
   pub is_first : Bool
-  pub runs : Bool
+  pub running : Bool
   pub gone : Bool
   pub voters : ℕ → Option (List ℕ)
   pub counted : ℕ → Bool
@@ -161,7 +161,7 @@ pub record IsLeading (at : Sets) (now : Progress) : Type 0 where
 
 -- One node leads; what is in flight at this slot was offered there and is not executed, and these votes are no majority of the slot's members.
 pub record IsInFlight (at : Sets) (course : Course) (slot : ℕ) (voters : List ℕ) : Type 0 where
-  pub runs : course.runs ≡ true
+  pub runs : course.running ≡ true
   pub from : course.newest ≤ slot
   pub to : slot < course.bound
   pub undecided : is_majority (at slot) voters ≡ false
@@ -199,17 +199,17 @@ pub record IsFollowing (at : Sets) (now : Progress) (marks : ℕ → List Mark) 
   pub first : now.course.is_first ≡ true → (node : ℕ) → pledged (now.promise node) (marks node) ≡ now.course.ballot
   -- no accept request stands behind a vote at its slot; where one is under way to the leader itself, no vote at its slot was counted
   pub asked : (node : ℕ) → AreAskedFirst (marks node)
-  pub undone : now.course.runs ≡ true → (ballot : Ballot) (slot : ℕ) → Among (Asks ballot slot) (marks now.course.ballot.node) → now.course.voters slot ≡ Some []
+  pub undone : now.course.running ≡ true → (ballot : Ballot) (slot : ℕ) → Among (Asks ballot slot) (marks now.course.ballot.node) → now.course.voters slot ≡ Some []
   -- each node that decides what is in flight votes for it, and each node that decides an open slot promises the ballot
   pub flying : (slot : ℕ) (voters : List ℕ) → now.course.voters slot ≡ Some voters → IsInFlight at now.course slot voters
   pub votes : (slot : ℕ) (voters : List ℕ) → now.course.voters slot ≡ Some voters → (node : ℕ) → is_member (at slot) node ≡ true
       → IsVoting now.course.ballot node slot voters (marks node) (marks now.course.ballot.node)
-  pub promises : now.course.runs ≡ true → now.course.is_first ≡ false → (node : ℕ) → IsOpen at now.course.newest node → IsPromising now.course node (marks node) (marks now.course.ballot.node)
-  pub pledges : now.course.runs ≡ true → now.course.is_first ≡ false → (node : ℕ) → now.promise node ≡ now.course.ballot → HasPromised now.course node (marks now.course.ballot.node)
+  pub promises : now.course.running ≡ true → now.course.is_first ≡ false → (node : ℕ) → IsOpen at now.course.newest node → IsPromising now.course node (marks node) (marks now.course.ballot.node)
+  pub pledges : now.course.running ≡ true → now.course.is_first ≡ false → (node : ℕ) → now.promise node ≡ now.course.ballot → HasPromised now.course node (marks now.course.ballot.node)
   -- a node leads; or all that was offered is executed, and the least member, which elects itself by the last entry, has not executed that entry
-  pub leads : now.course.runs ≡ true → IsLeading at now
-  pub offered : now.course.runs ≡ false → now.course.bound ≡ now.course.newest
-  pub self_election : now.course.runs ≡ false → now.course.gone ≡ false → now.next (least_of (members_at at now.course.newest)) < now.course.newest
+  pub leads : now.course.running ≡ true → IsLeading at now
+  pub offered : now.course.running ≡ false → now.course.bound ≡ now.course.newest
+  pub self_election : now.course.running ≡ false → now.course.gone ≡ false → now.next (least_of (members_at at now.course.newest)) < now.course.newest
 
 -- What holds where no mail of the group is under way: all members have executed all entries, and nothing is in flight.
 pub record IsEven (at : Sets) (now : Progress) : Type 0 where
@@ -220,7 +220,7 @@ pub record IsEven (at : Sets) (now : Progress) : Type 0 where
 
 -- What holds besides, where no mail is under way, of a group that stands: a node leads, and each node that decides an open slot has promised its ballot.
 pub record IsEvenLed (at : Sets) (now : Progress) : Type 0 where
-  pub runs : now.course.runs ≡ true
+  pub runs : now.course.running ≡ true
   pub leads : IsLeading at now
   pub replicas : (node : ℕ) → IsOpen at now.course.newest node → 1 ≤ now.next node
   pub voters : (node : ℕ) → IsOpen at now.course.newest node → now.promise node ≡ now.course.ballot

@@ -62,11 +62,11 @@ AreLearntLast newest (Prepares ballot ∷ marks) = AreLearntLast newest marks
 pub record IsOwnFirst (now : Progress) (marks : ℕ → List Mark) : Type 0 where
   pub home : (who : ℕ) → Each (IsHome now.course who) (marks who)
   pub order : (who : ℕ) → ArePromisedLast (marks who)
-  pub own : now.course.runs ≡ true → (who : ℕ) → now.course.counted who ≡ true → Each IsNoPrepare (marks now.course.ballot.node)
-  pub some : now.course.runs ≡ true → now.course.is_first ≡ false → now.course.newest < now.course.bound → (who : ℕ) × (now.course.counted who ≡ true)
-  pub first : now.course.runs ≡ true → now.course.is_first ≡ true → Each IsNoPrepare (marks now.course.ballot.node)
-  pub only : now.course.runs ≡ true → Each (IsOwnPrepare now.course.ballot) (marks now.course.ballot.node)
-  pub stop : now.course.runs ≡ false → (who : ℕ) → AreLearntLast now.course.newest (marks who)
+  pub own : now.course.running ≡ true → (who : ℕ) → now.course.counted who ≡ true → Each IsNoPrepare (marks now.course.ballot.node)
+  pub some : now.course.running ≡ true → now.course.is_first ≡ false → now.course.newest < now.course.bound → (who : ℕ) × (now.course.counted who ≡ true)
+  pub first : now.course.running ≡ true → now.course.is_first ≡ true → Each IsNoPrepare (marks now.course.ballot.node)
+  pub only : now.course.running ≡ true → Each (IsOwnPrepare now.course.ballot) (marks now.course.ballot.node)
+  pub stop : now.course.running ≡ false → (who : ℕ) → AreLearntLast now.course.newest (marks who)
 
 -- What a kind of row says besides of the promises that are counted.
 abbrev pub OwnKind : Type 1
@@ -78,8 +78,8 @@ AsItIs now after taken = Unit {0}
 
 -- A leader counts a promise only by taking it, and has counted one where something is offered and not executed in a ballot that is not the group's first.
 pub record CountsOwn (now after : Progress) (taken : Option Mark) : Type 0 where
-  pub grown : after.course.runs ≡ true → (who : ℕ) → after.course.counted who ≡ true → (now.course.counted who ≡ true) ⊎ (taken ≡ Some (Promises who now.course.ballot))
-  pub some : after.course.runs ≡ true → after.course.is_first ≡ false → after.course.newest < after.course.bound → (who : ℕ) × (after.course.counted who ≡ true)
+  pub grown : after.course.running ≡ true → (who : ℕ) → after.course.counted who ≡ true → (now.course.counted who ≡ true) ⊎ (taken ≡ Some (Promises who now.course.ballot))
+  pub some : after.course.running ≡ true → after.course.is_first ≡ false → after.course.newest < after.course.bound → (who : ℕ) × (after.course.counted who ≡ true)
 
 -- A node that elects itself has counted no promise, and learns the last entry by this row.
 pub record CountsNone (now after : Progress) (taken : Option Mark) : Type 0 where

@@ -34,7 +34,7 @@ pub record IsTold (at : Sets) (now : Progress) (hints : ℕ → Option ℕ) (slo
 
 -- The replica is to lead next: the entry is the last one, no node leads, and the group stands. It may elect itself while it has a later round.
 pub record IsHeir (now : Progress) (slot : ℕ) (command : Command) (r : ReplicaState) : Type 0 where
-  pub idle : now.course.runs ≡ false
+  pub idle : now.course.running ≡ false
   pub stands : now.course.gone ≡ false
   pub last : suc slot ≡ now.course.newest
   pub may : r.top.round < 2 ^ 32 - 1 → MayElect (entered command r)

@@ -59,7 +59,7 @@ module _ {T : Type 0} (leaves : T → T → Type 0) where
   -- what was lent before stays so when more is lent
   loans_more : (lent more : List T) (xs : List (Loan T)) → AllLoans leaves lent xs → AllLoans leaves (lent ++ more) xs
   loans_more lent more [] p = tt
-  loans_more lent more (x ∷ xs) p = (record { was = p.0.was; at = at_longer lent more x.number p.0.was p.0.at; now = p.0.now }, loans_more lent more xs p.1)
+  loans_more lent more (x ∷ xs) p = (record { lent_value = p.0.lent_value; at = at_longer lent more x.number p.0.lent_value p.0.at; now = p.0.now }, loans_more lent more xs p.1)
 
   abbrev AllKnow : ℕ → List T → List (Clerk T) → Type 0
   AllKnow writer lent views = (pass : ℕ) (v : Clerk T) → get_elem? views pass ≡ some v → Knows leaves writer lent pass v
@@ -90,7 +90,7 @@ module _ {T : Type 0} (leaves : T → T → Type 0) where
       let mine = k.knows pass v at in
       let is : v.lent ≡ k.lent = (mine.lends may).1 in
       let here : get_elem? (k.lent ++ x.work ∷ []) x.number ≡ some x.work = at_last k.lent x.work x.number (ap length (sym is) ∙ sym next) in
-      let new : IsLoan leaves (k.lent ++ x.work ∷ []) x = record { was = x.work; at = here; now = subst (λ b. MatchBool b (leaves x.work x.work) (x.work ≡ x.work)) (sym fresh) refl } in (
+      let new : IsLoan leaves (k.lent ++ x.work ∷ []) x = record { lent_value = x.work; at = here; now = subst (λ b. MatchBool b (leaves x.work x.work) (x.work ≡ x.work)) (sym fresh) refl } in (
         w,
         record {
           lent = k.lent ++ x.work ∷ [];
@@ -177,20 +177,20 @@ module _ {T : Type 0} (leaves : T → T → Type 0) where
       old : IsLoan leaves lent x
       old = last_held v w x t lent all
 
-      left : (b : Bool) → x.done ≡ b → leaves old.was y.work
+      left : (b : Bool) → x.done ≡ b → leaves old.lent_value y.work
       left true e =
-          let before : leaves old.was x.work = subst (λ b. MatchBool b (leaves old.was x.work) (x.work ≡ old.was)) e old.now in
+          let before : leaves old.lent_value x.work = subst (λ b. MatchBool b (leaves old.lent_value x.work) (x.work ≡ old.lent_value)) e old.now in
           let same : y.work ≡ x.work = subst (λ b. MatchBool b (y.work ≡ x.work) (leaves x.work y.work)) e d.work in
-          subst (leaves old.was) (sym same) before
+          subst (leaves old.lent_value) (sym same) before
       left false e =
-          let same : x.work ≡ old.was = subst (λ b. MatchBool b (leaves old.was x.work) (x.work ≡ old.was)) e old.now in
+          let same : x.work ≡ old.lent_value = subst (λ b. MatchBool b (leaves old.lent_value x.work) (x.work ≡ old.lent_value)) e old.now in
           subst (λ s. leaves s y.work) same (subst (λ b. MatchBool b (y.work ≡ x.work) (leaves x.work y.work)) e d.work)
 
       by : (b : Bool) → x.done ≡ b → IsLoan leaves lent y
       by b e = record {
-        was = old.was;
+        lent_value = old.lent_value;
         at = ap (get_elem? lent) d.number ∙ old.at;
-        now = subst (λ u. MatchBool u (leaves old.was y.work) (y.work ≡ old.was)) (sym d.done) (left b e);
+        now = subst (λ u. MatchBool u (leaves old.lent_value y.work) (y.work ≡ old.lent_value)) (sym d.done) (left b e);
       }
 
   -- the one that lends has back what is left of what was lent under a number
@@ -200,16 +200,16 @@ module _ {T : Type 0} (leaves : T → T → Type 0) where
       mine : IsLoan leaves v.lent x
       mine = t.1 may
 
-      same : mine.was ≡ s
-      same = some-injective mine.was s (sym mine.at ∙ (ap (get_elem? v.lent) (sym d.number) ∙ at))
+      same : mine.lent_value ≡ s
+      same = some-injective mine.lent_value s (sym mine.at ∙ (ap (get_elem? v.lent) (sym d.number) ∙ at))
 
       by : (b : Bool) → x.done ≡ b → leaves s y.work
       by true e =
-          let before : leaves mine.was x.work = subst (λ b. MatchBool b (leaves mine.was x.work) (x.work ≡ mine.was)) e mine.now in
+          let before : leaves mine.lent_value x.work = subst (λ b. MatchBool b (leaves mine.lent_value x.work) (x.work ≡ mine.lent_value)) e mine.now in
           let work : y.work ≡ x.work = subst (λ b. MatchBool b (y.work ≡ x.work) (leaves x.work y.work)) e d.work in
-          subst (λ u. leaves u y.work) same (subst (leaves mine.was) (sym work) before)
+          subst (λ u. leaves u y.work) same (subst (leaves mine.lent_value) (sym work) before)
       by false e =
-          let was : x.work ≡ mine.was = subst (λ b. MatchBool b (leaves mine.was x.work) (x.work ≡ mine.was)) e mine.now in
+          let was : x.work ≡ mine.lent_value = subst (λ b. MatchBool b (leaves mine.lent_value x.work) (x.work ≡ mine.lent_value)) e mine.now in
           subst (λ u. leaves u y.work) (was ∙ same) (subst (λ b. MatchBool b (y.work ≡ x.work) (leaves x.work y.work)) e d.work)
 
   -- what was worked before

@@ -45,9 +45,9 @@ module _ {T : Type 0} where
 module _ {T : Type 0} (leaves : T → T → Type 0) where
   -- The loan is what was lent under its number; or, where it is done, what working may leave of that.
   pub record IsLoan (lent : List T) (x : Loan T) : Type 0 where
-    pub was : T
-    pub at : IsLentUnder lent x.number was
-    pub now : MatchBool x.done (leaves was x.work) (x.work ≡ was)
+    pub lent_value : T
+    pub at : IsLentUnder lent x.number lent_value
+    pub now : MatchBool x.done (leaves lent_value x.work) (x.work ≡ lent_value)
 
   -- Each of these is a loan of what was lent.
   abbrev pub AllLoans : List T → List (Loan T) → Type 0

@@ -6,37 +6,37 @@ use Rattle.sc_world_replay.proofs.Checks.{room_mails, Ends-line, Breaks-line, ta
 use Rattle.sc_world_replay.proofs.Steps.{StageGoes-skip, StageGoes-line}
 use Rattle.sc_world_replay.proofs.checking.check_once.Goals as goal
 
-pub returns-in_default-clause-is : goal.returns-in_default-clause-is
-returns-in_default-clause-is g c =
+pub returns-in_default-clause-checked : goal.returns-in_default-clause-checked
+returns-in_default-clause-checked g c =
     let r = rules_of g.A.Actor.table g.A.Mail.Parcel.receiver in (
-      StageGoes-skip r c.args.stage.now _ c.args.line.now (sym c.in_ok-action.ensures.is ∙ c.in_default.is) (record { rows = refl; seats = refl }) refl refl,
+      StageGoes-skip r c.args.stage.now _ c.args.line.now (sym c.in_ok-action.ensures.action ∙ c.in_default.is) (record { rows = refl; seats = refl }) refl refl,
       taking_same g.A.Mail.Parcel.receiver c.args.stage.now _ c.args.rows.now (record { rows = refl; seats = refl; mails = refl; pending = refl; started = refl; crashed = refl }) c.requires.taking,
     )
 
 pub take_row-requires-clause-mails : goal.take_row-requires-clause-mails
 take_row-requires-clause-mails g c = λ κs within.
     let next = next_row c.args.stage.now.rows c.args.rows.now c.index-rows-at.result c.len-at.result c.len-at.ensures c.if-at-rows.false c.index-rows-at.is in
-    room_mails c.args.stage.now.rows c.args.rows.now c.index-rows-at.result c.requires.taking.follows next.more next.is c.requires.taking.few_mails_in_all
+    room_mails c.args.stage.now.rows c.args.rows.now c.index-rows-at.result c.requires.taking.follows next.more next.row_is c.requires.taking.few_mails_in_all
 
-pub returns-then-branch-clause-is : goal.returns-then-branch-clause-is
-returns-then-branch-clause-is g c =
+pub returns-then-branch-clause-checked : goal.returns-then-branch-clause-checked
+returns-then-branch-clause-checked g c =
     let r = rules_of g.A.Actor.table g.A.Mail.Parcel.receiver in
     let next = next_row c.args.stage.now.rows c.args.rows.now c.index-rows-at.result c.len-at.result c.len-at.ensures c.if-at-rows.false c.index-rows-at.is in
     let took = MatchBool-at_true (DidWithRow r c.args.stage.now c.take_row.new.stage c.in-Some.action c.index-rows-at.result) (Misses r c.args.stage.now c.take_row.new.stage c.in-Some.action c.index-rows-at.result) c.if-branch.true c.in_ok-take_row.ensures.took in (
-      StageGoes-line r c.args.stage.now c.take_row.new.stage c.args.line.now c.in-Some.action (sym c.in_ok-action.ensures.is ∙ c.in-Some.is) took.did,
-      taking_next r c.args.stage.now c.take_row.new.stage c.in-Some.action c.index-rows-at.result c.args.rows.now c.requires.taking next.more next.is took,
+      StageGoes-line r c.args.stage.now c.take_row.new.stage c.args.line.now c.in-Some.action (sym c.in_ok-action.ensures.action ∙ c.in-Some.is) took.did,
+      taking_next r c.args.stage.now c.take_row.new.stage c.in-Some.action c.index-rows-at.result c.args.rows.now c.requires.taking next.more next.row_is took,
     )
 
-pub returns-else-branch-clause-is : goal.returns-else-branch-clause-is
-returns-else-branch-clause-is g c =
+pub returns-else-branch-clause-checked : goal.returns-else-branch-clause-checked
+returns-else-branch-clause-checked g c =
     let r = rules_of g.A.Actor.table g.A.Mail.Parcel.receiver in
     let next = next_row c.args.stage.now.rows c.args.rows.now c.index-rows-at.result c.len-at.result c.len-at.ensures c.if-at-rows.false c.index-rows-at.is in
     let misses = MatchBool-at_false (DidWithRow r c.args.stage.now c.take_row.new.stage c.in-Some.action c.index-rows-at.result) (Misses r c.args.stage.now c.take_row.new.stage c.in-Some.action c.index-rows-at.result) c.if-branch.false c.in_ok-take_row.ensures.took in
-    Breaks-line r c.args.stage.now c.take_row.new.stage c.args.rows.now c.args.line.now c.in-Some.action c.index-rows-at.result (sym c.in_ok-action.ensures.is ∙ c.in-Some.is) misses c.requires.taking.follows next.more next.is
+    Breaks-line r c.args.stage.now c.take_row.new.stage c.args.rows.now c.args.line.now c.in-Some.action c.index-rows-at.result (sym c.in_ok-action.ensures.action ∙ c.in-Some.is) misses c.requires.taking.follows next.more next.row_is
 
-pub returns-then-at-rows-clause-is : goal.returns-then-at-rows-clause-is
-returns-then-at-rows-clause-is g c =
+pub returns-then-at-rows-clause-checked : goal.returns-then-at-rows-clause-checked
+returns-then-at-rows-clause-checked g c =
     let r = rules_of g.A.Actor.table g.A.Mail.Parcel.receiver in (
-      Ends-line r c.args.stage.now c.args.stage.now c.args.rows.now c.args.line.now c.in-Some.action (sym c.in_ok-action.ensures.is ∙ c.in-Some.is) c.requires.taking.follows (omega (arith, c.len-at.ensures, c.if-at-rows.true)),
+      Ends-line r c.args.stage.now c.args.stage.now c.args.rows.now c.args.line.now c.in-Some.action (sym c.in_ok-action.ensures.action ∙ c.in-Some.is) c.requires.taking.follows (omega (arith, c.len-at.ensures, c.if-at-rows.true)),
       c.requires.taking,
     )

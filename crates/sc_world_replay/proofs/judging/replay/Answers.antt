@@ -21,7 +21,7 @@ loop-line-init g c =
 pub returns-in-Ended-clause-replayed : goal.returns-in-Ended-clause-replayed
 returns-in-Ended-clause-replayed g c =
     let r = rules_of g.A.Actor.table g.A.Mail.Parcel.receiver in
-    let ended : IsChecked r c.loop-line.stage (tasks_of two_words c.line-item.result) c.check_line.new.stage c.args.rows.now Ended = subst (IsChecked r c.loop-line.stage (tasks_of two_words c.line-item.result) c.check_line.new.stage c.args.rows.now) c.in-Ended.is c.in_ok-check_line.ensures.is in
+    let ended : IsChecked r c.loop-line.stage (tasks_of two_words c.line-item.result) c.check_line.new.stage c.args.rows.now Ended = subst (IsChecked r c.loop-line.stage (tasks_of two_words c.line-item.result) c.check_line.new.stage c.args.rows.now) c.in-Ended.is c.in_ok-check_line.ensures.checked in
     let has = judged_ends r two_words c.args.seats.items c.args.lines.now c.loop-line.stage c.args.rows.now c.check_line.new.stage c.loop-line.line-index c.line-item.result c.loop-line-test.true c.line-item.is c.loop-line.invariant.0 ended.0 in
     leaves r two_words c.args.seats.items c.args.lines.now c.check_line.new.stage c.args.rows.now has.0 has.1 c.left_by.result c.left_by.ensures
 
@@ -29,20 +29,20 @@ pub overflow_add-result : goal.overflow_add-result
 overflow_add-result g c =
     let r = rules_of g.A.Actor.table g.A.Mail.Parcel.receiver in
     let bad = judged_breaks r two_words c.args.seats.items c.args.lines.now c.loop-line.stage c.args.rows.now c.check_line.new.stage c.loop-line.line-index c.line-item.result c.loop-line-test.true c.line-item.is c.loop-line.invariant.0
-    (subst (IsChecked r c.loop-line.stage (tasks_of two_words c.line-item.result) c.check_line.new.stage c.args.rows.now) c.in-Wrong.is c.in_ok-check_line.ensures.is) in
+    (subst (IsChecked r c.loop-line.stage (tasks_of two_words c.line-item.result) c.check_line.new.stage c.args.rows.now) c.in-Wrong.is c.in_ok-check_line.ensures.checked) in
     omega (arith, c.len.ensures, bad.within, c.requires.few_rows)
 
 pub returns-in-Wrong-clause-replayed : goal.returns-in-Wrong-clause-replayed
 returns-in-Wrong-clause-replayed g c =
     let r = rules_of g.A.Actor.table g.A.Mail.Parcel.receiver in
     let bad = judged_breaks r two_words c.args.seats.items c.args.lines.now c.loop-line.stage c.args.rows.now c.check_line.new.stage c.loop-line.line-index c.line-item.result c.loop-line-test.true c.line-item.is c.loop-line.invariant.0
-    (subst (IsChecked r c.loop-line.stage (tasks_of two_words c.line-item.result) c.check_line.new.stage c.args.rows.now) c.in-Wrong.is c.in_ok-check_line.ensures.is) in
+    (subst (IsChecked r c.loop-line.stage (tasks_of two_words c.line-item.result) c.check_line.new.stage c.args.rows.now) c.in-Wrong.is c.in_ok-check_line.ensures.checked) in
     subst (λ n. IsBadRow (with_births r two_words c.args.seats.items) c.args.lines.now c.args.rows.now (n + 1)) (sym c.len.ensures) bad
 
 pub loop-line-preserved : goal.loop-line-preserved
 loop-line-preserved g c =
     let r = rules_of g.A.Actor.table g.A.Mail.Parcel.receiver in
-    let on : IsChecked r c.loop-line.stage (tasks_of two_words c.line-item.result) c.check_line.new.stage c.args.rows.now On = subst (IsChecked r c.loop-line.stage (tasks_of two_words c.line-item.result) c.check_line.new.stage c.args.rows.now) c.in-On.is c.in_ok-check_line.ensures.is in (
+    let on : IsChecked r c.loop-line.stage (tasks_of two_words c.line-item.result) c.check_line.new.stage c.args.rows.now On = subst (IsChecked r c.loop-line.stage (tasks_of two_words c.line-item.result) c.check_line.new.stage c.args.rows.now) c.in-On.is c.in_ok-check_line.ensures.checked in (
       IsStageAt-line r two_words c.args.seats.items c.args.lines.now c.loop-line.stage c.check_line.new.stage c.loop-line.line-index c.line-item.result c.loop-line-test.true c.line-item.is c.loop-line.invariant.0 on.0,
       on.1,
       omega (arith, c.in_ok-check_line.ensures.skipped, c.loop-line.invariant.2),
