@@ -87,7 +87,7 @@ module _ (at : Sets) (by : SlotLeaders) where
 
     -- the leader is a member after an entry, or it is the last one, by which nobody comes
     abbrev pub IsEnd : ℕ → Type 0
-    IsEnd slot = (is_member (members_at at (slot + 1)) lead ≡ true) ⊎ ((after.runs ≡ false) × (suc slot ≡ after.newest) × (is_member (members_at at (slot + 1)) who ≡ true → is_member (members_at at slot) who ≡ true))
+    IsEnd slot = (is_member (members_at at (slot + 1)) lead ≡ true) ⊎ ((after.running ≡ false) × (suc slot ≡ after.newest) × (is_member (members_at at (slot + 1)) who ≡ true → is_member (members_at at slot) who ≡ true))
 
     both_no : {b : Bool} → b ≡ true → b ≡ false → ⊥
     both_no t f = cc

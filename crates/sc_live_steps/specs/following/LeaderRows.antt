@@ -104,7 +104,7 @@ pub record IsCounted (at : Sets) (now : Course) (taken : Option Mark) (slot : �
 -- What is in flight at this slot is not executed, and keeps its votes if the node leads on.
 pub record IsKept (now after : Course) (slot : ℕ) (voters : List ℕ) : Type 0 where
   pub from : after.newest ≤ slot
-  pub same : after.runs ≡ true → after.voters slot ≡ Some voters
+  pub same : after.running ≡ true → after.voters slot ≡ Some voters
 
 -- A leader counts a vote or a promise, or takes a request: it executes a number of entries, by which members may come and go,
 -- sends them to the members, sends the state to those that join, and offers at new slots.
