@@ -136,7 +136,7 @@ module _ {A M O : Type 0} {g : Ghosts A M O} {h : MailGhosts M} where
         let is : input_of [] event ≡ input_of (mails (seen net)) event = sym (input_steady event may (mails (seen net))) in
         (nothing x.1.0.made, passes event (input_of [] event) x.0 is x.1.0 x.1.1.1, runs_is x.0)
     event_leaves event Spent may x = (spent_company x.0 x.1 x.2, nothing (ap made x.2), halted_is x.0)
-    event_leaves event (Empty told) may x = absurd x.1
+    event_leaves event (Empty reported) may x = absurd x.1
     event_leaves event OutOfMemory may x = runs_is x.0
 
     module _ (n : ℕ) where
@@ -172,7 +172,7 @@ module _ {A M O : Type 0} {g : Ghosts A M O} {h : MailGhosts M} where
       turn_leaves (Full bytes) x finds =
           let same = fetch_looked x.1 x.2.0 in
           (nothing x.2.0.made, (x.1.number, kth_is x.1 same, passes (Deliver x.1.number) (Some (Got x.1.mail)) x.0 (got_is x.1 same) x.2.0 x.2.1.1))
-      turn_leaves (Empty told) x finds = (
+      turn_leaves (Empty reported) x finds = (
         company_after births net mid next ss after k t c lt met was ahead stays looked len rest gathered rows (λ spent. absurd (true≢false (sym spent ∙ x.1.4))) (λ e. keeps (get_or births k e).actor (λ _. replays_met e (inl x.0)) (inl x.1.4)),
         nothing x.1.0.made,
         λ d. (λ i. kth_pending h.receiver (actors_are i) (sym (sees_same x.1.0) i) (sym (who_is d) i) n) ∙ x.1.2,

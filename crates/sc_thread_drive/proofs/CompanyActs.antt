@@ -90,37 +90,37 @@ module _ {A M O : Type 0} {g : Ghosts A M O} {h : MailGhosts M} where
   pub happens_so : (c d : Company A M O g h) (who place : ℕ) (event : Event O) (t : Turn) → IsPlace c.shells.items who place → ActedOnEvent place event t c d → RowEnds (λ s rows. unless_crashed s rows who event) c d (row_made t)
   happens_so c d who place event (turn.Did at) is act = record {
     on = record { kept = act.kept; sound = act.sound };
-    row = λ words births company. happens_did words births c.net d.net c.shells.items d.shells.items company who place is event at (act.told births company);
+    row = λ words births company. happens_did words births c.net d.net c.shells.items d.shells.items company who place is event at (act.reported births company);
     score = act.score;
   }
-  happens_so c d who place event (turn.Empty told) is act = absurd act.answer
+  happens_so c d who place event (turn.Empty reported) is act = absurd act.answer
   happens_so c d who place event (turn.Full bytes) is act = record {
     kept = act.kept;
-    row = λ words births company. happens_full words births c.net d.net c.shells.items d.shells.items company who place is event bytes (act.told births company);
+    row = λ words births company. happens_full words births c.net d.net c.shells.items d.shells.items company who place is event bytes (act.reported births company);
     score = act.score;
   }
   happens_so c d who place event turn.Spent is act = record {
     on = record { kept = act.kept; sound = act.sound };
-    row = λ words births company. happens_spent words births c.net d.net c.shells.items d.shells.items company who place is event (act.told births company);
+    row = λ words births company. happens_spent words births c.net d.net c.shells.items d.shells.items company who place is event (act.reported births company);
     score = act.score;
   }
-  happens_so c d who place event turn.OutOfMemory is act = λ words births company. happens_lacks words births c.net d.net c.shells.items d.shells.items company who place is event (act.told births company)
+  happens_so c d who place event turn.OutOfMemory is act = λ words births company. happens_lacks words births c.net d.net c.shells.items d.shells.items company who place is event (act.reported births company)
 
   -- a Go of one that has not crashed
   pub goes_so : (c d : Company A M O g h) (who place : ℕ) (t : Turn) → IsPlace c.shells.items who place → MayTakeEvent who c → ActedOnEvent place GoEvent t c d → RowEnds (λ s rows. acts s rows who GoEvent) c d (row_made t)
   goes_so c d who place (turn.Did at) is may act = record {
     on = record { kept = act.kept; sound = act.sound };
-    row = λ words births company. event_answers_did words births c.net d.net c.shells.items d.shells.items company who place is GoEvent at (act.told births company);
+    row = λ words births company. event_answers_did words births c.net d.net c.shells.items d.shells.items company who place is GoEvent at (act.reported births company);
     score = act.score;
   }
-  goes_so c d who place (turn.Empty told) is may act = absurd act.answer
+  goes_so c d who place (turn.Empty reported) is may act = absurd act.answer
   goes_so c d who place (turn.Full bytes) is may act = record {
     kept = act.kept;
-    row = λ words births company. full_text words births c.net d.net c.shells.items d.shells.items company who place is GoEvent bytes (act.told births company);
+    row = λ words births company. full_text words births c.net d.net c.shells.items d.shells.items company who place is GoEvent bytes (act.reported births company);
     score = act.score;
   }
   goes_so c d who place turn.Spent is may act =
-      absurd (true≢false (sym (halted no_words may.0 c.net d.net c.shells.items d.shells.items may.1 who place is true (act.told may.0 may.1).2) ∙ may.2))
+      absurd (true≢false (sym (halted no_words may.0 c.net d.net c.shells.items d.shells.items may.1 who place is true (act.reported may.0 may.1).2) ∙ may.2))
   goes_so c d who place turn.OutOfMemory is may act = λ words births company. text_lacks words births c.net d.net c.shells.items d.shells.items company who place is GoEvent
 
   -- a turn of an actor at its place
@@ -130,9 +130,9 @@ module _ {A M O : Type 0} {g : Ghosts A M O} {h : MailGhosts M} where
     row = λ words births company. delivers_did words births c.net d.net c.shells.items d.shells.items company who place is k at (act.served births company);
     score = act.score;
   }
-  delivers_so c d who place k (turn.Empty told) is act = record {
+  delivers_so c d who place k (turn.Empty reported) is act = record {
     on = record { kept = act.kept; sound = act.sound };
-    row = λ words births company. delivers_empty words births c.net d.net c.shells.items d.shells.items company who place is k told (act.served births company);
+    row = λ words births company. delivers_empty words births c.net d.net c.shells.items d.shells.items company who place is k reported (act.served births company);
     score = act.score;
   }
   delivers_so c d who place k (turn.Full bytes) is act = record {

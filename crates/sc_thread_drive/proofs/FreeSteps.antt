@@ -72,7 +72,7 @@ module _ {A M O : Type 0} {g : Ghosts A M O} {h : MailGhosts M} where
             lawful = there.lawful;
             place = there.place;
             company = c2.0;
-            told = λ who. ap (is_in who) started ∙ (at.told who ∙ (sym (gone_mid who) ∙ ap (λ l. has_started l who) (sym c2.1)));
+            reported = λ who. ap (is_in who) started ∙ (at.reported who ∙ (sym (gone_mid who) ∙ ap (λ l. has_started l who) (sym c2.1)));
             within = subst (λ (p : List (Row M O) × ℕ). journal_bytes h.weighs p.0 ≤ p.1) (λ i. (sym c2.1 i, sym looked2.stays.exchange.2 i)) w.1;
           }
         where

@@ -117,7 +117,7 @@ module _ {A M O : Type 0} {g : Ghosts A M O} {h : MailGhosts M} where
     -- after an event
     pub sound_after_event : (event : Event O) (turn : Turn) → Happens (state met) (state t) event turn → SoundAfter turn after
     sound_after_event event (Did at) x = sound_all (λ spent. x.1.4 ∙ (sym x.1.3 ∙ spent))
-    sound_after_event event (Empty told) x = absurd x.1
+    sound_after_event event (Empty reported) x = absurd x.1
     sound_after_event event (Full bytes) x = tt
     sound_after_event event Spent x = sound_all (sound_same x.2 x.0)
     sound_after_event event OutOfMemory x = tt
@@ -125,7 +125,7 @@ module _ {A M O : Type 0} {g : Ghosts A M O} {h : MailGhosts M} where
     -- after a turn
     pub sound_after_turn : (n : ℕ) (turn : Turn) → Takes (state met) (state t) n turn → SoundAfter turn after
     sound_after_turn n (Did at) x = sound_all (λ spent. absurd (true≢false (sym spent ∙ x.2.3)))
-    sound_after_turn n (Empty told) x = sound_all (λ spent. absurd (true≢false (sym spent ∙ x.1.4)))
+    sound_after_turn n (Empty reported) x = sound_all (λ spent. absurd (true≢false (sym spent ∙ x.1.4)))
     sound_after_turn n (Full bytes) x = tt
     sound_after_turn n Spent x = sound_all (sound_same x.2 x.0)
     sound_after_turn n OutOfMemory x = tt
@@ -133,7 +133,7 @@ module _ {A M O : Type 0} {g : Ghosts A M O} {h : MailGhosts M} where
   -- an event is no fetch
   pub is_event_answer : (s t : State A M O g h) (event : Event O) (turn : Turn) → Happens s t event turn → IsEventAnswer turn
   is_event_answer s t event (Did at) x = tt
-  is_event_answer s t event (Empty told) x = absurd x.1
+  is_event_answer s t event (Empty reported) x = absurd x.1
   is_event_answer s t event (Full bytes) x = tt
   is_event_answer s t event Spent x = tt
   is_event_answer s t event OutOfMemory x = tt

@@ -83,7 +83,7 @@ module _ {A M O : Type 0} {g : Ghosts A M O} {h : MailGhosts M} where
         lawful = subst (IsLawful s lines) (sym t.1) at.lawful;
         place = subst (λ l. place_after s lines l ≡ onward s l (tasks ++ rest) score.skipped score.unsettled) (sym t.1) at.place;
         company = t.0;
-        told = λ who. at.told who ∙ ap (λ l. has_started l who) (sym t.1);
+        reported = λ who. at.reported who ∙ ap (λ l. has_started l who) (sym t.1);
         within = subst (λ (p : List (Row M O) × ℕ). journal_bytes h.weighs p.0 ≤ p.1) (λ i. (sym t.1 i, sym limit i)) at.within;
       }
 
@@ -100,7 +100,7 @@ module _ {A M O : Type 0} {g : Ghosts A M O} {h : MailGhosts M} where
           lawful = on2.lawful;
           place = on2.place;
           company = at.company;
-          told = λ who. ap (is_in who) started ∙ at.told who;
+          reported = λ who. ap (is_in who) started ∙ at.reported who;
           within = at.within;
         }
       where
@@ -143,7 +143,7 @@ module _ {A M O : Type 0} {g : Ghosts A M O} {h : MailGhosts M} where
             lawful = there.lawful;
             place = there.place;
             company = step.0;
-            told = λ who. ap (is_in who) started ∙ (at.told who ∙ (sym (gone_push (seen net) row who (no_go s (seen net) (DeliverLine (h.receiver t.mail) 1) row tt step.1.1)) ∙ ap (λ l. has_started l who) (sym all)));
+            reported = λ who. ap (is_in who) started ∙ (at.reported who ∙ (sym (gone_push (seen net) row who (no_go s (seen net) (DeliverLine (h.receiver t.mail) 1) row tt step.1.1)) ∙ ap (λ l. has_started l who) (sym all)));
             within = subst (λ k. journal_bytes h.weighs (seen next) ≤ k) (sym limit) step.2;
           }
 

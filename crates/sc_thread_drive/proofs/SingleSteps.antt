@@ -102,7 +102,7 @@ module _ {A M O : Type 0} {g : Ghosts A M O} {h : MailGhosts M} where
         IsCalm line → now.skipped ≡ score.skipped → now.unsettled ≡ score.unsettled → now.started.items ≡ score.started.items → Goes net ss score (Once line ∷ []) next after now []
     goes_made stepped quiet skipped cut started = λ words births lines rest at.
         let s = system g.table h.receiver words births in
-        let t = stepped words births at.company (λ n. sym (at.told n)) in
+        let t = stepped words births at.company (λ n. sym (at.reported n)) in
         let row = t.1.0 in
         let stands : Stands s lines (seen net) (Once line ∷ rest) score.skipped score.unsettled = record { lawful = at.lawful; place = at.place } in
         let on : Stands s lines (seen net ++ row ∷ []) rest score.skipped score.unsettled = Stands-row s lines (seen net) (Once line) rest score.skipped score.unsettled row stands (ap is_none t.1.1) t.1.1 in
@@ -110,7 +110,7 @@ module _ {A M O : Type 0} {g : Ghosts A M O} {h : MailGhosts M} where
           lawful = there.lawful;
           place = there.place;
           company = t.0;
-          told = λ who. ap (is_in who) started ∙ (at.told who ∙ (sym (gone_push (seen net) row who (no_go s (seen net) line row quiet t.1.1)) ∙ ap (λ l. has_started l who) (sym t.1.2)));
+          reported = λ who. ap (is_in who) started ∙ (at.reported who ∙ (sym (gone_push (seen net) row who (no_go s (seen net) line row quiet t.1.1)) ∙ ap (λ l. has_started l who) (sym t.1.2)));
           within = subst (λ n. journal_bytes h.weighs (seen next) ≤ n) (sym limit) t.2;
         }
 
@@ -119,7 +119,7 @@ module _ {A M O : Type 0} {g : Ghosts A M O} {h : MailGhosts M} where
         now.skipped ≡ score.skipped → now.unsettled ≡ score.unsettled → ((n : ℕ) → is_in n now.started.items ≡ (is_in n score.started.items || eqb n who)) → Goes net ss score (Once line ∷ []) next after now []
     goes_go who is stepped skipped cut started = λ words births lines rest at.
         let s = system g.table h.receiver words births in
-        let t = stepped words births at.company (λ n. sym (at.told n)) in
+        let t = stepped words births at.company (λ n. sym (at.reported n)) in
         let row = t.1.0 in
         let stands : Stands s lines (seen net) (Once line ∷ rest) score.skipped score.unsettled = record { lawful = at.lawful; place = at.place } in
         let on : Stands s lines (seen net ++ row ∷ []) rest score.skipped score.unsettled = Stands-row s lines (seen net) (Once line) rest score.skipped score.unsettled row stands (ap is_none t.1.1) t.1.1 in
@@ -128,7 +128,7 @@ module _ {A M O : Type 0} {g : Ghosts A M O} {h : MailGhosts M} where
           lawful = there.lawful;
           place = there.place;
           company = t.0;
-          told = λ n. started n ∙ ((λ i. at.told n i || eqb n who) ∙ (sym (go_push (seen net) row n who what.0 what.1) ∙ ap (λ l. has_started l n) (sym t.1.2)));
+          reported = λ n. started n ∙ ((λ i. at.reported n i || eqb n who) ∙ (sym (go_push (seen net) row n who what.0 what.1) ∙ ap (λ l. has_started l n) (sym t.1.2)));
           within = subst (λ n. journal_bytes h.weighs (seen next) ≤ n) (sym limit) t.2;
         }
 
@@ -137,14 +137,14 @@ module _ {A M O : Type 0} {g : Ghosts A M O} {h : MailGhosts M} where
         now.skipped ≡ score.skipped + 1 → now.unsettled ≡ score.unsettled → now.started.items ≡ score.started.items → Goes net ss score (Once line ∷ []) next after now []
     goes_skipped stepped skipped cut started = λ words births lines rest at.
         let s = system g.table h.receiver words births in
-        let t = stepped words births at.company (λ n. sym (at.told n)) in
+        let t = stepped words births at.company (λ n. sym (at.reported n)) in
         let stands : Stands s lines (seen net) (Once line ∷ rest) score.skipped score.unsettled = record { lawful = at.lawful; place = at.place } in
         let on : Stands s lines (seen net) rest (score.skipped + 1) (score.unsettled || false) = Stands-over s lines (seen net) (Once line) rest score.skipped score.unsettled stands (ap is_none t.1) in
         let there : Stands s lines (seen next) rest now.skipped now.unsettled = subst (λ (p : List (Row M O) × ℕ × Bool). Stands s lines p.0 rest p.1 p.2) (λ i. (sym t.2 i, sym skipped i, (or-false score.unsettled ∙ sym cut) i)) on in record {
           lawful = there.lawful;
           place = there.place;
           company = t.0;
-          told = λ who. ap (is_in who) started ∙ (at.told who ∙ ap (λ l. has_started l who) (sym t.2));
+          reported = λ who. ap (is_in who) started ∙ (at.reported who ∙ ap (λ l. has_started l who) (sym t.2));
           within = subst (λ (p : List (Row M O) × ℕ). journal_bytes h.weighs p.0 ≤ p.1) (λ i. (sym t.2 i, sym limit i)) at.within;
         }
 
@@ -152,7 +152,7 @@ module _ {A M O : Type 0} {g : Ghosts A M O} {h : MailGhosts M} where
     pub fills_full : (bytes : ℕ) → StepsSo line net ss score next after (Err (JournalFull bytes)) → Fills net ss score (Once line ∷ []) next
     fills_full bytes stepped = λ words births lines rest at.
         let s = system g.table h.receiver words births in
-        let t = stepped words births at.company (λ n. sym (at.told n)) in
+        let t = stepped words births at.company (λ n. sym (at.reported n)) in
         let row = t.0.0 in
         let stands : Stands s lines (seen net) (Once line ∷ rest) score.skipped score.unsettled = record { lawful = at.lawful; place = at.place } in
         let here : IsFull s h.weighs lines net.limit (seen net) = record {
@@ -171,9 +171,9 @@ go_pushed n who ws vs is = ap (is_in n) is ∙ (list_any-append (λ w. eqb n w) 
 -- a Go of one who was not told to go
 pub go_steps : {A M O : Type 0} {g : Ghosts A M O} {h : MailGhosts M} (who : ℕ) (net next : Port M O h) (ss after : List (Shell A M O g h)) (score : Score) (step : Result Bool PostError) → is_in who score.started.items ≡ false →
     ((words : ℕ → ℕ → ℕ × ℕ) (births : List (Seat A)) → IsCompany births net ss → Stepped (system g.table h.receiver words births) (acts (system g.table h.receiver words births) (seen net) who Go) net next after step) → StepsSo (GoLine who) net ss score next after step
-go_steps {g = g} {h = h} who net next ss after score step no_event_answer f = λ words births company told.
+go_steps {g = g} {h = h} who net next ss after score step no_event_answer f = λ words births company reported.
     let s = system g.table h.receiver words births in
-    subst (λ o. Stepped s o net next after step) (sym (ap (λ b. cond b None (acts s (seen net) who Go)) (told who ∙ no_event_answer))) (f words births company)
+    subst (λ o. Stepped s o net next after step) (sym (ap (λ b. cond b None (acts s (seen net) who Go)) (reported who ∙ no_event_answer))) (f words births company)
 
 -- a line of one row that is no `go` line, since it is none of the others
 pub calm_else : {O : Type 0} (line : Line O) → ((who : ℕ) → line ≡ GoLine who → ⊥) → ((most : ℕ) → line ≡ Settle most → ⊥) → ((most workers : ℕ) → line ≡ Free most workers → ⊥) → ((number most : ℕ) → line ≡ Storm number most → ⊥) → IsCalm line

@@ -77,7 +77,7 @@ module _ {A M O : Type 0} {g : Ghosts A M O} {h : MailGhosts M} where
           lawful = there.lawful;
           place = there.place;
           company = t.0;
-          told = λ who. at.told who ∙ (sym (gone_push (seen net) row who (calm_row s line row calm t.1.1)) ∙ ap (λ l. has_started l who) (sym t.1.2));
+          reported = λ who. at.reported who ∙ (sym (gone_push (seen net) row who (calm_row s line row calm t.1.1)) ∙ ap (λ l. has_started l who) (sym t.1.2));
           within = subst (λ n. journal_bytes h.weighs (seen next) ≤ n) (sym limit) t.2;
         }
 
@@ -94,7 +94,7 @@ module _ {A M O : Type 0} {g : Ghosts A M O} {h : MailGhosts M} where
           lawful = there.lawful;
           place = there.place;
           company = t.0;
-          told = λ who. at.told who ∙ ap (λ l. has_started l who) (sym t.2);
+          reported = λ who. at.reported who ∙ ap (λ l. has_started l who) (sym t.2);
           within = subst (λ (p : List (Row M O) × ℕ). journal_bytes h.weighs p.0 ≤ p.1) (λ i. (sym t.2 i, sym limit i)) at.within;
         }
 

@@ -51,7 +51,7 @@ module _ {A M O : Type 0} {g : Ghosts A M O} {h : MailGhosts M} where
           lawful = there.lawful;
           place = there.place;
           company = company;
-          told = λ who. ap (is_in who) started ∙ ap (λ l. has_started l who) (sym none);
+          reported = λ who. ap (is_in who) started ∙ ap (λ l. has_started l who) (sym none);
           within = omega (arith, bytes);
         }
 
@@ -81,11 +81,11 @@ module _ {A M O : Type 0} {g : Ghosts A M O} {h : MailGhosts M} where
           whole = subst (IsWhole s lines) rows whole.0;
           within = subst (λ (p : List (Row M O) × ℕ). journal_bytes h.weighs p.0 ≤ p.1) (λ i. (rows i, sym limit i)) at.within;
           cut_is = sym whole.2 ∙ ap (unsettled s lines) rows;
-          quiet_is = quiet_told found (finds.lowest words births rest.0);
+          quiet_is = quiet_reported found (finds.lowest words births rest.0);
           skips_are = sym whole.1 ∙ ap (skipped s lines) rows;
           left = seats_left births next after rest.0;
         }
       where
-        quiet_told : (o : Option ℕ) → Lowest (system g.table h.receiver words births) next after o → is_none o ≡ is_quiet (system g.table h.receiver words births) (seen next)
-        quiet_told None l = sym l
-        quiet_told (Some place) l = sym (ap is_none l.first)
+        quiet_reported : (o : Option ℕ) → Lowest (system g.table h.receiver words births) next after o → is_none o ≡ is_quiet (system g.table h.receiver words births) (seen next)
+        quiet_reported None l = sym l
+        quiet_reported (Some place) l = sym (ap is_none l.first)

@@ -55,7 +55,7 @@ module _ {A M O : Type 0} {g : Ghosts A M O} {h : MailGhosts M} where
   AfterEvent births place event net next ss after (Did at) = IsCompany births next after × RowAdded g.table births place event net next × (journal_bytes h.weighs (seen next) ≤ net.limit) × HasHalted ss place false
   AfterEvent births place event net next ss after (Full bytes) = (seen next ≡ seen net) × RowPasses g.table births place event net × HasHalted ss place false
   AfterEvent births place event net next ss after Spent = IsCompany births next after × (seen next ≡ seen net) × HasHalted ss place true
-  AfterEvent births place event net next ss after (Empty told) = ⊥
+  AfterEvent births place event net next ss after (Empty reported) = ⊥
   AfterEvent births place event net next ss after OutOfMemory = HasHalted ss place false
 
   -- The k-th pending mail of the actor at this place has this number.
@@ -66,7 +66,7 @@ module _ {A M O : Type 0} {g : Ghosts A M O} {h : MailGhosts M} where
   abbrev pub AfterTurn : List (Seat A) → ℕ → ℕ → Port M O h → Port M O h → List (Shell A M O g h) → List (Shell A M O g h) → Turn → Type 0
   AfterTurn births place k net next ss after (Did at) = IsCompany births next after × ((number : ℕ) × KthIs ss place k net number × RowAdded g.table births place (Deliver number) net next) × (journal_bytes h.weighs (seen next) ≤ net.limit)
   AfterTurn births place k net next ss after (Full bytes) = (seen next ≡ seen net) × ((number : ℕ) × KthIs ss place k net number × RowPasses g.table births place (Deliver number) net)
-  AfterTurn births place k net next ss after (Empty told) = IsCompany births next after × (seen next ≡ seen net) × ((d : Shell A M O g h) → kth_pending h.receiver net.actors (seen net) (slice_index_or ss place d).port.who k ≡ None)
+  AfterTurn births place k net next ss after (Empty reported) = IsCompany births next after × (seen next ≡ seen net) × ((d : Shell A M O g h) → kth_pending h.receiver net.actors (seen net) (slice_index_or ss place d).port.who k ≡ None)
   AfterTurn births place k net next ss after Spent = IsCompany births next after × (seen next ≡ seen net) × HasHalted ss place true
   AfterTurn births place k net next ss after OutOfMemory = (d : Shell A M O g h) → kth_pending h.receiver net.actors (seen net) (slice_index_or ss place d).port.who k ≡ None → ⊥
 
@@ -81,7 +81,7 @@ module _ {A M O : Type 0} {g : Ghosts A M O} {h : MailGhosts M} where
   -- Each shell that is spent has posted a Crash, where the answer is no refusal.
   abbrev pub SoundAfter : Turn → List (Shell A M O g h) → Type 0
   SoundAfter (Did at) ss = AllSound ss
-  SoundAfter (Empty told) ss = AllSound ss
+  SoundAfter (Empty reported) ss = AllSound ss
   SoundAfter Spent ss = AllSound ss
   SoundAfter (Full bytes) ss = ⊤
   SoundAfter OutOfMemory ss = ⊤
@@ -89,7 +89,7 @@ module _ {A M O : Type 0} {g : Ghosts A M O} {h : MailGhosts M} where
 -- The answer is one to an event: any but `Empty`.
 abbrev pub IsEventAnswer : Turn → Type 0
 IsEventAnswer (Did at) = ⊤
-IsEventAnswer (Empty told) = ⊥
+IsEventAnswer (Empty reported) = ⊥
 IsEventAnswer (Full bytes) = ⊤
 IsEventAnswer Spent = ⊤
 IsEventAnswer OutOfMemory = ⊤

@@ -80,7 +80,7 @@ module _ {A M O : Type 0} {g : Ghosts A M O} {h : MailGhosts M} where
     pub kept : StaysWhole c d
     pub sound : SoundAfter turn d.shells.items
     pub answer : IsEventAnswer turn
-    pub told : AfterEventAll place event c.net d.net c.shells.items d.shells.items turn
+    pub reported : AfterEventAll place event c.net d.net c.shells.items d.shells.items turn
     pub score : d.score ≡ c.score
 
   -- The actor at this place took a turn, and all gathered.

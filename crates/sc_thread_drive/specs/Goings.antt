@@ -72,7 +72,7 @@ module _ {A M O : Type 0} {g : Ghosts A M O} {h : MailGhosts M} where
     pub lawful : IsLawful (system g.table h.receiver words births) lines (seen net)
     pub place : place_after (system g.table h.receiver words births) lines (seen net) ≡ onward (system g.table h.receiver words births) (seen net) tasks score.skipped score.unsettled
     pub company : IsCompany births net ss
-    pub told : (who : ℕ) → is_in who score.started.items ≡ has_started (seen net) who
+    pub reported : (who : ℕ) → is_in who score.started.items ≡ has_started (seen net) who
     pub within : journal_bytes h.weighs (seen net) ≤ net.limit
 
   -- The driver has gone on from the tasks `before` to the tasks `left`: wherever it had reached `before` and any further tasks, it has reached `left` and the same further tasks.

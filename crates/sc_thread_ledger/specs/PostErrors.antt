@@ -5,5 +5,5 @@ use Rattle.sc_thread_ledger.specs.declared.errors.PostError.TheVariants.{Journal
 
 -- `JournalFull` is the cause only where the journal has `bytes` counted bytes, which it names, and with `more` bytes it would pass the limit. `OutOfMemory` may come at any time.
 abbrev pub IsCause : PostError → ℕ → ℕ → ℕ → Type 0
-IsCause (JournalFull told) bytes more limit = (told ≡ bytes) × (limit < bytes + more)
+IsCause (JournalFull reported) bytes more limit = (reported ≡ bytes) × (limit < bytes + more)
 IsCause OutOfMemory bytes more limit = ⊤

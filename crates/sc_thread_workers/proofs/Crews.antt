@@ -58,10 +58,10 @@ one_or_none false = refl
 
 full_last : (o : Option Turn) (r : Turn) (bytes : ℕ) → o ≡ Some r → refusal_in o ≡ Full bytes → r ≡ Full bytes
 full_last o (Full other) bytes e f = ap refusal_in (sym e) ∙ f
-full_last o (Did at) bytes e f = (let told : OutOfMemory ≡ Full bytes = ap refusal_in (sym e) ∙ f in cc)
-full_last o (Empty seen) bytes e f = (let told : OutOfMemory ≡ Full bytes = ap refusal_in (sym e) ∙ f in cc)
-full_last o Spent bytes e f = (let told : OutOfMemory ≡ Full bytes = ap refusal_in (sym e) ∙ f in cc)
-full_last o OutOfMemory bytes e f = (let told : OutOfMemory ≡ Full bytes = ap refusal_in (sym e) ∙ f in cc)
+full_last o (Did at) bytes e f = (let reported : OutOfMemory ≡ Full bytes = ap refusal_in (sym e) ∙ f in cc)
+full_last o (Empty seen) bytes e f = (let reported : OutOfMemory ≡ Full bytes = ap refusal_in (sym e) ∙ f in cc)
+full_last o Spent bytes e f = (let reported : OutOfMemory ≡ Full bytes = ap refusal_in (sym e) ∙ f in cc)
+full_last o OutOfMemory bytes e f = (let reported : OutOfMemory ≡ Full bytes = ap refusal_in (sym e) ∙ f in cc)
 
 module _ {A M O : Type 0} {g : Ghosts A M O} {h : MailGhosts M} where
   pub goes_same : (s : Shell A M O g h) → GoesByDeliveries s s
@@ -77,7 +77,7 @@ module _ {A M O : Type 0} {g : Ghosts A M O} {h : MailGhosts M} where
   -- what a turn made
   takes_made : (s t : State A M O g h) (r : Turn) → Takes s t 1 r → Delivers (made s.port) (made t.port)
   takes_made s t (Did at) x = record { rows = _; all = x.2.0.made; each = (refl, tt) }
-  takes_made s t (Empty told) x = delivers_none (made s.port) (made t.port) x.1.0.made
+  takes_made s t (Empty reported) x = delivers_none (made s.port) (made t.port) x.1.0.made
   takes_made s t (Full bytes) x = delivers_none (made s.port) (made t.port) x.2.0.made
   takes_made s t Spent x = delivers_none (made s.port) (made t.port) (ap made x.2)
   takes_made s t OutOfMemory x = delivers_none (made s.port) (made t.port) x.1.made
@@ -92,7 +92,7 @@ module _ {A M O : Type 0} {g : Ghosts A M O} {h : MailGhosts M} where
   takes_did s t (Did at) free x last =
       let one : did t ≡ 1 = did_last t (Did at) last x.2.4 in
       omega (arith, ap length x.2.0.made ∙ length-append (made s.port) (_ ∷ []), one)
-  takes_did s t (Empty told) free x last = let none = did_not t (ap is_did last) in omega (arith, ap length x.1.0.made, none)
+  takes_did s t (Empty reported) free x last = let none = did_not t (ap is_did last) in omega (arith, ap length x.1.0.made, none)
   takes_did s t (Full bytes) free x last = let none = did_not t (ap is_did last) in omega (arith, ap length x.2.0.made, none)
   takes_did s t Spent free x last = absurd (true≢false (sym x.0 ∙ free))
   takes_did s t OutOfMemory free x last = let none = did_not t (ap is_did last) in omega (arith, ap length x.1.made, none)
@@ -111,15 +111,15 @@ module _ {A M O : Type 0} {g : Ghosts A M O} {h : MailGhosts M} where
     where
       by : (a b : Bool) → s.spent ≡ a → s.port.crashed ≡ b → (s.spent ≡ true) × (s.port.crashed ≡ false) × (refusal_in s.last ≡ r)
       by true false x y = (x, y, some_injective (refusal_in s.last) r (sym (λ i. cond (x i && not (y i)) (Some (refusal_in s.last)) None) ∙ e))
-      by true true x y = (let told : None ≡ Some r = sym (λ i. cond (x i && not (y i)) (Some (refusal_in s.last)) None) ∙ e in cc)
-      by false b x y = (let told : None ≡ Some r = sym (λ i. cond (x i && not (y i)) (Some (refusal_in s.last)) None) ∙ e in cc)
+      by true true x y = (let reported : None ≡ Some r = sym (λ i. cond (x i && not (y i)) (Some (refusal_in s.last)) None) ∙ e in cc)
+      by false b x y = (let reported : None ≡ Some r = sym (λ i. cond (x i && not (y i)) (Some (refusal_in s.last)) None) ∙ e in cc)
 
   -- a shell that was refused in this round answered so
   pub passed_full : (s t : Shell A M O g h) (bytes : ℕ) → Sound s → Passed s t → refusal t ≡ Some (Full bytes) → Takes (state s) (state t) 1 (Full bytes)
   passed_full s t bytes sound p e =
-      let told = refused_so t (Full bytes) e in
-      ⊎_elim (λ same. stuck same told.0 told.1)
-      (λ (took : Took s t). ⊎_elim (λ x. stuck x.1 told.0 told.1) (λ x. subst (Takes (state s) (state t) 1) (full_last t.last x.1.0 bytes x.1.2 told.2) x.1.1) took.acts) p
+      let reported = refused_so t (Full bytes) e in
+      ⊎_elim (λ same. stuck same reported.0 reported.1)
+      (λ (took : Took s t). ⊎_elim (λ x. stuck x.1 reported.0 reported.1) (λ x. subst (Takes (state s) (state t) 1) (full_last t.last x.1.0 bytes x.1.2 reported.2) x.1.1) took.acts) p
     where
       stuck : t ≡ s → t.spent ≡ true → t.port.crashed ≡ false → Takes (state s) (state t) 1 (Full bytes)
       stuck same spent runs = absurd (true≢false (sym (sound (ap (λ (x : Shell A M O g h). x.spent) (sym same) ∙ spent)) ∙ (ap (λ (x : Shell A M O g h). x.port.crashed) (sym same) ∙ runs)))
@@ -130,26 +130,26 @@ module _ {A M O : Type 0} {g : Ghosts A M O} {h : MailGhosts M} where
   -- a shell that was refused in this round made no row in it
   pub refused_idle : (s t : Shell A M O g h) (r : Turn) → Sound s → Took s t → refusal t ≡ Some r → did t ≡ 0
   refused_idle s t r sound took e =
-      let told = refused_so t r e in
-      ⊎_elim (λ x. absurd (true≢false (sym (sound x.0) ∙ (ap (λ (y : Shell A M O g h). y.port.crashed) (sym x.1) ∙ told.1))))
-      (λ x. by x.1.0 x.0 x.1.1 x.1.2 told.0) took.acts
+      let reported = refused_so t r e in
+      ⊎_elim (λ x. absurd (true≢false (sym (sound x.0) ∙ (ap (λ (y : Shell A M O g h). y.port.crashed) (sym x.1) ∙ reported.1))))
+      (λ x. by x.1.0 x.0 x.1.1 x.1.2 reported.0) took.acts
     where
       by : (a : Turn) → s.spent ≡ false → Takes (state s) (state t) 1 a → t.last ≡ Some a → t.spent ≡ true → did t ≡ 0
       by (Did at) free x last spent = absurd (true≢false (sym spent ∙ x.2.3))
-      by (Empty told) free x last spent = did_not t (ap is_did last)
+      by (Empty reported) free x last spent = did_not t (ap is_did last)
       by (Full bytes) free x last spent = did_not t (ap is_did last)
       by Spent free x last spent = did_not t (ap is_did last)
       by OutOfMemory free x last spent = did_not t (ap is_did last)
 
   -- a shell that was refused is not sound
   pub refused_unsound : (t : Shell A M O g h) (r : Turn) → refusal t ≡ Some r → ¬ Sound t
-  refused_unsound t r e = λ sound. let told = refused_so t r e in true≢false (sym (sound told.0) ∙ told.1)
+  refused_unsound t r e = λ sound. let reported = refused_so t r e in true≢false (sym (sound reported.0) ∙ reported.1)
 
   -- so fewer rows were made than there are shells
   pub took_short : (ss ts : List (Shell A M O g h)) (r : Turn) → length ts ≡ length ss → AllSound ss → AllTook ss ts → HasRefusal ts r → sum_by did ts < length ts
   took_short ss ts r l sound took refused =
       sum_short did ts (λ k d lt. did_most (get_or ts k d)) refused.place refused.inside
-      (λ d. refused_idle (get_or ss refused.place d) (get_or ts refused.place d) r (sound refused.place d (omega (arith, refused.inside, l))) (took refused.place d (omega (arith, refused.inside, l))) (refused.told d))
+      (λ d. refused_idle (get_or ss refused.place d) (get_or ts refused.place d) r (sound refused.place d (omega (arith, refused.inside, l))) (took refused.place d (omega (arith, refused.inside, l))) (refused.reported d))
 
   -- a shell is as it was
   pub still_same : (s : Shell A M O g h) → Still s s

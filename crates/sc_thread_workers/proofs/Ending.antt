@@ -28,7 +28,7 @@ any_map f (x ∷ xs) = ap (λ b. f x || b) (any_map f xs)
 module _ {M O : Type 0} {h : MailGhosts M} where
   -- the flags of these actors tell whether mail is pending for one of them
   pub any_found : (net : Port M O h) (whos : List ℕ) (waits : List Bool) (any : Bool) → waits ≡ map (λ who. is_some (kth_pending h.receiver net.actors (seen net) who 1)) whos → any ≡ list_any (λ (b : Bool). b) waits → any_waits net whos ≡ any
-  any_found net whos waits any is told = sym (any_map (λ who. is_some (kth_pending h.receiver net.actors (seen net) who 1)) whos) ∙ (ap (list_any (λ (b : Bool). b)) (sym is) ∙ sym told)
+  any_found net whos waits any is reported = sym (any_map (λ who. is_some (kth_pending h.receiver net.actors (seen net) who 1)) whos) ∙ (ap (list_any (λ (b : Bool). b)) (sym is) ∙ sym reported)
 
   -- mail waits as before, where the same rows were seen
   pub waits_same : (net next : Port M O h) (whos : List ℕ) → next.actors ≡ net.actors → seen next ≡ seen net → any_waits next whos ≡ any_waits net whos
@@ -62,25 +62,25 @@ module _ {A M O : Type 0} {g : Ghosts A M O} {h : MailGhosts M} where
   -- a round that ends by a refusal
   pub step_end : (r : Rounds) (refused : Turn) (net : Port M O h) (start ss : List (Shell A M O g h)) (whos : List ℕ) (limit used : ℕ) → RefusedEnd r refused net ss
       → ((bytes : ℕ) → refused ≡ RefusedFull bytes → IsGathered net ss → HasRefusedShell start net ss bytes × (used < limit)) → StepEnd r net start ss whos limit used
-  step_end (Quiet told) refused net start ss whos limit used p f = absurd p
-  step_end (Limit told) refused net start ss whos limit used p f = absurd p
+  step_end (Quiet reported) refused net start ss whos limit used p f = absurd p
+  step_end (Limit reported) refused net start ss whos limit used p f = absurd p
   step_end (Full bytes) refused net start ss whos limit used p f = (let e = f bytes p.0 p.1 in (p.1.over, e.0, e.1))
   step_end OutOfMemory refused net start ss whos limit used p f = tt
 
   -- the end of a round, told from an earlier start
   pub step_from : (o : Option Rounds) (net : Port M O h) (first mid ss : List (Shell A M O g h)) (whos : List ℕ) (limit used : ℕ) → ((bytes : ℕ) → HasRefusedShell mid net ss bytes → HasRefusedShell first net ss bytes) → IfSome o (λ r. StepEnd r net mid ss whos limit used) → IfSome o (λ r. StepEnd r net first ss whos limit used)
   step_from None net first mid ss whos limit used f p = tt
-  step_from (Some (Quiet told)) net first mid ss whos limit used f p = p
-  step_from (Some (Limit told)) net first mid ss whos limit used f p = p
+  step_from (Some (Quiet reported)) net first mid ss whos limit used f p = p
+  step_from (Some (Limit reported)) net first mid ss whos limit used f p = p
   step_from (Some (Full bytes)) net first mid ss whos limit used f p = (p.0, f bytes p.1, p.2)
   step_from (Some OutOfMemory) net first mid ss whos limit used f p = tt
 
   -- the end of all rounds, from that of the last
   pub end_so : (r : Rounds) (net : Port M O h) (first mid ss : List (Shell A M O g h)) (whos all : List ℕ) (limit used : ℕ) → StepEnd r net mid ss whos limit used → whos ≡ all → used ≤ limit → IfHeld (Some r) (rows_made ss ≡ rows_made first + used)
       → IfHeld (Some r) ((bytes : ℕ) → HasRefusedShell mid net ss bytes → HasRefusedShell first net ss bytes) → IfHeld (Some r) (AllServe net first) → IfCalm (Some r) (AllSound ss) → IsEnd r net first ss all limit
-  end_so (Quiet told) net first mid ss whos all limit used p same fits count f served sound =
+  end_so (Quiet reported) net first mid ss whos all limit used p same fits count f served sound =
       (p.0, ap (any_waits net) (sym same) ∙ p.1, subst (λ n. n ≤ limit) (sym p.2) fits, count ∙ ap (λ n. rows_made first + n) (sym p.2), served, sound)
-  end_so (Limit told) net first mid ss whos all limit used p same fits count f served sound =
+  end_so (Limit reported) net first mid ss whos all limit used p same fits count f served sound =
       (p.0, ap (any_waits net) (sym same) ∙ p.1, p.2 ∙ p.3, count ∙ ap (λ n. rows_made first + n) (sym p.2), served, sound)
   end_so (Full bytes) net first mid ss whos all limit used p same fits count f served sound = (p.0, f bytes p.1, omega (arith, count, p.2), served)
   end_so OutOfMemory net first mid ss whos all limit used p same fits count f served sound = tt

@@ -114,7 +114,7 @@ module _ {A M O : Type 0} {g : Ghosts A M O} {h : MailGhosts M} where
           let inside : j < length ss = omega (arith, refused.inside, length-map ts (λ (x : Served A M O g h). x.shell), l) in
           let t = at_served ts j d (omega (arith, inside, l)) in
           let one = a j d t.0 inside in
-          let halted : ¬ Sound (get_or ts j t.0).shell = subst (λ (y : Shell A M O g h). ¬ Sound y) t.1 (refused_unsound (get_or (shells_of ts) j d) r (refused.told d)) in
+          let halted : ¬ Sound (get_or ts j t.0).shell = subst (λ (y : Shell A M O g h). ¬ Sound y) t.1 (refused_unsound (get_or (shells_of ts) j d) r (refused.reported d)) in
           ⊎_elim (λ less. omega (arith, sum, fits, less_served grant ss ts j t.0 l a inside less.1))
           (λ all. absurd (halted (served_calm grant (get_or ss j d) (get_or ts j t.0) one (omega (arith, all.1, served_most grant (get_or ss j d) (get_or ts j t.0) one)) (sound j d inside))))
           (leb_tells (suc (get_or ts j t.0).did) grant)

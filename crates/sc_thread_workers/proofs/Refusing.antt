@@ -87,7 +87,7 @@ module _ {A M O : Type 0} {g : Ghosts A M O} {h : MailGhosts M} where
       first = (λ i. kth_pending h.receiver (actors_are i) (seen net) (who_is i) 1) ∙ first_still;
       mail_is = mail_there;
       passes = λ birth r. omega (arith, limit_is, x.2.1.1, x.2.1.0, counts_more h.weighs (seen net) (seen t.port) all_later, ap (row_bytes h.weighs) (row_is birth r));
-      told = omega (arith, x.2.1.0, counts_more h.weighs (seen net) (seen t.port) all_later);
+      reported = omega (arith, x.2.1.0, counts_more h.weighs (seen net) (seen t.port) all_later);
     }
 
   -- after a round with a refusal, and the meetings after it
@@ -100,7 +100,7 @@ module _ {A M O : Type 0} {g : Ghosts A M O} {h : MailGhosts M} where
     refused = λ d.
         (let s = get_or start r.place d in let b = get_or before r.place d in let t = get_or after r.place d in
         let w = worked r.place d (omega (arith, r.inside, m)) in
-        let f = worked_full w.0 b t bytes (sound r.place d (omega (arith, r.inside, m))) w.1 (r.told d) in
+        let f = worked_full w.0 b t bytes (sound r.place d (omega (arith, r.inside, m))) w.1 (r.reported d) in
         refused_at s f.last t (get_or last r.place d) net bytes
         (goes_trans s b f.last (go r.place d (omega (arith, r.inside, m, l))) f.goes)
         f.takes
@@ -123,6 +123,6 @@ module _ {A M O : Type 0} {g : Ghosts A M O} {h : MailGhosts M} where
       first = r.first;
       mail_is = r.mail_is;
       passes = λ birth is. r.passes birth ((go f.place d (omega (arith, f.inside, m, l))).replay birth is);
-      told = r.told;
+      reported = r.reported;
     };
   }

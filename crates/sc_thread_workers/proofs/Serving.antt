@@ -100,8 +100,8 @@ module _ {A M O : Type 0} {g : Ghosts A M O} {h : MailGhosts M} where
     was_running false e = e
 
     -- a turn without a row that was not refused was empty, though mail was pending
-    not_empty : (told : ℕ) → Takes (state before) (state t) 1 (Empty told) → ⊥
-    not_empty told x =
+    not_empty : (reported : ℕ) → Takes (state before) (state t) 1 (Empty reported) → ⊥
+    not_empty reported x =
         let l : Looked before.port t.port = x.1.0 in
         let actors_are : net.actors ≡ before.port.actors = one.1 ∙ sym still.goes.stays.exchange.1 in
         let up : StartsWith (seen t.port) (seen net) = starts_trans (seen t.port) (seen before.port) (seen net) l.later ahead.begins in
@@ -118,7 +118,7 @@ module _ {A M O : Type 0} {g : Ghosts A M O} {h : MailGhosts M} where
 
     no_turn : (r : Turn) → before.spent ≡ false → Takes (state before) (state t) 1 r → length (made t.port) ≡ length (made before.port) → Sound t → ⊥
     no_turn (Did at) free x same calm = absurd (omega (arith, same, ap length x.2.0.made ∙ length-append (made before.port) (_ ∷ [])))
-    no_turn (Empty told) free x same calm = not_empty told x
+    no_turn (Empty reported) free x same calm = not_empty reported x
     no_turn (Full bytes) free x same calm = true≢false (sym (calm x.2.2) ∙ x.2.3)
     no_turn Spent free x same calm = true≢false (sym x.0 ∙ free)
     no_turn OutOfMemory free x same calm = true≢false (sym (calm x.2) ∙ (crash_kept x.1.made ∙ was_running before.port.crashed refl))

@@ -24,7 +24,7 @@ module _ {A M O : Type 0} {g : Ghosts A M O} {h : MailGhosts M} where
 
       by : (r : Turn) → s.spent ≡ false → Takes (state s) (state t) 1 r → (at : ℕ) × ((s.spent ≡ false) × Takes (state s) (state t) 1 (Did at))
       by (Did at) free x = (at, (free, x))
-      by (Empty told) free x = absurd (idle (ap length x.1.0.made))
+      by (Empty reported) free x = absurd (idle (ap length x.1.0.made))
       by (Full bytes) free x = absurd (idle (ap length x.2.0.made))
       by Spent free x = absurd (true≢false (sym x.0 ∙ free))
       by OutOfMemory free x = absurd (idle (ap length x.1.made))
@@ -42,7 +42,7 @@ module _ {A M O : Type 0} {g : Ghosts A M O} {h : MailGhosts M} where
 
       by : (r : Turn) → Takes (state s) (state t) 1 r → StartsWith (seen t.port) (seen s.port)
       by (Did at) x = starts_trans (seen t.port) x.2.0.before (seen s.port) (_, x.2.0.seen) x.2.0.later
-      by (Empty told) x = x.1.0.later
+      by (Empty reported) x = x.1.0.later
       by (Full bytes) x = x.2.0.later
       by Spent x = same (ap seen x.2)
       by OutOfMemory x = x.1.later
@@ -103,7 +103,7 @@ module _ {A M O : Type 0} {g : Ghosts A M O} {h : MailGhosts M} where
 
       by : Took s t → (r : Turn) → s.spent ≡ false → Takes (state s) (state t) 1 r → (n : ℕ) × Worked n s t
       by took (Did at) free x = (1, record { last = t; rows = (s, (refl, record { took = took; made = ap length x.2.0.made ∙ length-append (made s.port) (_ ∷ []) })); end = inl refl })
-      by took (Empty told) free x = idle took x.1.0.made
+      by took (Empty reported) free x = idle took x.1.0.made
       by took (Full bytes) free x = idle took x.2.0.made
       by took Spent free x = absurd (true≢false (sym x.0 ∙ free))
       by took OutOfMemory free x = idle took x.1.made

@@ -46,7 +46,7 @@ module _ {A M O : Type 0} {g : Ghosts A M O} {h : MailGhosts M} where
     where
       by : (us : List (Shell A M O g h)) → us ≡ ts → did < most
       by [] e = absurd (omega (arith, refused.inside, ap length e))
-      by (d ∷ us) e = absurd (refused_unsound (get_or ts refused.place d) r (refused.told d) (calm refl refused.place d (omega (arith, refused.inside, l))))
+      by (d ∷ us) e = absurd (refused_unsound (get_or ts refused.place d) r (refused.reported d) (calm refl refused.place d (omega (arith, refused.inside, l))))
 
 -- fewer than the most were made, one shell more
 pub less_more : (was now : Bool) (before after most : ℕ) → (was ≡ true → before < most) → (was ≡ true → after ≡ before) → (was ≡ false → now ≡ true → after < most) → now ≡ true → after < most

@@ -197,7 +197,7 @@ module _ {A M O : Type 0} {g : Ghosts A M O} {h : MailGhosts M} where
   pub record HasRefusal (ss : List (Shell A M O g h)) (r : Turn) : Type 0 where
     pub place : ℕ
     pub inside : place < length ss
-    pub told : (d : Shell A M O g h) → refusal (slice_index_or ss place d) ≡ Some r
+    pub reported : (d : Shell A M O g h) → refusal (slice_index_or ss place d) ≡ Some r
 
   -- What a round or a phase does with `left` deliveries left: the shells are of the same actors in the same order, and took turns one after the other; they made `rows` rows in all, at most `left`, and fewer where one was refused; where they made none and none was refused, each took a turn.
   pub record HasPlayed (left : ℕ) (ss ts : List (Shell A M O g h)) (rows : ℕ) : Type 0 where

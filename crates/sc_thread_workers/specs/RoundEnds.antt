@@ -41,7 +41,7 @@ module _ {A M O : Type 0} {g : Ghosts A M O} {h : MailGhosts M} where
     pub mail_is : numbered (mails (seen net)) number ≡ Some mail
     pub passes : (birth : A) → IsReplay start birth →
         net.limit < journal_bytes h.weighs (seen net) + row_bytes h.weighs (row_of g.table (record { who = s.port.who; actor = birth }) (seen net) (Deliver number))
-    pub told : bytes ≤ journal_bytes h.weighs (seen net)
+    pub reported : bytes ≤ journal_bytes h.weighs (seen net)
 
   -- The cause of the answer `Full`: a shell of the list was refused a row for the limit.
   pub record HasRefusedShell (start : List (Shell A M O g h)) (net : Port M O h) (ss : List (Shell A M O g h)) (bytes : ℕ) : Type 0 where
@@ -58,8 +58,8 @@ module _ {A M O : Type 0} {g : Ghosts A M O} {h : MailGhosts M} where
 
   -- How one round ends the rounds, where `used` deliveries were made so far.
   abbrev pub StepEnd : Rounds → Port M O h → List (Shell A M O g h) → List (Shell A M O g h) → List ℕ → ℕ → ℕ → Type 0
-  StepEnd (Quiet told) net start ss whos limit used = AllOver net ss × (any_waits net whos ≡ false) × (told ≡ used)
-  StepEnd (Limit told) net start ss whos limit used = AllOver net ss × (any_waits net whos ≡ true) × (told ≡ used) × (used ≡ limit)
+  StepEnd (Quiet reported) net start ss whos limit used = AllOver net ss × (any_waits net whos ≡ false) × (reported ≡ used)
+  StepEnd (Limit reported) net start ss whos limit used = AllOver net ss × (any_waits net whos ≡ true) × (reported ≡ used) × (used ≡ limit)
   StepEnd (Full bytes) net start ss whos limit used = AllOver net ss × HasRefusedShell start net ss bytes × (used < limit)
   StepEnd OutOfMemory net start ss whos limit used = ⊤
 
@@ -73,8 +73,8 @@ module _ {A M O : Type 0} {g : Ghosts A M O} {h : MailGhosts M} where
   abbrev pub RefusedEnd : Rounds → Turn → Port M O h → List (Shell A M O g h) → Type 0
   RefusedEnd (Full bytes) refused net ss = (refused ≡ RefusedFull bytes) × IsGathered net ss
   RefusedEnd OutOfMemory refused net ss = ⊤
-  RefusedEnd (Quiet told) refused net ss = ⊥
-  RefusedEnd (Limit told) refused net ss = ⊥
+  RefusedEnd (Quiet reported) refused net ss = ⊥
+  RefusedEnd (Limit reported) refused net ss = ⊥
 
   -- A round may begin: the port has seen all that the shells have, and mail is pending for one of these actors.
   pub record CanBegin (net : Port M O h) (ss : List (Shell A M O g h)) (whos : List ℕ) : Type 0 where

@@ -85,16 +85,16 @@ module _ (actors receivers : List ℕ) where
   pub numbers_are : (all : List ℕ) → map (λ (s : Spot). s.number) (copies_for actors (spots_from receivers all)) ≡ filter (λ n. is_one_of actors (to n)) all
   numbers_are all = numbered_from all []
 
-  abbrev Told : Spot → Type 0
-  Told s = s.who ≡ to s.number
+  abbrev IsAddressee : Spot → Type 0
+  IsAddressee s = s.who ≡ to s.number
 
-  told_from : (rest : List ℕ) (done : List Spot) → All Told done → All Told (fold step done rest)
-  told_from [] done all = all
-  told_from (n ∷ rest) done all = told_from rest (done ++ spot_after receivers done n ∷ []) (All-push Told done (spot_after receivers done n) all refl)
+  addressees_from : (rest : List ℕ) (done : List Spot) → All IsAddressee done → All IsAddressee (fold step done rest)
+  addressees_from [] done all = all
+  addressees_from (n ∷ rest) done all = addressees_from rest (done ++ spot_after receivers done n ∷ []) (All-push IsAddressee done (spot_after receivers done n) all refl)
 
   -- each copy goes to the receiver of its number
-  pub told : (all : List ℕ) → All (λ (s : Spot). s.who ≡ to s.number) (spots_from receivers all)
-  told all = told_from all [] (All-nil Told)
+  pub addressees : (all : List ℕ) → All (λ (s : Spot). s.who ≡ to s.number) (spots_from receivers all)
+  addressees all = addressees_from all [] (All-nil IsAddressee)
 
 or_true : (a b : Bool) → a ≡ true → (a || b) ≡ true
 or_true true b e = refl

@@ -20,7 +20,7 @@ use Rattle.sc_thread_ports.specs.exchange.Answers.{IsLook}
 use Rattle.sc_thread_ledger.specs.Spots.{is_one_of, copies_for, picked_spot}
 use Rattle.sc_thread_pool.specs.storm.Deeds.{copy_lost, copy_delivered, clock_ticked, mail_repeated, deed_by}
 use Rattle.sc_thread_pool.specs.storm.Laws.{deed_row, AreWithin}
-use Rattle.sc_thread_pool.proofs.StormProofs.Copies.{all_at, told, within, upto_has, receivers, receiver_is, waiting_is}
+use Rattle.sc_thread_pool.proofs.StormProofs.Copies.{all_at, addressees, within, upto_has, receivers, receiver_is, waiting_is}
 
 none_at : {M : Type 0} (sent : List M) (k : ℕ) → length sent ≡ 0 → numbered sent k ≡ None
 none_at sent zero e = refl
@@ -61,7 +61,7 @@ module _ {A M O : Type 0} (s : System A M O) (n : ℕ) (rows : List (Row M O)) (
     goes_to : spot.who ≡ s.receiver way.0
     goes_to =
         let all : All (λ (x : Spot). x.who ≡ get_or (receivers s n rows inside) (x.number - 1) 0) look.pending =
-        subst (All (λ (x : Spot). x.who ≡ get_or (receivers s n rows inside) (x.number - 1) 0)) (sym is.spots) (told actors (receivers s n rows inside) (pending_of s.receiver n rows 0)) in
+        subst (All (λ (x : Spot). x.who ≡ get_or (receivers s n rows inside) (x.number - 1) 0)) (sym is.spots) (addressees actors (receivers s n rows inside) (pending_of s.receiver n rows 0)) in
         all_at (λ (x : Spot). x.who ≡ get_or (receivers s n rows inside) (x.number - 1) 0) mine (v % length mine) spot (All-filter (λ (x : Spot). is_one_of actors x.who) (λ (x : Spot). x.who ≡ get_or (receivers s n rows inside) (x.number - 1) 0) look.pending all) found
         ∙ receiver_is s n rows inside (spot.number - 1) way.0 (sent_at (mails rows) spot.number way.0 way.1.sent)
 

@@ -54,10 +54,10 @@ module _ {E : Type 0} where
   left_same v rows is =
       let a : rows ≡ v.seen ++ [] = is ∙ sym (append-nil v.seen) in
       let m : v.made ++ map (λ r. r.0) (drop (length v.seen) rows) ≡ v.made = ap (λ (l : List (E × ℕ)). v.made ++ map (λ r. r.0) (drop (length v.seen) l)) a ∙ (made_more v.seen [] v.made ∙ append-nil v.made) in
-      λ i. view v.who v.live false (is i) v.told (m i) v.given v.joined
+      λ i. view v.who v.live false (is i) v.received (m i) v.given v.joined
 
   -- with one row more the view has that row
   pub left_row : (v : View E) (rows : List (E × ℕ)) (bare : E) → rows ≡ v.seen ++ (bare, v.who) ∷ [] → left_with v rows ≡ with_turn (with_row v bare) false
   left_row v rows bare is =
       let m : v.made ++ map (λ r. r.0) (drop (length v.seen) rows) ≡ v.made ++ bare ∷ [] = ap (λ (l : List (E × ℕ)). v.made ++ map (λ r. r.0) (drop (length v.seen) l)) is ∙ made_more v.seen ((bare, v.who) ∷ []) v.made in
-      λ i. view v.who v.live false (is i) v.told (m i) v.given v.joined
+      λ i. view v.who v.live false (is i) v.received (m i) v.given v.joined

@@ -20,7 +20,7 @@ module _ {E : Type 0} where
   opens_each : (i : ℕ) (v : View E) → get_elem? (opener ∷ []) i ≡ some v → Fits [] first_status free i v
   opens_each zero v e = subst (Fits [] first_status free 0) (some-injective opener v e) record {
     seen = ([], refl);
-    told = ([], refl);
+    received = ([], refl);
     has_turn = λ t. cc;
     number = λ _. record { carries = refl; made = refl; others = λ _ n ne _. put_other (λ _. unused) 0 (carried 0) n ne; joined = λ _ k c. absurd (omega (arith, c.1)) };
   }
@@ -40,9 +40,9 @@ module _ {E : Type 0} where
       (λ ne. record { holder = t.holder; there = set_else vs me h w ne ∙ t.there; has = t.has; whole = t.whole })
 
   -- the number stays where only the turn and what was seen change
-  own_again : (log : List (E × ℕ)) (status : ℕ → Status E) (place : ℕ) (v : View E) (turn : Bool) (seen told : List (E × ℕ)) → OwnsNumber log status place v
-      → OwnsNumber log status place (view v.who v.live turn seen told v.made v.given v.joined)
-  own_again log status place v turn seen told o = record { carries = o.carries; made = o.made; others = o.others; joined = o.joined }
+  own_again : (log : List (E × ℕ)) (status : ℕ → Status E) (place : ℕ) (v : View E) (turn : Bool) (seen received : List (E × ℕ)) → OwnsNumber log status place v
+      → OwnsNumber log status place (view v.who v.live turn seen received v.made v.given v.joined)
+  own_again log status place v turn seen received o = record { carries = o.carries; made = o.made; others = o.others; joined = o.joined }
 
 module _ {T E : Type 0} (entries : T → List (E × ℕ)) where
   abbrev St : Type 0
@@ -101,8 +101,8 @@ module _ {T E : Type 0} (entries : T → List (E × ℕ)) where
     w,
     keeps,
     tt,
-    unmoved s r 1 id me.1 v w at refl (λ _. refl) record { seen = starts_refl r.log; told = starts_nil r.log; has_turn = f.has_turn; number = λ live. own_again r.log r.status id v v.turn r.log [] (f.number live) },
-    record { slots = refl; view_is = refl; later = f.seen; told = f.told; facts = λ live. true_of_log s r id v at live },
+    unmoved s r 1 id me.1 v w at refl (λ _. refl) record { seen = starts_refl r.log; received = starts_nil r.log; has_turn = f.has_turn; number = λ live. own_again r.log r.status id v v.turn r.log [] (f.number live) },
+    record { slots = refl; view_is = refl; later = f.seen; received = f.received; facts = λ live. true_of_log s r id v at live },
   )
 
   -- a load that reads keeps it, and no more is seen
@@ -111,13 +111,13 @@ module _ {T E : Type 0} (entries : T → List (E × ℕ)) where
     w,
     keeps,
     tt,
-    unmoved s r 1 id me.1 v w at refl (λ e. e) record { seen = f.seen; told = starts_nil r.log; has_turn = f.has_turn; number = λ live. own_again r.log r.status id v v.turn v.seen [] (f.number live) },
+    unmoved s r 1 id me.1 v w at refl (λ e. e) record { seen = f.seen; received = starts_nil r.log; has_turn = f.has_turn; number = λ live. own_again r.log r.status id v v.turn v.seen [] (f.number live) },
     record {
       same = refl;
       count = λ has. ap (λ ws. get_or ws 1 0) r.words ∙ ap length (sym (whole_of s r id v at has));
-      told = λ l. starts_of_one r.log v.seen v.told f.seen f.told l;
+      received = λ l. starts_of_one r.log v.seen v.received f.seen f.received l;
       facts = λ live. record { list = r.log; later = f.seen; facts = true_of_log s r id v at live };
-      over = λ live. record { list = r.log; later = f.seen; over = f.told; facts = true_of_log s r id v at live };
+      over = λ live. record { list = r.log; later = f.seen; over = f.received; facts = true_of_log s r id v at live };
     },
   )
 
@@ -137,8 +137,8 @@ module _ {T E : Type 0} (entries : T → List (E × ℕ)) where
           at_home = λ e. cc;
           taken = λ h e. let same : id ≡ h = cc in subst (HasTurn r.log (set s.views id w)) same record { holder = w; there = set_at s.views id v w at; has = refl; whole = refl };
           each = each_set (Fits r.log r.status (held id)) s.views id w
-              record { seen = starts_refl r.log; told = f.told; has_turn = λ _. refl; number = λ live. own_again r.log r.status id v true r.log v.told (f.number live) }
-              (λ j d ne e. let g = r.each j d e in record { seen = g.seen; told = g.told; has_turn = λ has. (let bad : free ≡ held j = sym is ∙ g.has_turn has in cc); number = g.number });
+              record { seen = starts_refl r.log; received = f.received; has_turn = λ _. refl; number = λ live. own_again r.log r.status id v true r.log v.received (f.number live) }
+              (λ j d ne e. let g = r.each j d e in record { seen = g.seen; received = g.received; has_turn = λ has. (let bad : free ≡ held j = sym is ∙ g.has_turn has in cc); number = g.number });
           unmade = r.unmade;
           ended = r.ended;
         },
@@ -195,13 +195,13 @@ module _ {T E : Type 0} (entries : T → List (E × ℕ)) where
           each = each_set (Fits log r.status r.turn) s.views id w
               record {
                 seen = subst (λ l. StartsWith l w.seen) now (starts_refl w.seen);
-                told = starts_more r.log v.told ((row, v.who) ∷ []) f.told;
+                received = starts_more r.log v.received ((row, v.who) ∷ []) f.received;
                 has_turn = λ _. mine;
                 number = λ _. record { carries = carries; made = rows_by_same v.who row r.log ∙ ap (λ l. l ++ row ∷ []) o.made; others = o.others; joined = o.joined };
               }
               (λ j d ne e. let g = r.each j d e in record {
                 seen = starts_more r.log d.seen ((row, v.who) ∷ []) g.seen;
-                told = starts_more r.log d.told ((row, v.who) ∷ []) g.told;
+                received = starts_more r.log d.received ((row, v.who) ∷ []) g.received;
                 has_turn = g.has_turn;
                 number = λ alive. let p = g.number alive in record {
                   carries = p.carries;
@@ -233,10 +233,10 @@ module _ {T E : Type 0} (entries : T → List (E × ℕ)) where
           at_home = λ _. (x, ap (put_back s.homes) out ∙ set_only s.homes (some (Some x)) (len ∙ one), is ∙ whole_of s r id v at has);
           taken = λ h e. cc;
           each = each_set (Fits r.log r.status free) s.views id w
-              record { seen = f.seen; told = f.told; has_turn = λ t. cc; number = λ live. own_again r.log r.status id v false v.seen v.told (f.number live) }
+              record { seen = f.seen; received = f.received; has_turn = λ t. cc; number = λ live. own_again r.log r.status id v false v.seen v.received (f.number live) }
               (λ j d ne e. let g = r.each j d e in record {
                 seen = g.seen;
-                told = g.told;
+                received = g.received;
                 has_turn = λ t. (let q : held id ≡ held j = sym mine ∙ g.has_turn t in let z : j ≡ id = cc in absurd (ne z));
                 number = g.number;
               });
@@ -273,7 +273,7 @@ module _ {T E : Type 0} (entries : T → List (E × ℕ)) where
             (λ (t : get_elem? (set s.views id w) j ≡ some d). each_set (Fits r.log status r.turn) s.views id w
             record {
               seen = f.seen;
-              told = f.told;
+              received = f.received;
               has_turn = f.has_turn;
               number = λ _. record {
                 carries = other v.who (used v.who (carried id) o.carries (λ z. cc)) ∙ o.carries;
@@ -285,7 +285,7 @@ module _ {T E : Type 0} (entries : T → List (E × ℕ)) where
             }
             (λ i x ne y. let g = r.each i x y in record {
               seen = g.seen;
-              told = g.told;
+              received = g.received;
               has_turn = g.has_turn;
               number = λ alive. let p = g.number alive in let not_first : x.who ≢ 0 = λ z. ne (carrier_is_one s r id i v x at y live alive (first ∙ sym z)) in record {
                 carries = other x.who (used x.who (carried i) p.carries (λ z. cc)) ∙ p.carries;
@@ -296,7 +296,7 @@ module _ {T E : Type 0} (entries : T → List (E × ℕ)) where
             }) j d t)
             (λ (t : (j ≡ place) × (new ≡ d)). subst (λ (x : ℕ × View E). Fits r.log status r.turn x.0 x.1) (λ i. (sym t.0 i, t.1 i)) record {
               seen = f.seen;
-              told = starts_nil r.log;
+              received = starts_nil r.log;
               has_turn = λ z. cc;
               number = λ _. record {
                 carries = put_same r.status who (carried place);
@@ -322,14 +322,14 @@ module _ {T E : Type 0} (entries : T → List (E × ℕ)) where
         record { holder = t.holder; there = at_longer (set s.views id v) (new ∷ []) h t.holder t.there; has = t.has; whole = t.whole };
     each = λ j d e. ⊎_elim
         (λ (t : get_elem? (set s.views id v) j ≡ some d). each_set (Fits r.log r.status r.turn) s.views id v f (λ i x _ y. r.each i x y) j d t)
-        (λ (t : (j ≡ length (set s.views id v)) × (new ≡ d)). subst (Fits r.log r.status r.turn j) t.1 record { seen = f.seen; told = starts_nil r.log; has_turn = λ z. cc; number = λ z. cc })
+        (λ (t : (j ≡ length (set s.views id v)) × (new ≡ d)). subst (Fits r.log r.status r.turn j) t.1 record { seen = f.seen; received = starts_nil r.log; has_turn = λ z. cc; number = λ z. cc })
         (at_end (set s.views id v) new d j e);
     unmade = r.unmade;
     ended = r.ended;
   }
 
   blank_note : (log : List (E × ℕ)) (status : ℕ → Status E) (turn : TurnHolder) (j : ℕ) → Fits log status turn j (note [])
-  blank_note log status turn j = record { seen = starts_nil log; told = starts_nil log; has_turn = λ z. cc; number = λ z. cc }
+  blank_note log status turn j = record { seen = starts_nil log; received = starts_nil log; has_turn = λ z. cc; number = λ z. cc }
 
   -- a seat receives what another has seen, and the other is spent: what the other carried is lost
   pub tells : (id : ℕ) (v : View E) (other : ℕ) (x : View E) → x.turn ≡ false → Joins Rule id v other x (informed v x) (note [])
@@ -345,7 +345,7 @@ module _ {T E : Type 0} (entries : T → List (E × ℕ)) where
         taken = λ h e. turn_stays r.log vs h other x (note []) there (sym no_turn) (λ has. (let z : false ≡ true = sym no_turn ∙ has in cc)) (turn_stays r.log s.views h id v w at refl (λ _ y. y) (r.taken h e));
         each = each_set (Fits r.log r.status r.turn) vs other (note []) (blank_note r.log r.status r.turn other)
             (λ j d _. each_set (Fits r.log r.status r.turn) s.views id w
-            record { seen = f.seen; told = g.seen; has_turn = f.has_turn; number = λ live. own_again r.log r.status id v v.turn v.seen x.seen (f.number live) }
+            record { seen = f.seen; received = g.seen; has_turn = f.has_turn; number = λ live. own_again r.log r.status id v v.turn v.seen x.seen (f.number live) }
             (λ i y _ z. r.each i y z) j d);
         unmade = r.unmade;
         ended = r.ended;
@@ -372,7 +372,7 @@ module _ {T E : Type 0} (entries : T → List (E × ℕ)) where
             (λ j d out e. each_set (λ i y. i ≢ other → Fits r.log status r.turn i y) s.views id w
             (λ _. record {
               seen = seen.0;
-              told = seen.1;
+              received = seen.1;
               has_turn = f.has_turn;
               number = λ _. record {
                 carries = same v.who (carried id) o.carries (λ z. (let q : other ≡ id = cc in apart q));
@@ -386,7 +386,7 @@ module _ {T E : Type 0} (entries : T → List (E × ℕ)) where
             })
             (λ i y ne z far. let h = r.each i y z in record {
               seen = h.seen;
-              told = h.told;
+              received = h.received;
               has_turn = h.has_turn;
               number = λ lives. let q = h.number lives in let not_first : y.who ≢ 0 = λ e. ne (carrier_is_one s r id i v y at z live lives (first ∙ sym e)) in record {
                 carries = same y.who (carried i) q.carries (λ e. (let n : i ≡ other = cc in far n));

@@ -16,7 +16,7 @@ module _ {E : Type 0} where
   counted_one : (v : View E) (row : E) (rows : List (E × ℕ)) → rows ≡ v.seen ++ (row, v.who) ∷ [] → with_row v row ≡ with_counted v rows
   counted_one v row rows is =
       let m : v.made ++ map (λ r. r.0) (drop (length v.seen) rows) ≡ v.made ++ row ∷ [] = ap (λ (l : List (E × ℕ)). v.made ++ map (λ r. r.0) (drop (length v.seen) l)) is ∙ made_more v.seen ((row, v.who) ∷ []) v.made in
-      λ i. view v.who v.live v.turn (sym is i) v.told (sym m i) v.given v.joined
+      λ i. view v.who v.live v.turn (sym is i) v.received (sym m i) v.given v.joined
 
   -- the turn may be left with one row more of the seat's number
   pub one_row_more : (v : View E) (got rows : List (E × ℕ)) (row : E) (who : ℕ) → v.seen ≡ got → v.who ≡ who → rows ≡ got ++ (row, who) ∷ [] → CanLeave v rows
@@ -31,9 +31,9 @@ module _ {T E : Type 0} (entries : T → List (E × ℕ)) where
   one_more m r rows x read may count other = ⊎_elim (λ (is : entries x ≡ m.0.seen). absurd (other (omega (arith, ap length is)))) (λ t. t) may
 
   -- then it may be counted
-  pub counts_one : (slots id : ℕ) (m m' : M) (r rows : ℕ) (x : T) → ReadsCount entries m r m' → m.0.turn ≡ true → m.0.live ≡ true → m.0.told ≡ [] → m.1 ≡ (0, Some x) ∷ [] → CanLeave m.0 (entries x) → rows ≡ length (entries x) → r ≢ rows → rows + 1 < 2 ^ 64
+  pub counts_one : (slots id : ℕ) (m m' : M) (r rows : ℕ) (x : T) → ReadsCount entries m r m' → m.0.turn ≡ true → m.0.live ≡ true → m.0.received ≡ [] → m.1 ≡ (0, Some x) ∷ [] → CanLeave m.0 (entries x) → rows ≡ length (entries x) → r ≢ rows → rows + 1 < 2 ^ 64
       → Allows (Kept entries) slots id m' 1 (λ n. (n + 1) % 2 ^ 64) (append_returns entries (step slots 1 1 0 none) m')
-  counts_one slots id m m' r rows x read has live told out may count other small =
+  counts_one slots id m m' r rows x read has live received out may count other small =
       let t = one_more m r rows x (read.count has) may count other in
       let back = sym read.same in
       let more : length (entries x) ≡ length m.0.seen + 1 = ap length t.1 ∙ length-append m.0.seen ((t.0, m.0.who) ∷ []) in
@@ -41,10 +41,10 @@ module _ {T E : Type 0} (entries : T → List (E × ℕ)) where
       (appends entries slots id (with_seen m.0 m.0.seen, m.1) x t.0 out has live t.1 (omega arith))
 
   -- and once it counts, the view is that with the row
-  pub counts : (m m' m'' : M) (r : ℕ) (x : T) → ReadsCount entries m r m' → m.0.told ≡ [] → m.1 ≡ (0, Some x) ∷ [] → Appends entries m' m'' → m'' ≡ (with_counted m.0 (entries x), m.1)
-  counts m m' m'' r x read told out a =
+  pub counts : (m m' m'' : M) (r : ℕ) (x : T) → ReadsCount entries m r m' → m.0.received ≡ [] → m.1 ≡ (0, Some x) ∷ [] → Appends entries m' m'' → m'' ≡ (with_counted m.0 (entries x), m.1)
+  counts m m' m'' r x read received out a =
       let v : View E = m.0 in
-      let base : with_seen v v.seen ≡ v = λ i. view v.who v.live v.turn v.seen (sym told i) v.made v.given v.joined in
+      let base : with_seen v v.seen ≡ v = λ i. view v.who v.live v.turn v.seen (sym received i) v.made v.given v.joined in
       let m'is : m' ≡ (v, m.1) = read.same ∙ ap (λ (z : View E). (z, m.1)) base in
       let now : m''.0 ≡ with_row v a.row = a.view_is ∙ ap (λ (z : M). with_row z.0 a.row) m'is in
       let whole : entries x ≡ v.seen ++ (a.row, v.who) ∷ [] = a.whole x (ap (λ (z : M). z.1) m'is ∙ out) ∙ ap (λ (z : View E). z.seen) now in
@@ -72,9 +72,9 @@ module _ {T E : Type 0} (entries : T → List (E × ℕ)) where
       subst (λ (z : M). IsTrueLater z.0) (sym read.same) record { list = f.list; later = f.later; facts = record { own = f.facts.own; joined = f.facts.joined; others = f.facts.others } }
 
   -- and of what another has seen
-  pub true_over : (m m' : M) (r : ℕ) (rows : List (E × ℕ)) → ReadsCount entries m r m' → m.0.live ≡ true → m.0.told ≡ rows → IsTrueOver m'.0 rows
-  true_over m m' r rows read live told = let f = read.over live in
-      subst (λ (z : M). IsTrueOver z.0 rows) (sym read.same) record { list = f.list; later = f.later; over = subst (StartsWith f.list) told f.over; facts = record { own = f.facts.own; joined = f.facts.joined; others = f.facts.others } }
+  pub true_over : (m m' : M) (r : ℕ) (rows : List (E × ℕ)) → ReadsCount entries m r m' → m.0.live ≡ true → m.0.received ≡ rows → IsTrueOver m'.0 rows
+  true_over m m' r rows read live received = let f = read.over live in
+      subst (λ (z : M). IsTrueOver z.0 rows) (sym read.same) record { list = f.list; later = f.later; over = subst (StartsWith f.list) received f.over; facts = record { own = f.facts.own; joined = f.facts.joined; others = f.facts.others } }
 
 -- no other number has a row among those that the first seat has seen
 pub others_later : {E : Type 0} → (v : View E) → v.who ≡ 0 → IsTrueLater v → (n : ℕ) → n ≢ 0 → ¬ Contains v.given n → rows_by n v.seen ≡ []

@@ -44,7 +44,7 @@ turn_word (held h) = 1
 
 -- A view made of its fields.
 abbrev pub view : {E : Type 0} → ℕ → Bool → Bool → List (E × ℕ) → List (E × ℕ) → List E → List ℕ → List (ℕ × List E) → View E
-view who live turn seen told made given joined = record { who = who; live = live; turn = turn; seen = seen; told = told; made = made; given = given; joined = joined }
+view who live turn seen received made given joined = record { who = who; live = live; turn = turn; seen = seen; received = received; made = made; given = given; joined = joined }
 
 module _ {E : Type 0} where
   -- The view of the first seat at the start: number 0, no rows.
@@ -61,7 +61,7 @@ module _ {E : Type 0} where
 
   -- The view with `turn` as whether its seat has the turn.
   abbrev pub with_turn : View E → Bool → View E
-  with_turn v turn = view v.who v.live turn v.seen v.told v.made v.given v.joined
+  with_turn v turn = view v.who v.live turn v.seen v.received v.made v.given v.joined
 
   -- The view that has seen the rows `seen`, with no received rows left to compare.
   abbrev pub with_seen : View E → List (E × ℕ) → View E
@@ -69,11 +69,11 @@ module _ {E : Type 0} where
 
   -- The view once its seat has made `row`: the row is the last that it has seen and the last that it has made.
   abbrev pub with_row : View E → E → View E
-  with_row v row = view v.who v.live v.turn (v.seen ++ (row, v.who) ∷ []) v.told (v.made ++ row ∷ []) v.given v.joined
+  with_row v row = view v.who v.live v.turn (v.seen ++ (row, v.who) ∷ []) v.received (v.made ++ row ∷ []) v.given v.joined
 
   -- The view once the number `who` is split off.
   abbrev pub with_given : View E → ℕ → View E
-  with_given v who = view v.who v.live v.turn v.seen v.told v.made (v.given ++ who ∷ []) v.joined
+  with_given v who = view v.who v.live v.turn v.seen v.received v.made (v.given ++ who ∷ []) v.joined
 
   -- The view `v` once it has received what `w` has seen.
   abbrev pub informed : View E → View E → View E
@@ -89,11 +89,11 @@ module _ {E : Type 0} where
 
   -- The view that has the turn and has seen the rows `rows`.
   abbrev pub entered_with : View E → List (E × ℕ) → View E
-  entered_with v rows = view v.who v.live true rows v.told v.made v.given v.joined
+  entered_with v rows = view v.who v.live true rows v.received v.made v.given v.joined
 
   -- The view once the rows `rows` are counted: it has seen all of them, and has made those behind the rows that it had seen before.
   abbrev pub with_counted : View E → List (E × ℕ) → View E
-  with_counted v rows = view v.who v.live v.turn rows v.told (v.made ++ map (λ r. r.0) (drop (length v.seen) rows)) v.given v.joined
+  with_counted v rows = view v.who v.live v.turn rows v.received (v.made ++ map (λ r. r.0) (drop (length v.seen) rows)) v.given v.joined
 
   -- The view once its seat has given the turn back with the rows `rows`.
   abbrev pub left_with : View E → List (E × ℕ) → View E
@@ -113,7 +113,7 @@ module _ {E : Type 0} where
   -- A view agrees with the list, the numbers and the turn: what it has seen and what it has received are prefixes of the list, it has the turn only where it is the holder, and a live view owns its number.
   pub record Fits (log : List (E × ℕ)) (status : ℕ → Status E) (turn : TurnHolder) (place : ℕ) (v : View E) : Type 0 where
     pub seen : StartsWith log v.seen
-    pub told : StartsWith log v.told
+    pub received : StartsWith log v.received
     pub has_turn : v.turn ≡ true → turn ≡ held place
     pub number : v.live ≡ true → OwnsNumber log status place v
 
@@ -177,7 +177,7 @@ module _ {T E : Type 0} (entries : T → List (E × ℕ)) where
     pub slots : m'.1 ≡ m.1
     pub view_is : m'.0 ≡ with_seen m.0 m'.0.seen
     pub later : StartsWith m'.0.seen m.0.seen
-    pub told : StartsWith m'.0.seen m.0.told
+    pub received : StartsWith m'.0.seen m.0.received
     pub facts : m.0.live ≡ true → IsTrueOf m.0 m'.0.seen
 
   -- The outcome of a load of the count at which the seat sees every row.
@@ -188,9 +188,9 @@ module _ {T E : Type 0} (entries : T → List (E × ℕ)) where
   pub record ReadsCount (m : Sat) (r : ℕ) (m' : Sat) : Type 0 where
     pub same : m' ≡ (with_seen m.0 m.0.seen, m.1)
     pub count : m.0.turn ≡ true → r ≡ length m.0.seen
-    pub told : length m.0.told ≤ length m.0.seen → StartsWith m.0.seen m.0.told
+    pub received : length m.0.received ≤ length m.0.seen → StartsWith m.0.seen m.0.received
     pub facts : m.0.live ≡ true → IsTrueLater m.0
-    pub over : m.0.live ≡ true → IsTrueOver m.0 m.0.told
+    pub over : m.0.live ≡ true → IsTrueOver m.0 m.0.received
 
   -- The outcome of a load of the count at which the seat sees no further row.
   abbrev pub read_returns : Step (Option T) → Sat → ℕ → Sat → Type 0

@@ -18,7 +18,7 @@ pub struct View<E> {
     /// The rows that the seat has seen, each with the number of its maker.
     pub seen: LinkedList<(E, u32)>,
     /// The rows that another seat has sent it and that it has not yet compared with the list.
-    pub told: LinkedList<(E, u32)>,
+    pub received: LinkedList<(E, u32)>,
     /// The rows that the seat has made.
     pub made: LinkedList<E>,
     /// The numbers that the seat has split off.

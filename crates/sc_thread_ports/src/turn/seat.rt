@@ -32,7 +32,7 @@ pub struct TurnSeat<T: Listed> {
     ghost seated: { place.table_id ≡ (arc_value desk).table.shared.table_id },
     ghost sized: { (place.table_id.words ≡ 2) × (place.table_id.slots ≡ 1) },
     ghost carries: { place.me.1 ≡ (if place.me.0.turn then (0, None) ∷ [] else []) },
-    ghost numbered: { (place.me.0.live ≡ true) × (place.me.0.told ≡ []) },
+    ghost numbered: { (place.me.0.live ≡ true) × (place.me.0.received ≡ []) },
 }
 
 impl<T: Listed> TurnSeat<T> {
@@ -136,7 +136,7 @@ impl<T: Listed> TurnSeat<T> {
         ensures view { known self.new ≡ with_seen (known self.old) (known self.new).seen }
         ensures other { known other.new ≡ known other.old }
         ensures later { StartsWith (known self.new).seen (known self.old).seen }
-        ensures told { StartsWith (known self.new).seen (known other.old).seen }
+        ensures received { StartsWith (known self.new).seen (known other.old).seen }
         ensures facts { IsTrueOf (known self.new) (known self.new).seen }
     {
         let desk = &self.desk;

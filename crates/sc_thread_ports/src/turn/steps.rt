@@ -64,7 +64,7 @@ pub(crate) fn count_row<T: Listed>(
     requires seated { (place.old.table_id ≡ shared.now.table_id) × (1 < shared.now.table_id.words) }
     requires turn { (place.old.me.0.turn ≡ true)
         × (place.old.me.0.live ≡ true)
-        × (place.old.me.0.told ≡ []) }
+        × (place.old.me.0.received ≡ []) }
     requires value { (x : T)
         × (place.old.me.1 ≡ (0, Some x) ∷ [])
         × CanLeave place.old.me.0 (T.entries x)

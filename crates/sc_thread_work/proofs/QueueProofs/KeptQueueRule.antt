@@ -210,7 +210,7 @@ module _ {T : Type 0} where
 -- one more was taken
 module _ {T : Type 0} where
   pub with_all_more : (u v w : Hand T) (taken : List (Item T)) (x : Item T) → v ≡ with_all u taken → w ≡ with_taken v x → w ≡ with_all u (taken ++ x ∷ [])
-  with_all_more u v w taken x is told = told ∙ (ap (λ (y : Hand T). with_taken y x) is ∙ ap (λ l. hand u.parts u.puts u.put l u.passes) (append_assoc u.taken taken (x ∷ [])))
+  with_all_more u v w taken x is reported = reported ∙ (ap (λ (y : Hand T). with_taken y x) is ∙ ap (λ l. hand u.parts u.puts u.put l u.passes) (append_assoc u.taken taken (x ∷ [])))
 
 module _ {F T X : Type 0} (g : Shared F (T × Unit {0}) X) (f : F) where
   pub worked_append : (xs us : List (Item T)) (ys vs : List (Item X)) → AllWorked g f xs ys → AllWorked g f us vs → AllWorked g f (xs ++ us) (ys ++ vs)
@@ -238,17 +238,17 @@ module _ {F T X : Type 0} (g : Shared F (T × Unit {0}) X) (f : F) where
   did_none v kept none = record { taken = []; view_is = ap (λ l. hand v.parts v.puts v.put l v.passes) (sym (append-nil v.taken)); worked = subst (AllWorked g f []) (sym none) tt }
 
   pub did_more : (u v w : Hand T) (kept more : List (Item X)) (x : Item T) (y : X) → Did g f u v kept → w ≡ with_taken v x → FnReturns g f (x.work, tt) y → more ≡ kept ++ record { place = x.place; work = y } ∷ [] → Did g f u w more
-  did_more u v w kept more x y d told given is = record {
+  did_more u v w kept more x y d reported given is = record {
     taken = d.taken ++ x ∷ [];
-    view_is = with_all_more u v w d.taken x d.view_is told;
+    view_is = with_all_more u v w d.taken x d.view_is reported;
     worked = subst (AllWorked g f (d.taken ++ x ∷ [])) (sym is) (worked_append g f d.taken (x ∷ []) kept (record { place = x.place; work = y } ∷ []) d.worked (refl, given, tt));
   }
 
   -- one that did this was taken in
   pub gathers_more : (parts passes : ℕ) (put : List (Item T)) (v w both : Hand T) (kept theirs all : List (Item X)) → Gathers g f parts passes put v kept → Did g f taker w theirs → both ≡ joined v w → all ≡ kept ++ theirs → Gathers g f (parts + 1) (passes + 1) put both all
-  gathers_more parts passes put v w both kept theirs all a d told is = record {
+  gathers_more parts passes put v w both kept theirs all a d reported is = record {
     taken = a.taken ++ d.taken;
-    view_is = told ∙ (λ i. joined (a.view_is i) (d.view_is i));
+    view_is = reported ∙ (λ i. joined (a.view_is i) (d.view_is i));
     worked = subst (AllWorked g f (a.taken ++ d.taken)) (sym is) (worked_append g f a.taken d.taken kept theirs a.worked d.worked);
   }
 

@@ -140,9 +140,9 @@ module _ {F T X : Type 0} (g : Shared F (T × Unit {0}) X) (f : F) where
 
   -- at the start nothing was gathered
   pub gathers_none : (parts : ℕ) (all : List T) (v w : Hand T) (kept : List (Item X)) → v ≡ hand all_parts true (numbered 0 all) [] 0 → w ≡ hand parts v.puts v.put v.taken v.passes → kept ≡ [] → Gathers g f parts 0 (numbered 0 all) w kept
-  gathers_none parts all v w kept is told none = record {
+  gathers_none parts all v w kept is reported none = record {
     taken = [];
-    view_is = told ∙ ap (λ (u : Hand T). hand parts u.puts u.put u.taken u.passes) is;
+    view_is = reported ∙ ap (λ (u : Hand T). hand parts u.puts u.put u.taken u.passes) is;
     worked = subst (AllWorked g f []) (sym none) tt;
   }
 

@@ -70,7 +70,7 @@ module _ {A M O : Type 0} {g : Ghosts A M O} {h : MailGhosts M} where
         record { rows = seen m.port; later = l.later; before = starts_trans (seen t.port) x.0.before (seen m.port) (row ∷ [], x.0.seen) x.0.later; own = own_was s m l true_own; number = number; mail = mail; kth = kth; mail_is = is },
         (subst (Appended s.port t.port) same (appended_trans s.port m.port t.port row l x.0), x.1, x.2 ∙ ap (λ a. (acted g.table a (Some (Got mail))).0) actor, x.3, x.4, x.5, subst (λ n. journal_bytes h.weighs (seen t.port) ≤ n) l.stays.exchange.2 x.6),
       )
-  takes_acts s m t k number mail free actor l true_own kth is (Empty told) x = absurd x
+  takes_acts s m t k number mail free actor l true_own kth is (Empty reported) x = absurd x
   takes_acts s m t k number mail free actor l true_own kth is (Full bytes) x =
       let same = row_same s m (Deliver number) (Some (Got mail)) actor l.stays.who in (
         free,
@@ -90,6 +90,6 @@ module _ {A M O : Type 0} {g : Ghosts A M O} {h : MailGhosts M} where
   pub acts_later : (s t : State A M O g h) (event : Event O) (input : Option (Input M O)) (r : Turn) → r ≡ OutOfMemory → Acts s t event input r → Begins (seen t.port) (seen s.port)
   acts_later s t event input OutOfMemory e x = x.0.later
   acts_later s t event input (Did at) e x = (let bad : ⊥ = cc in absurd bad)
-  acts_later s t event input (Empty told) e x = absurd x
+  acts_later s t event input (Empty reported) e x = absurd x
   acts_later s t event input (Full bytes) e x = (let bad : ⊥ = cc in absurd bad)
   acts_later s t event input Spent e x = absurd x

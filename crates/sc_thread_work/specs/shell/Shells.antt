@@ -112,22 +112,22 @@ module _ {A M O : Type 0} {g : Ghosts A M O} {h : MailGhosts M} where
   Acts s t event input (Full bytes) =
       Looked s.port t.port × IsCause (JournalFull bytes) (journal_bytes h.weighs (seen t.port)) (row_bytes h.weighs (row_at s event input)) s.port.limit × (t.spent ≡ true) × (t.port.crashed ≡ false) × IsAddressed t.port
   Acts s t event input OutOfMemory = Looked s.port t.port × (t.spent ≡ true) × (t.port.crashed ≡ false)
-  Acts s t event input (Empty told) = ⊥
+  Acts s t event input (Empty reported) = ⊥
   Acts s t event input Spent = ⊥
 
   -- Nothing changes, since the shell was spent before.
   abbrev pub IsSpent : State A M O g h → State A M O g h → Type 0
   IsSpent s t = (s.spent ≡ true) × (t.actor ≡ s.actor) × (t.port ≡ s.port) × (t.spent ≡ true)
 
-  -- Fewer than k mails were pending for the actor at this turn, when the journal had `told` rows, and the actor is as before.
+  -- Fewer than k mails were pending for the actor at this turn, when the journal had `reported` rows, and the actor is as before.
   abbrev pub IsEmpty : State A M O g h → State A M O g h → ℕ → ℕ → Type 0
-  IsEmpty s t k told =
-      Looked s.port t.port × (t.actor ≡ s.actor) × (kth_pending h.receiver s.port.actors (seen t.port) s.port.who k ≡ None) × (told ≡ length (seen t.port)) × (t.spent ≡ false) × IsAddressed t.port
+  IsEmpty s t k reported =
+      Looked s.port t.port × (t.actor ≡ s.actor) × (kth_pending h.receiver s.port.actors (seen t.port) s.port.who k ≡ None) × (reported ≡ length (seen t.port)) × (t.spent ≡ false) × IsAddressed t.port
 
   -- What a turn answers and leaves: nothing where the shell was spent; `Empty` where too few mails are pending; else the step of the actor with the k-th pending mail.
   abbrev pub Takes : State A M O g h → State A M O g h → ℕ → Turn → Type 0
   Takes s t k Spent = IsSpent s t
-  Takes s t k (Empty told) = (s.spent ≡ false) × IsEmpty s t k told
+  Takes s t k (Empty reported) = (s.spent ≡ false) × IsEmpty s t k reported
   Takes s t k (Did at) = (s.spent ≡ false) × (f : Fetches s.port t.port k) × Acts s t (Deliver f.number) (Some (Got f.mail)) (Did at)
   Takes s t k (Full bytes) = (s.spent ≡ false) × (f : Fetches s.port t.port k) × Acts s t (Deliver f.number) (Some (Got f.mail)) (Full bytes)
   Takes s t k OutOfMemory = (s.spent ≡ false) × Looked s.port t.port × (t.spent ≡ true)
@@ -136,6 +136,6 @@ module _ {A M O : Type 0} {g : Ghosts A M O} {h : MailGhosts M} where
   abbrev pub Happens : State A M O g h → State A M O g h → Event O → Turn → Type 0
   Happens s t event Spent = IsSpent s t
   Happens s t event (Did at) = (s.spent ≡ false) × Acts s t event (input_of [] event) (Did at)
-  Happens s t event (Empty told) = (s.spent ≡ false) × Acts s t event (input_of [] event) (Empty told)
+  Happens s t event (Empty reported) = (s.spent ≡ false) × Acts s t event (input_of [] event) (Empty reported)
   Happens s t event (Full bytes) = (s.spent ≡ false) × Acts s t event (input_of [] event) (Full bytes)
   Happens s t event OutOfMemory = (s.spent ≡ false) × Acts s t event (input_of [] event) OutOfMemory

@@ -21,7 +21,7 @@ returns g c =
       kept = kept_acted c.args.company.now.net mid next ss after k t c.requires.inside c.requires.together.crew.exchange (stays_trans (get_or ss k t).port m.met.port t.port m.still.goes.stays m.stays) m.looked still gathered;
       sound = sound_after_event ss after k m.met t c.requires.inside m.still c.requires.together.crew.sound still.len still.still c.args.event c.meet_then_event-turn.result m.effect_holds;
       answer = is_event_answer (state m.met) (state t) c.args.event c.meet_then_event-turn.result m.effect_holds;
-      told = λ births company.
+      reported = λ births company.
           event_leaves births c.args.company.now.net mid next ss after k t company c.requires.inside c.requires.together.crew.exchange m.met m.still m.ahead m.stays m.keeps
           (looked_trans c.args.company.now.net mid next m.looked still.looked) (still.len ∙ length_set ss k t) still.still gathered gathered.rows c.args.event c.meet_then_event-turn.result c.requires.event m.effect_holds;
       score = refl;

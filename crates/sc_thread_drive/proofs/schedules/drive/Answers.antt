@@ -62,17 +62,17 @@ returns-in-Err-JournalFull-clause-kept g c = λ _.
     let inv = c.loop-line.invariant in let old = c.args.company.now in let mid = c.loop-line.company in let new = c.run_line.new.company in
     kept_then old.net mid.net new.net old.shells.items mid.shells.items new.shells.items inv.on.kept.stays inv.on.kept.same (c.in-Err-JournalFull.ensures.fills _ (ap Err c.in-Err-JournalFull.field-0-is)).kept
 
-quiet_told : (found : Option ℕ) (quiet : Bool) → is_some found ≡ not quiet → is_none found ≡ quiet
-quiet_told None true e = refl
-quiet_told None false e = cc
-quiet_told (Some place) true e = cc
-quiet_told (Some place) false e = refl
+quiet_reported : (found : Option ℕ) (quiet : Bool) → is_some found ≡ not quiet → is_none found ≡ quiet
+quiet_reported None true e = refl
+quiet_reported None false e = cc
+quiet_reported (Some place) true e = cc
+quiet_reported (Some place) false e = refl
 
 pub returns-clause-driven : goal.returns-clause-driven
 returns-clause-driven g c = λ births opened.
     let inv = c.loop-line.invariant in let mid = c.loop-line.company in let new = c.lowest.new.company in let found = c.in-Ok-lowest.ensures in
     subst (λ score. HasEnded two_words births c.args.lines.now new.net new.shells.items score.unsettled c.is_none.result score.skipped) (sym found.rested.score)
-    (subst (λ quiet. HasEnded two_words births c.args.lines.now new.net new.shells.items mid.score.unsettled quiet mid.score.skipped) (quiet_told c.in-Ok-lowest.found c.is_none.result c.is_none.ensures)
+    (subst (λ quiet. HasEnded two_words births c.args.lines.now new.net new.shells.items mid.score.unsettled quiet mid.score.skipped) (quiet_reported c.in-Ok-lowest.found c.is_none.result c.is_none.ensures)
     (drive_ends two_words births c.args.lines.now mid.net new.net mid.shells.items new.shells.items mid.score c.loop-line.line-index c.in-Ok-lowest.found (omega (arith, c.loop-line-test.false)) (inv.at births opened) found.rested.rests found.finds found.rested.on.kept.stays.exchange.2))
 
 pub returns-clause-kept : goal.returns-clause-kept

@@ -38,8 +38,8 @@ returns-clause-gathered g c = gathered_so c.waiting.new.self c.vouch.new.net c.m
 
 pub returns-then-not-any-clause-end : goal.returns-then-not-any-clause-end
 returns-then-not-any-clause-end g c =
-    let told : c.any_of-any.result ≡ false = search rules in
-    let none : any_waits c.waiting.new.self c.args.whos.now ≡ false = any_found c.waiting.new.self c.args.whos.now c.in-Ok.found.items c.any_of-any.result c.in-Ok.ensures.waiting (c.any_of-any.ensures ∙ ap (list_any (λ wait. wait)) c.as_slice.ensures.value) ∙ told in let n = c.vouch.ensures.vouched in (
+    let reported : c.any_of-any.result ≡ false = search rules in
+    let none : any_waits c.waiting.new.self c.args.whos.now ≡ false = any_found c.waiting.new.self c.args.whos.now c.in-Ok.found.items c.any_of-any.result c.in-Ok.ensures.waiting (c.any_of-any.ensures ∙ ap (list_any (λ wait. wait)) c.as_slice.ensures.value) ∙ reported in let n = c.vouch.ensures.vouched in (
       n.over,
       waits_same c.waiting.new.self c.vouch.new.net c.args.whos.now c.vouch.ensures.still.looked.stays.exchange.1 n.seen ∙ none,
       refl,
@@ -47,8 +47,8 @@ returns-then-not-any-clause-end g c =
 
 pub returns-then-used-limit-clause-end : goal.returns-then-used-limit-clause-end
 returns-then-used-limit-clause-end g c =
-    let told : c.any_of-any.result ≡ true = search rules in
-    let some : any_waits c.waiting.new.self c.args.whos.now ≡ true = any_found c.waiting.new.self c.args.whos.now c.in-Ok.found.items c.any_of-any.result c.in-Ok.ensures.waiting (c.any_of-any.ensures ∙ ap (list_any (λ wait. wait)) c.as_slice.ensures.value) ∙ told in let all : c.args.used ≡ c.args.limit = search rules in let n = c.vouch.ensures.vouched in (
+    let reported : c.any_of-any.result ≡ true = search rules in
+    let some : any_waits c.waiting.new.self c.args.whos.now ≡ true = any_found c.waiting.new.self c.args.whos.now c.in-Ok.found.items c.any_of-any.result c.in-Ok.ensures.waiting (c.any_of-any.ensures ∙ ap (list_any (λ wait. wait)) c.as_slice.ensures.value) ∙ reported in let all : c.args.used ≡ c.args.limit = search rules in let n = c.vouch.ensures.vouched in (
       n.over,
       waits_same c.waiting.new.self c.vouch.new.net c.args.whos.now c.vouch.ensures.still.looked.stays.exchange.1 n.seen ∙ some,
       refl,
@@ -57,8 +57,8 @@ returns-then-used-limit-clause-end g c =
 
 pub returns-clause-begin : goal.returns-clause-begin
 returns-clause-begin g c = λ none.
-    let told : c.any_of-any.result ≡ true = search rules in
-    let some : any_waits c.waiting.new.self c.args.whos.now ≡ true = any_found c.waiting.new.self c.args.whos.now c.in-Ok.found.items c.any_of-any.result c.in-Ok.ensures.waiting (c.any_of-any.ensures ∙ ap (list_any (λ wait. wait)) c.as_slice.ensures.value) ∙ told in let n = c.vouch.ensures.vouched in (
+    let reported : c.any_of-any.result ≡ true = search rules in
+    let some : any_waits c.waiting.new.self c.args.whos.now ≡ true = any_found c.waiting.new.self c.args.whos.now c.in-Ok.found.items c.any_of-any.result c.in-Ok.ensures.waiting (c.any_of-any.ensures ∙ ap (list_any (λ wait. wait)) c.as_slice.ensures.value) ∙ reported in let n = c.vouch.ensures.vouched in (
       record {
         waits = waits_same c.waiting.new.self c.vouch.new.net c.args.whos.now c.vouch.ensures.still.looked.stays.exchange.1 n.seen ∙ some;
         gathered = returns-clause-gathered g c;

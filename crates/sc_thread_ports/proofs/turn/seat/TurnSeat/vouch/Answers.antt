@@ -14,5 +14,5 @@ load-requires g c = (search rules, search rules, reads g.T.Listed.entries _ _ _)
 
 pub returns-clause-over : goal.returns-clause-over
 returns-clause-over g c =
-    let told : c.join_seat.new.seat.me.0.told ≡ c.split_seat-note.new.seat.me.0.seen = search rules in
-    true_over g.T.Listed.entries _ _ _ c.split_seat-note.new.seat.me.0.seen c.load.ensures.2 (ap (λ m. m.0.live) c.join_seat.ensures.2 ∙ c.args.self.now.numbered.0) told
+    let received : c.join_seat.new.seat.me.0.received ≡ c.split_seat-note.new.seat.me.0.seen = search rules in
+    true_over g.T.Listed.entries _ _ _ c.split_seat-note.new.seat.me.0.seen c.load.ensures.2 (ap (λ m. m.0.live) c.join_seat.ensures.2 ∙ c.args.self.now.numbered.0) received
