@@ -33,5 +33,5 @@ module _ (tell : ScansShow) (count : EntriesCountLogs) (logs : ValidEntriesAreLo
         text = lines_are
             ∙ ap (λ (some : List (Row Mail OrderLine)). scan_lines sight.most (length some) (scan_of (world_at as_nodes scenario.groups some) (entries_in (entries_at as_nodes scenario.groups some)) sight.arc)) rows_are
             ∙ ap (scan_lines sight.most (length first)) (count as_nodes scenario.groups first entries sight.arc);
-        told = tell as_nodes scenario.groups first (sound first (drop sight.rows journal) (sym parts)).whole entries sight.arc is fits;
+        store = tell as_nodes scenario.groups first (sound first (drop sight.rows journal) (sym parts)).whole entries sight.arc is fits;
       }

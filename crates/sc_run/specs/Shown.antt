@@ -14,5 +14,5 @@ use Rattle.sc_cli.specs.declared.subcommands.Sight.{Sight}
 pub record ShowsScan (scenario : Scenario) (sight : Sight) (journal : List (Row Mail OrderLine)) (lines : List (List ℕ)) : Type 0 where
   pub text : let rows : List (Row Mail OrderLine) = take sight.rows journal in
       lines ≡ scan_lines sight.most (length rows) (scan_at as_nodes scenario.groups rows sight.arc)
-  pub told : let rows : List (Row Mail OrderLine) = take sight.rows journal in
+  pub store : let rows : List (Row Mail OrderLine) = take sight.rows journal in
       ShowsStore as_nodes scenario.groups rows sight.arc (scan_at as_nodes scenario.groups rows sight.arc)

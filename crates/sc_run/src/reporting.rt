@@ -87,8 +87,8 @@ pub fn report<G: Gate, R: Threads + Wait + Sync>(
                 parties,
                 ..
             } = left;
-            let told = sum_up(alloc, scenario, &journal, &parties, skipped, quiet)?;
-            let lines = lines(alloc, &told)?;
+            let summary = sum_up(alloc, scenario, &journal, &parties, skipped, quiet)?;
+            let lines = lines(alloc, &summary)?;
             let text = Text {
                 lines,
                 journal: Some(journal),

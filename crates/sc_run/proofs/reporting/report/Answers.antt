@@ -14,7 +14,7 @@ returns-in_ok-lines-in-Ended g c =
     let text : Text = record { lines = c.in_ok-lines-in-Ended.lines; journal = Some left.journal; parties = left.parties } in
     subst (λ begun. IfSome begun (λ said. Comes (ShowsReport scenario) scenario said text)) (sym (sym c.in-Some.is ∙ (c.said_by.ensures ∙ ap said_by c.in-Ended.is)))
     (comes_ended (ShowsReport scenario) scenario c.in-Ended.unsettled c.in-Ended.quiet c.in-Ended.skipped left.journal left.parties text
-    (subst (IsPlayed scenario journal_limit left.journal left.parties) c.in-Ended.is c.in_ok-left.ensures) (c.in_ok-lines-in-Ended.ensures ∙ ap report_lines c.in_ok-told-in-Ended.ensures) refl refl)
+    (subst (IsPlayed scenario journal_limit left.journal left.parties) c.in-Ended.is c.in_ok-left.ensures) (c.in_ok-lines-in-Ended.ensures ∙ ap report_lines c.in_ok-summary-in-Ended.ensures) refl refl)
 
 pub sum_up-requires-clause-few_rows : goal.sum_up-requires-clause-few_rows
 sum_up-requires-clause-few_rows g c =
