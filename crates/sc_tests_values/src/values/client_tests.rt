@@ -11,7 +11,7 @@ use std::process::Abort;
 
 /// A node's answer to a client, in brief.
 #[derive(Clone, Copy)]
-enum Told {
+enum Answered {
     Value,
     NotLeader(Option<u16>),
     /// The key is of the successor 0.2 with members 4 and 5, which begins at 2^30.
@@ -26,7 +26,7 @@ enum Told {
 enum Given {
     Go,
     Tick,
-    Answer(u32, u32, u32, Told),
+    Answer(u32, u32, u32, Answered),
 }
 
 /// The receiver, the group and the number of the one request that is sent.
@@ -49,11 +49,11 @@ fn client(rt: &impl Abort, alloc: Global) -> ClientCore {
     ClientCore::born(alloc, 1, requests, route).expect(rt, "memory")
 }
 
-fn answer(rt: &impl Abort, told: Told) -> AnswerBody {
-    match told {
-        Told::Value => AnswerBody::Value(Reply { old: None }),
-        Told::NotLeader(hint) => AnswerBody::NotLeader { hint },
-        Told::NotMine => {
+fn answer(rt: &impl Abort, answered: Answered) -> AnswerBody {
+    match answered {
+        Answered::Value => AnswerBody::Value(Reply { old: None }),
+        Answered::NotLeader(hint) => AnswerBody::NotLeader { hint },
+        Answered::NotMine => {
             let mut members = Members::one(4);
             let _ = members.add(5);
             AnswerBody::NotMine {
@@ -64,14 +64,14 @@ fn answer(rt: &impl Abort, told: Told) -> AnswerBody {
                 },
             }
         }
-        Told::Gone => AnswerBody::Gone {
+        Answered::Gone => AnswerBody::Gone {
             into: Route {
                 group: numbered(5),
                 lo: 9,
                 members: Members::one(7),
             },
         },
-        Told::Stale => AnswerBody::Stale { last: 7 },
+        Answered::Stale => AnswerBody::Stale { last: 7 },
     }
 }
 
@@ -79,8 +79,8 @@ fn input(rt: &impl Abort, given: Given) -> Input<Mail, OrderLine> {
     match given {
         Given::Go => Input::Go,
         Given::Tick => Input::Tick,
-        Given::Answer(from, count, seq, told) => {
-            let answer = answer(rt, told);
+        Given::Answer(from, count, seq, answered) => {
+            let answer = answer(rt, answered);
             let group = numbered(count);
             let body = MailBody::Answer { group, seq, answer };
             Input::Got(Mail { from, to: 33, body })
@@ -143,13 +143,13 @@ fn check(rt: &impl Abort, alloc: Global, rows: &[Row], waiting: Option<u32>, rep
 const HINTS: &[Row] = &[
     (Given::Go, Some((1, 1, 1))),
     (
-        Given::Answer(1, 1, 1, Told::NotLeader(Some(3))),
+        Given::Answer(1, 1, 1, Answered::NotLeader(Some(3))),
         Some((3, 1, 1)),
     ),
     (Given::Tick, Some((1, 1, 1))),
-    (Given::Answer(1, 1, 1, Told::NotMine), Some((4, 2, 1))),
-    (Given::Answer(1, 1, 1, Told::NotMine), None),
-    (Given::Answer(4, 2, 1, Told::Gone), Some((7, 5, 1))),
+    (Given::Answer(1, 1, 1, Answered::NotMine), Some((4, 2, 1))),
+    (Given::Answer(1, 1, 1, Answered::NotMine), None),
+    (Given::Answer(4, 2, 1, Answered::Gone), Some((7, 5, 1))),
 ];
 
 #[test]
@@ -158,17 +158,17 @@ fn client_hints_and_stale_not_mine(rt: HostRuntime) {
 }
 
 const OF_OTHERS: &[Row] = &[
-    (Given::Answer(1, 1, 1, Told::Value), None),
+    (Given::Answer(1, 1, 1, Answered::Value), None),
     (Given::Tick, None),
     (Given::Go, Some((1, 1, 1))),
-    (Given::Answer(2, 1, 1, Told::NotLeader(Some(3))), None),
-    (Given::Answer(1, 2, 1, Told::NotLeader(None)), None),
-    (Given::Answer(1, 1, 2, Told::Value), None),
-    (Given::Answer(2, 1, 1, Told::NotMine), None),
-    (Given::Answer(2, 1, 1, Told::Gone), None),
-    (Given::Answer(1, 1, 1, Told::Stale), None),
+    (Given::Answer(2, 1, 1, Answered::NotLeader(Some(3))), None),
+    (Given::Answer(1, 2, 1, Answered::NotLeader(None)), None),
+    (Given::Answer(1, 1, 2, Answered::Value), None),
+    (Given::Answer(2, 1, 1, Answered::NotMine), None),
+    (Given::Answer(2, 1, 1, Answered::Gone), None),
+    (Given::Answer(1, 1, 1, Answered::Stale), None),
     (
-        Given::Answer(1, 1, 1, Told::NotLeader(None)),
+        Given::Answer(1, 1, 1, Answered::NotLeader(None)),
         Some((2, 1, 1)),
     ),
 ];
@@ -180,9 +180,9 @@ fn answers_of_others_are_ignored(rt: HostRuntime) {
 
 const REPLIES: &[Row] = &[
     (Given::Go, Some((1, 1, 1))),
-    (Given::Answer(2, 9, 1, Told::Value), Some((1, 1, 2))),
-    (Given::Answer(1, 1, 1, Told::Value), None),
-    (Given::Answer(1, 1, 2, Told::Value), None),
+    (Given::Answer(2, 9, 1, Answered::Value), Some((1, 1, 2))),
+    (Given::Answer(1, 1, 1, Answered::Value), None),
+    (Given::Answer(1, 1, 2, Answered::Value), None),
     (Given::Tick, None),
 ];
 
