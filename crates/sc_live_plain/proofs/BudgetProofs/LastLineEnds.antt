@@ -19,8 +19,9 @@ use Rattle.sc_live_plain.proofs.PlainProofs.InductionBase.{birth_within, journal
 use Rattle.sc_live_plain.proofs.PlainProofs.PlainInduction.{owing_of}
 use Rattle.sc_live_plain.proofs.PlainProofs.PlainBeginnings.{stage}
 use Rattle.sc_live_plain.proofs.PlainProofs.PlainJournals.{plain_journal}
-use Rattle.sc_live_plain.proofs.BudgetProofs.PlainLineEnds.{lines_plain, lines_roomy, far_from_last, some_owed}
-use Rattle.sc_live_plain.proofs.PlainProofs.GroupCircle.{round}
+use Rattle.sc_live_plain.proofs.BudgetProofs.PlainLineEnds.{lines_plain, lines_roomy, far_from_last}
+use Rattle.sc_live_plain.proofs.PlainProofs.PlainSetting.{is_linked}
+use Rattle.sc_live_plain.proofs.PlainProofs.PlainClientPotential.{some_owed}
 
 -- a line with room for some deliveries has room for none
 less_room : (budget : ℕ) (line : SchedLine) → AllowsDeliveries budget line → AllowsDeliveries 0 line
@@ -44,6 +45,6 @@ last_lines_quiet all_bounded words scenario journal valid ends lawful whole =
     let are = ap (map line_of) ends.lines_are ∙ map-append line_of ends.before (ends.last ∷ []) in
     let room = lines_roomy (budget_of scenario) (owed_at_birth sys (owing_of scenario)) (ends.last ∷ []) (birth_within scenario bounded words) (ends.room, tt) in
     ends_quiet_at_last sys (owing_of scenario) (schedule scenario) plain
-    (λ rows l. (plain_journal words scenario s (round scenario bounded) (far_from_last words scenario bounded) (schedule scenario) plain (journal_at_birth scenario bounded words) rows l).owes)
+    (λ rows l. (plain_journal words scenario s (is_linked scenario bounded) (far_from_last words scenario bounded) (schedule scenario) plain (journal_at_birth scenario bounded words) rows l).owes)
     (λ rows l. Each-from (λ mail. 1 ≤ mail_owes mail) (mails rows) (λ mail a. some_owed mail.body))
     journal lawful whole (map line_of ends.before) (line_of ends.last) (many_line ends.last ends.is_delivery) are room.0

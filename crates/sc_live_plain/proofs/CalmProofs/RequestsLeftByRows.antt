@@ -14,7 +14,7 @@ use Rattle.sc_scenario.specs.declared.scenario.scenarios.Scenario.{Scenario}
 use Rattle.sc_meaning.specs.sound.SoundDefinitions.{player_table, client_seat, route_of, system_of, as_nodes}
 use Rattle.sc_live_orderly.specs.OrderlyDefinitions.{rest, mail_for, taken}
 use Rattle.sc_paxos_law.proofs.Lemmas.{Among-left, Among-right}
-use Rattle.sc_live_plain.specs.PlainDefinitions.{Frame, IsFrame, answer_owes, waiting_ones, IsBegun, IsWaiting, begun_of, Requests, IsPlainAnswer, IsPlainBody}
+use Rattle.sc_live_plain.specs.PlainDefinitions.{Frame, IsFrame, answer_owes, waiting_one, IsBegun, IsWaiting, begun_of, Requests, IsPlainAnswer, IsPlainBody}
 use Rattle.sc_live_plain.proofs.PlainProofs.PlainBeginnings.{IsStage}
 use Rattle.sc_live_plain.proofs.PlainRowsProofs.RowViews.{Journal}
 use Rattle.sc_live_plain.proofs.LeadersProofs.LeadingReplicas.{IsHeld, IsReportedOf}
@@ -91,7 +91,7 @@ module _ (words : ℕ → ℕ → ℕ × ℕ) (scenario : Scenario) where
         let same : b.asks ≡ asks = stage.once b.asks asks b.is_asks a (b.client_is ∙ me_is) in
         let low = b.low in
         let at = ap (λ (f : Base). begun_of (value player_table (client_seat (route_of f) b.asks) rows)) first ∙ (ap (λ (x : Asks). begun_of (value player_table (client_seat (route_of stage.first) x) rows)) same ∙ ap begun_of fact) in
-        let one = ap waiting_ones w.waits in
+        let one = ap waiting_one w.waits in
         let number = w.number in
         omega (arith, low, at, one, number)
 
