@@ -18,7 +18,7 @@ pub use Rattle.sc_live_plain.proofs.LeadersProofs.LeadingReplicas.{requests_only
 pub use Rattle.sc_live_plain.proofs.LeadersProofs.PlainPumps.{call_is, by_found, by_nothing, call_found, none_found}
 pub use Rattle.sc_live_plain.proofs.LeadersProofs.LeaderExecutions.{IsRun}
 pub use Rattle.sc_live_plain.proofs.PlainRowsProofs.PlainAcceptAndLearnRows.{as_voter, learn_is, learnt_plain, learnt_follower, learnt_next, accept_is}
-pub use Rattle.sc_live_plain.proofs.PlainRowsProofs.Replicas.{put_found, put_others}
+pub use Rattle.sc_live_steps.proofs.CalmStepsProofs.CalmStepLemmas.{put_found, put_others}
 pub use Rattle.sc_live_plain.proofs.PlainRowsProofs.ReplicaRows.{leading_at, replica_row, DidRefuse, DidQueue, DidCount, following_at, none_stops, Does}
 pub use Rattle.sc_live_plain.proofs.PlainRowsProofs.NodeRows.{IsFor, for_node, NodeRow, mail_is, others_after}
 pub use Rattle.sc_live_plain.proofs.PlainProofs.GroupCircle.{IsBefore, next_frame, least_leads}
@@ -28,7 +28,7 @@ unfoldable pub use Rattle.sc_live_plain.proofs.BudgetProofs.ExampleBudget.{asks,
 pub use Rattle.sc_live_plain.proofs.CalmProofs.QuietFrames.{quiet_stand_plain as quiet_groups_stand_plain}
 pub use Rattle.sc_live_plain.proofs.CalmProofs.KnownGroups.{learn_in_turn as clients_learn_in_turn, name_in, id_of, learn_in_turn, gap, near_behind, set_names, started_names, parts_of, among_first, same_of_one, chosen_is, one_chosen}
 pub use Rattle.sc_live_plain.proofs.CalmProofs.ChosenGroups.{chosen_among}
-pub use Rattle.sc_live_plain.proofs.CalmProofs.CalmRows.{may_pump, serves_all, runs, follows}
+pub use Rattle.sc_live_plain.proofs.CalmProofs.CalmRows.{may_pump, serves_all, runs, follows, plain_owes, group_same, may_take}
 pub use Rattle.sc_live_plain.proofs.CalmProofs.CalmNodes.{nodes_calm as nodes_stay_calm, stays_by, Turns, step_is, StepsAside, aside_step, turns, aside_is, aside_answer}
 pub use Rattle.sc_live_plain.proofs.CalmProofs.CalmClients.{asking, unasked, waiting_home}
 pub use Rattle.sc_live_plain.proofs.CalmProofs.AskedGroups.{SaysPlain, CalmSays, calm_says, RingKnown, ring_known, alone, op_same, lacks, new_group}

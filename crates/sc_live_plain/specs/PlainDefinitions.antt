@@ -13,7 +13,7 @@ pub use Rattle.sc_live_plain.specs.KnownGroups.{start_known, FollowedBy, AreRoun
 pub use Rattle.sc_live_plain.specs.CalmNodes.{Setting, IsHome, IsSetting, KnowsBetter, IsCalmNode, IsCalmMail, IsAsideBody, ComesInTime, HasGoneTo, IsNearer, IsAsideAnswer, NodesStayCalm}
 pub use Rattle.sc_live_plain.specs.Frames.{Frame, IsFrame, frame_of, AreNamedApart}
 pub use Rattle.sc_live_plain.specs.PlainLaws.{PlainLinesEndQuiet, PlainJournalsAreLight, MadeScenariosAreAtBudget, PlainRequestsAreAnswered}
-pub use Rattle.sc_live_plain.specs.PlainPotential.{replica_owes, begun_ones, direct, reach_of, player_owes, mail_owes, body_owes, client_owes, answer_owes, node_owes}
+pub use Rattle.sc_live_plain.specs.PlainPotential.{begun_ones, direct, reach_of, player_owes, mail_owes}
 pub use Rattle.sc_live_steps.specs.calm.CalmDefinitions.{waiting_one}
 pub use Rattle.sc_live_plain.specs.PlainClients.{IsBegun, begun_of, IsWaiting, IsResting}
 pub use Rattle.sc_live_plain.specs.PlainMail.{Requests, IsPlainCall, IsPlainCommand, IsPlainBody, IsPlainMail, IsWrittenValue, IsPlainAnswer, written_by}

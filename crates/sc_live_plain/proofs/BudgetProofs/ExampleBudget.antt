@@ -81,7 +81,7 @@ unfoldable pub asks : Asks
 asks = record { client = 1; ops = put_it ∷ get_it ∷ [] }
 
 -- at birth two mails of requests are owed, by the client alone
-client_birth : player_owes (frame_of alone ∷ []) (client_seat (route_of alone) asks).actor ≡ 58
+client_birth : player_owes (frame_of alone ∷ []) (client_seat (route_of alone) asks).actor ≡ 56
 unfolding asks
 client_birth = refl
 
@@ -89,7 +89,7 @@ node_birth : player_owes (frame_of alone ∷ []) (node_seat as_nodes (alone ∷ 
 node_birth = refl
 
 -- what each mail owes when it is sent: request, accept, vote, answer, and so again
-mails_owe : map mail_owes (mails example_rows) ≡ 29 ∷ 2 ∷ 1 ∷ 1 ∷ 29 ∷ 2 ∷ 1 ∷ 1 ∷ []
+mails_owe : map mail_owes (mails example_rows) ≡ 28 ∷ 2 ∷ 1 ∷ 1 ∷ 28 ∷ 2 ∷ 1 ∷ 1 ∷ []
 mails_owe = refl
 
 -- at its end both requests are begun, and the client owes nothing

@@ -233,7 +233,7 @@ journals_light all_bounded words scenario journal valid at lawful =
     let bytes = bytes_low journal light in
     let to : SendsToActors sys_ lines = λ rows l. Each-weaker (IsPlainMail (IsBegun scenario rows) (frames_of scenario)) (λ mail. is_born sys_ mail.to ≡ true)
     (λ mail m. body_born words scenario s rows m.frame m.is_frame mail.from mail.to mail.body m.says) (mails rows) (each rows l).sent in
-    let some = Each-weaker (IsPlainMail (IsBegun scenario journal) (frames_of scenario)) (λ mail. 1 ≤ mail_owes mail) (λ mail m. some_owed mail.body) (mails journal) j.sent in
+    let some = Each-weaker (IsPlainMail (IsBegun scenario journal) (frames_of scenario)) (λ mail. 1 ≤ mail_owes mail) (some_owed (IsBegun scenario journal) (frames_of scenario)) (mails journal) j.sent in
     let sent = mails_are_owed sys_ s.seats_apart lines plain to (owing_of scenario) journal some lawful in
     let owes = j.owes in
     let within = birth_within scenario bounded words in

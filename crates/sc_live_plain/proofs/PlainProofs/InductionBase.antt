@@ -1,5 +1,5 @@
 -- The induction over plain journals: how it begins, and what is owed at birth.
-use Rattle.std.proofs.Common.{◌≡◌, ℕ, zero, suc, ◌+◌, ◌-◌, ◌*◌, ◌<◌, ◌≤◌, ◌&&◌, not, ltb, eqb, true, false, cond, List, [], ◌∷◌, ◌++◌, length, map, filter, get_or, Some, None, inl, inr, refl, sym, ◌∙◌, ap, subst, arith}
+use Rattle.std.proofs.Common.{◌≡◌, ℕ, zero, suc, ◌+◌, ◌-◌, ◌*◌, ◌<◌, ◌≤◌, ◌&&◌, not, ltb, true, false, cond, List, [], ◌∷◌, ◌++◌, length, map, filter, get_or, Some, None, inl, inr, refl, sym, ◌∙◌, ap, subst, arith}
 use Rattle.std.specs.List.{sum_by, All, AllPairs}
 use Rattle.std.specs.Ordering.{nat_cmp}
 use Rattle.std.specs.Cmp.Lexicographic.{slice_cmp}
@@ -23,7 +23,8 @@ use Rattle.sc_client_table.specs.table.TableDefinitions.{born_client}
 use Rattle.sc_client_table.specs.lookup.LookupDefinitions.{new_way}
 use Rattle.sc_live_orderly.specs.OrderlyDefinitions.{owed_at_birth}
 use Rattle.sc_paxos_law.proofs.Lemmas.{from_map}
-use Rattle.sc_live_plain.specs.PlainDefinitions.{requests_of, budget_of, IsCalmClient, IsHome, IsNearer, KnowsBetter, IsCalmNode, Frame, frame_of, replica_owes, player_owes, IsBegun, Requests, AreTaken, IsPlainReplica, IsSettled, IsPlainAt, IsPlainNode, replica_at, next_in, votes_in, IsGroupAt}
+use Rattle.sc_live_steps.specs.calm.CalmDefinitions.{replica_owes}
+use Rattle.sc_live_plain.specs.PlainDefinitions.{requests_of, budget_of, IsCalmClient, IsHome, IsNearer, KnowsBetter, IsCalmNode, Frame, frame_of, player_owes, IsBegun, Requests, AreTaken, IsPlainReplica, IsSettled, IsPlainAt, IsPlainNode, replica_at, next_in, votes_in, IsGroupAt}
 use Rattle.sc_live_plain.proofs.PlainProofs.PlainBeginnings.{frames_of, stage}
 use Rattle.sc_law_groups.proofs.WholeProofs.WholeLemmas.{group_place}
 use Rattle.sc_live_plain.proofs.PlainRowsProofs.Sums.{shares, sum_mapped, none_together}
@@ -93,10 +94,6 @@ born_settled begun me base =
       | inr ne ↦ inr (ne, record { stopped = ne_eqb base.core.first me (λ e. ne (sym e)); backlog = refl; flights = refl; ready = refl })
     ]
 
--- and owes nothing
-born_owes : (me : ℕ) (base : Base) → replica_owes (born_replica slots_ahead me base) ≡ 0
-born_owes me base = cond_both (eqb base.core.first me) (1 - 1) 0 (λ x. 28 * 0 + 10 * (0 + 0) + x ≡ 0) (λ _. omega arith) (λ _. omega arith)
-
 -- ---- a node at birth
 
 -- its replica of a group in which it votes
@@ -135,11 +132,12 @@ born_is groups group node r e =
     let b = Each-among P (born_replicas slots_ahead node groups) r (born_members P node groups (λ base a m. (base, a, m, refl))) f.0 in
     record { base = b.0; among = b.1; member = b.2; named = sym (ap name_of b.3) ∙ draw_is (name_of r) group f.1; fact = b.3 }
 
-none_owed : (me : ℕ) (groups : List Base) → sum_by replica_owes (born_replicas slots_ahead me groups) ≡ 0
+-- none owes anything
+none_owed : (me : ℕ) (groups : List Base) → sum_by (replica_owes 0) (born_replicas slots_ahead me groups) ≡ 0
 none_owed me [] = refl
 none_owed me (b ∷ groups) =
-    cond_both (is_member b.core.members me) (b ∷ filter (λ x. is_member x.core.members me) groups) (filter (λ x. is_member x.core.members me) groups) (λ l. sum_by replica_owes (map (λ y. born_replica slots_ahead me y) l) ≡ 0)
-    (λ _. (let one = born_owes me b in let rest = none_owed me groups in let sum = sum_by-cons replica_owes (born_replica slots_ahead me b) (born_replicas slots_ahead me groups) in omega (arith, one, rest, sum)))
+    cond_both (is_member b.core.members me) (b ∷ filter (λ x. is_member x.core.members me) groups) (filter (λ x. is_member x.core.members me) groups) (λ l. sum_by (replica_owes 0) (map (λ y. born_replica slots_ahead me y) l) ≡ 0)
+    (λ _. (let rest = none_owed me groups in let sum = sum_by-cons (replica_owes 0) (born_replica slots_ahead me b) (born_replicas slots_ahead me groups) in omega (arith, rest, sum)))
     (λ _. none_owed me groups)
 
 -- ---- what is owed at birth
@@ -149,7 +147,7 @@ times_low : (n m : ℕ) → n * 32 ≤ n * (32 + m)
 times_low zero m = omega arith
 times_low (suc n) m = (let a = suc-mul n 32 in let b = suc-mul n (32 + m) in let rest = times_low n m in omega (arith, a, b, rest))
 
-client_share : (groups requests : ℕ) → 1 ≤ groups → 28 * (requests - (0 + 0)) + cond (ltb 0 requests) ((groups - 1) * (2 + 2 * 0) + 2 * 0) 0 + (requests - (0 + 0)) ≤ requests * (32 + 4 * groups)
+client_share : (groups requests : ℕ) → 1 ≤ groups → 28 * (requests - (0 + 0)) + cond (ltb 0 requests) ((groups - 1) * (2 + 2 * 0) + 2 * 0) 0 ≤ requests * (32 + 4 * groups)
 client_share groups zero some = omega arith
 client_share groups (suc requests) some =
     let product = suc-mul requests (32 + 4 * groups) in
@@ -345,5 +343,6 @@ module _ (scenario : Scenario) (bounded : IsBounded scenario) where
       groups = group_at_birth words;
     };
     sent = tt;
+    slots = λ frame a. (let low = at_low frame.core.id frame.lead in omega (arith, low));
     owes = omega arith;
   }

@@ -1,5 +1,5 @@
 -- Every lawful journal of a plain scenario is a plain journal.
-use Rattle.std.proofs.Common.{ℕ, ◌+◌, ◌≤◌, List, [], ◌∷◌}
+use Rattle.std.proofs.Common.{ℕ, ◌+◌, ◌*◌, ◌≤◌, List, [], ◌∷◌}
 use Rattle.sc_base.specs.Definitions.{Each}
 use Rattle.sc_node_table.specs.Values.{OrderLine, Line}
 use Rattle.sc_actor.specs.Definitions.{IsLawful}
@@ -16,7 +16,7 @@ use Rattle.sc_live_plain.proofs.PlainProofs.PlainRows.{plain_row}
 use Rattle.sc_live_plain.proofs.PlainProofs.PlainSetting.{plain_setting}
 use Rattle.sc_live_plain.proofs.PlainRowsProofs.RowViews.{Journal}
 
-pub plain_journal : (words : ℕ → ℕ → ℕ × ℕ) (scenario : Scenario) (stage : IsStage scenario) → IsLinkedSetting (plain_setting scenario) → owed_at_birth (system_of as_nodes words scenario) (owing_of scenario) + 16 ≤ last_slot
+pub plain_journal : (words : ℕ → ℕ → ℕ × ℕ) (scenario : Scenario) (stage : IsStage scenario) → IsLinkedSetting (plain_setting scenario) → 4 * owed_at_birth (system_of as_nodes words scenario) (owing_of scenario) + 16 ≤ last_slot
     → (lines : List (Line OrderLine)) → Each IsPlainLine lines → IsPlainJournal words scenario stage [] → (journal : Journal) → IsLawful (system_of as_nodes words scenario) lines journal → IsPlainJournal words scenario stage journal
 plain_journal words scenario stage linked few lines plain birth journal lawful =
     let sys = system_of as_nodes words scenario in

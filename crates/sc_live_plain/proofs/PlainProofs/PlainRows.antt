@@ -1,22 +1,24 @@
 -- Each row of a plain journal leaves a plain journal: it sends plain mail, and pays for its delivery.
-use Rattle.std.proofs.Common.{◌≡◌, ℕ, ◌+◌, ◌-◌, ◌≤◌, eqb, false, List, [], ◌∷◌, ◌++◌, find, Some, inl, inr, refl, sym, ◌∙◌, ap, subst, arith}
-use Rattle.std.proofs.lemmas.Bool.{cond-true, both_ways}
+use Rattle.std.proofs.Common.{◌≡◌, ℕ, ◌+◌, ◌*◌, ◌≤◌, eqb, true, false, cond, List, [], ◌∷◌, ◌++◌, find, Some, inl, inr, refl, sym, ◌∙◌, ap, subst, arith}
+use Rattle.std.proofs.lemmas.Bool.{both_ways, cases_Bool, cases_eq}
 use Rattle.sc_base.specs.Definitions.{Among, Each, client_actor, same_draw, is_member}
-use Rattle.sc_node_table.specs.Values.{Draw, Op, OrderLine, Input, Mail, Seat, Event, Deliver, Go, Got, Row, Node}
+use Rattle.sc_base.proofs.Lemmas.{draw_is, same_name}
+use Rattle.sc_node_table.specs.Values.{Draw, Op, OrderLine, Input, Mail, MailBody, Request, Accept, Accepted, Learn, Seat, Event, Deliver, Go, Got, Row, Node}
 use Rattle.sc_actor.specs.declared.rows.Input.TheVariants.{Go as GoInput}
-use Rattle.sc_actor.specs.Definitions.{mails, value, acted, input_of, System, row_of, waiting, kth, has_started}
+use Rattle.sc_actor.specs.Definitions.{mails, is_delivery, value, acted, input_of, System, row_of, waiting, kth, has_started}
 use Rattle.sc_actor.proofs.Lemmas.{mails-snoc}
-use Rattle.sc_words.proofs.PaxosProofs.PaxosLemmas.{Each-append, Each-weaker, find_found}
+use Rattle.sc_words.proofs.PaxosProofs.PaxosLemmas.{Each-append, Each-weaker}
 use Rattle.sc_client_table.specs.table.TableDefinitions.{Client as ClientState, request_of, table}
 use Rattle.sc_client_table.proofs.TableProofs.TurnLemmas.{sends_in_turn}
-use Rattle.sc_node_table.specs.NodeDefinitions.{replica_of, node_table, ReplicaState, name_of, next, last_slot, slots_ahead}
+use Rattle.sc_node_table.specs.NodeDefinitions.{replica_of, is_node, node_table, ReplicaState, Place, next, last_slot, slots_ahead}
 use Rattle.sc_scenario.specs.declared.scenario.scenarios.Asks.{Asks}
 use Rattle.sc_scenario.specs.declared.scenario.scenarios.Scenario.{Scenario}
 use Rattle.sc_meaning.specs.sound.SoundDefinitions.{Player, player_table, node_seat, client_seat, route_of, births, system_of, as_nodes}
-use Rattle.sc_live_orderly.specs.OrderlyDefinitions.{IsTidy, IsOrderly, IsInOrder, owed, owed_at_birth, owed_by}
-use Rattle.sc_live_orderly.proofs.OrderlyLemmas.{IsPaid, pays, TakesFirst}
-use Rattle.sc_live_plain.specs.PlainDefinitions.{IsAskingNode, IsAskingClient, IsAsking, AreFarFromLast, next_in, IsLinkedSetting, IsSetting, IsCalmMail, Frame, replica_owes, player_owes, mail_owes, IsBegun, Requests, IsPlainMail}
+use Rattle.sc_live_orderly.specs.OrderlyDefinitions.{IsTidy, IsOrderly, IsInOrder, owed_at_birth, owed_by}
+use Rattle.sc_live_orderly.proofs.OrderlyLemmas.{IsPaid, pays, count_push, TakesFirst}
+use Rattle.sc_live_plain.specs.PlainDefinitions.{IsAskingNode, IsAskingClient, IsAsking, AreFarFromLast, replica_at, next_in, IsLinkedSetting, IsSetting, IsCalmMail, Frame, IsFrame, direct, player_owes, mail_owes, IsBegun, Requests, IsPlainMail}
 use Rattle.sc_live_plain.proofs.CalmProofs.CalmNodes.{Turns}
+use Rattle.sc_live_plain.proofs.CalmProofs.CalmRows.{node_pays}
 use Rattle.sc_live_plain.proofs.CalmProofs.RequestPhaseNodes as nodes_of
 use Rattle.sc_live_plain.proofs.CalmProofs.RequestPhaseClients as clients_of
 use Rattle.sc_live_plain.proofs.CalmProofs.RequestPhaseClients.{asking_row}
@@ -26,10 +28,23 @@ use Rattle.sc_live_plain.proofs.PlainProofs.PlainBeginnings.{frames_of, IsStage}
 use Rattle.sc_live_plain.proofs.PlainProofs.PlainClientPotential.{takes_paid, go_paid}
 use Rattle.sc_live_plain.proofs.PlainProofs.PlainInduction.{owing_of, IsPlainJournal}
 use Rattle.sc_live_plain.proofs.PlainProofs.PlainSetting.{plain_setting, home_leads, is_setting}
-use Rattle.sc_live_plain.proofs.PlainProofs.PlainSteps.{node_born, node_number, one_of_sum, begun_still, client_away, of_player}
-use Rattle.sc_live_plain.proofs.PlainRowsProofs.NodeRows.{node_said, node_owed}
-use Rattle.sc_live_plain.proofs.PlainRowsProofs.ReplicaRows.{leading_at}
-use Rattle.sc_live_plain.proofs.PlainRowsProofs.RowViews.{Journal, replica_is}
+use Rattle.sc_live_plain.proofs.PlainProofs.PlainSteps.{node_number, client_number, begun_still, client_away, of_player}
+use Rattle.sc_live_plain.proofs.PlainRowsProofs.NodeRows.{NodeRow, node_said, found_after, others_after}
+use Rattle.sc_live_plain.proofs.PlainRowsProofs.ReplicaRows.{leading_at, Does}
+use Rattle.sc_live_plain.proofs.PlainRowsProofs.RowViews.{Journal, replica_is, replica_others, same_replicas, value_own}
+
+-- ---- slots
+
+-- a replica executes at most four more slots in a row
+next_grows : (begun : Requests) (frame : Frame) (fact : IsFrame frame) (me : ℕ) (r : ReplicaState) (from : ℕ) (body : MailBody) (place : Place) → Does begun frame fact me r from body place → next place.0 ≤ next r + 4
+next_grows begun frame fact me r from (Request group client seq op) place response = elim (response.1) [
+  | inl refused ↦ (let same = ap (λ (p : Place). next p.0) refused.place_is in omega (arith, same))
+  | inr queued ↦ (let reached = queued.run.leads.reached in let most = queued.leader.slots.most in omega (arith, reached, most))
+]
+next_grows begun frame fact me r from (Accept group ballot slot command) place response = (let same = response.next_is in omega (arith, same))
+next_grows begun frame fact me r from (Accepted group ballot slot) place response = (let reached = response.1.counted.run.leads.reached in let most = response.1.leader.slots.most in omega (arith, reached, most))
+next_grows begun frame fact me r from (Learn group slot command) place response = (let up = response.next_is in omega (arith, up))
+next_grows begun frame fact me r from _ place response = absurd response
 
 -- ---- what clients send
 
@@ -47,7 +62,7 @@ said_plain begun scenario client input e = elim (sends_in_turn client input).sen
       (request_plain begun scenario (table client input).0.me one.0 one.1 one.2 (subst (Each (IsCalmMail begun (plain_setting scenario))) one.4 e).0, tt)
 ]
 
-module _ (words : ℕ → ℕ → ℕ × ℕ) (scenario : Scenario) (stage : IsStage scenario) (linked : IsLinkedSetting (plain_setting scenario)) (few : owed_at_birth (system_of as_nodes words scenario) (owing_of scenario) + 16 ≤ last_slot)
+module _ (words : ℕ → ℕ → ℕ × ℕ) (scenario : Scenario) (stage : IsStage scenario) (linked : IsLinkedSetting (plain_setting scenario)) (few : 4 * owed_at_birth (system_of as_nodes words scenario) (owing_of scenario) + 16 ≤ last_slot)
     (rows : Journal) (t : IsTidy rows) (j : IsPlainJournal words scenario stage rows) where
   abbrev sys : System Player Mail OrderLine
   sys = system_of as_nodes words scenario
@@ -71,37 +86,25 @@ module _ (words : ℕ → ℕ → ℕ × ℕ) (scenario : Scenario) (stage : IsS
       let of = stage.are frame a in
       stage.fit frame a (frame.from + slots_ahead) frame.lead (ap (λ ms. is_member ms frame.lead) (of.later (frame.from + slots_ahead) (omega arith)) ∙ of.leads)
 
-  -- a leader has executed no more than is owed
-  lead_owes : (frame : Frame) (a : Among frame (frames_of scenario)) → next (j.asking.groups frame a).r ≤ owed sys (owing_of scenario) rows + 1
-  lead_owes frame a =
-      let g = j.asking.groups frame a in
-      let fits = lead_fits frame a in
-      let n = j.asking.nodes frame.lead fits.0 fits.1 in
-      let here : replica_of frame.core.id n.node.replicas ≡ Some g.r = sym (replica_is words scenario rows frame.core.id frame.lead (Node n.node) (node_number words scenario stage frame.lead fits.0 fits.1) n.fact) ∙ g.there in
-      let leads = leading_at (IsBegun scenario rows) frame (stage.are frame a) n.node.me g.r n.me_is (n.calm.plain.replicas frame g.r a here) in
-      let runs = leads.1.leader.running in
-      let found = find_found (λ (r : ReplicaState). same_draw (name_of r) frame.core.id) n.node.replicas g.r here in
-      let one = one_of_sum replica_owes n.node.replicas g.r found.0 in
-      let all = one_of_sum (λ (seat : Seat Player). player_owes frames (value player_table seat rows)) (births as_nodes scenario) (nseat frame.lead) (node_born words scenario stage frame.lead fits.0 fits.1) in
-      let is = ap (player_owes frames) n.fact in
-      let mine = cond-true g.r.running (next g.r - 1) 0 runs in
-      omega (arith, one, all, is, mine)
+  lead_node : (frame : Frame) → Among frame (frames_of scenario) → is_node frame.lead ≡ true
+  lead_node frame a = (let fits = lead_fits frame a in node_number words scenario stage frame.lead fits.0 fits.1)
 
   room : AreFarFromLast scenario (plain_setting scenario) rows
   room frame me a =
       let g = j.asking.groups frame a in
       let low = g.between.low me in
-      let lead = lead_owes frame a in
+      let lead = j.slots frame a in
       let most = g.slots.most in
       let owes = j.owes in
-      let there = ap next_in g.there in
-      omega (arith, few, low, lead, most, owes, there)
+      omega (arith, few, low, lead, most, owes)
 
   -- ---- what a row sends and pays
 
   pub record RowPays (seat : Seat Player) (event : Event OrderLine) : Type 0 where
     pub more : IsMore (IsBegun scenario rows) (IsBegun scenario (rows ++ row_of player_table seat rows event ∷ []))
     pub said : Each (IsPlainMail (IsBegun scenario (rows ++ row_of player_table seat rows event ∷ [])) (frames_of scenario)) (row_of player_table seat rows event).sent
+    pub slots : (frame : Frame) → Among frame (frames_of scenario)
+        → next_in (replica_at scenario (rows ++ row_of player_table seat rows event ∷ []) frame.core.id frame.lead) ≤ next_in (replica_at scenario rows frame.core.id frame.lead) + 4 * cond (is_delivery event) 1 0
     pub paid : IsPaid (system_of as_nodes words scenario) stage.seats_apart (owing_of scenario) rows seat event
 
   -- ---- a node
@@ -123,6 +126,34 @@ module _ (words : ℕ → ℕ → ℕ × ℕ) (scenario : Scenario) (stage : IsS
           Turns (IsBegun scenario rows) (plain_setting scenario) fact here.node here.calm first.mail (nodes_of.to_me words scenario stage (plain_setting scenario) fact rows t j.asking room me one most born number fine)
           (nodes_of.not_client words scenario stage (plain_setting scenario) fact rows t j.asking room me one most born) (nodes_of.in_time words scenario stage (plain_setting scenario) fact rows t j.asking room me one most born number fine)
 
+      -- a leader executes at most four more slots
+      turn_slots : NodeRow (IsBegun scenario rows) frames fact.are fact.apart here.node first.mail (node_table here.node (Got first.mail)) → (frame : Frame) → Among frame (frames_of scenario)
+          → next_in (replica_at scenario (rows ++ row_of player_table (nseat me) rows (Deliver number) ∷ []) frame.core.id frame.lead) ≤ next_in (replica_at scenario rows frame.core.id frame.lead) + 4 * 1
+      turn_slots k frame a =
+          let r = row_of player_table (nseat me) rows (Deliver number) in
+          let after = node_table here.node (Got first.mail) in
+          let became = nodes_of.became words scenario stage (plain_setting scenario) fact rows t j.asking room me one most born number fine in
+          elim (cases_eq frame.lead me) [
+            | inr ne ↦ (let same = ap next_in (replica_others words scenario rows r frame.core.id frame.lead ne) in omega (arith, same))
+            | inl lead ↦ (
+                let was : next_in (replica_at scenario rows frame.core.id frame.lead) ≡ next_in (replica_of frame.core.id here.node.replicas) =
+                ap (λ who. next_in (replica_at scenario rows frame.core.id who)) lead ∙ ap next_in (replica_is words scenario rows frame.core.id me (Node here.node) (node_number words scenario stage me one most) here.fact) in
+                let is : next_in (replica_at scenario (rows ++ r ∷ []) frame.core.id frame.lead) ≡ next_in (replica_of frame.core.id after.0.replicas) =
+                ap (λ who. next_in (replica_at scenario (rows ++ r ∷ []) frame.core.id who)) lead ∙ ap next_in (replica_is words scenario (rows ++ r ∷ []) frame.core.id me (Node after.0) (node_number words scenario stage me one most) became) in
+                elim (cases_Bool (same_draw frame.core.id k.frame.core.id)) [
+                  | inl same ↦ (
+                      let name = draw_is frame.core.id k.frame.core.id same in
+                      let before : next_in (replica_of frame.core.id here.node.replicas) ≡ next k.r = ap (λ d. next_in (replica_of d here.node.replicas)) name ∙ ap next_in k.found in
+                      let now : next_in (replica_of frame.core.id after.0.replicas) ≡ next k.place.0 =
+                      ap (λ d. next_in (replica_of d after.0.replicas)) name ∙ ap next_in (found_after (IsBegun scenario rows) frames fact.are fact.apart here.node first.mail after here.calm.plain k) in
+                      let low = next_grows (IsBegun scenario rows) k.frame (fact.are k.frame k.is_frame) here.node.me k.r first.mail.from first.mail.body k.place k.row.response in
+                      omega (arith, was, is, before, now, low))
+                  | inr other ↦ (
+                      let stays = ap next_in (others_after (IsBegun scenario rows) frames fact.are fact.apart here.node first.mail after here.calm.plain k frame.core.id (λ e. both_ways (same_draw frame.core.id k.frame.core.id) other (same_name frame.core.id k.frame.core.id e))) in
+                      omega (arith, was, is, stays))
+                ])
+          ]
+
       -- a replica of a group takes the mail; none steps aside, since leaders alone are asked
       turn_pays : MailTurns → RowPays (nseat me) (Deliver number)
       turn_pays (inl k) =
@@ -134,11 +165,14 @@ module _ (words : ℕ → ℕ → ℕ × ℕ) (scenario : Scenario) (stage : IsS
             said = subst (Each (IsPlainMail (IsBegun scenario (rows ++ r ∷ [])) frames)) (sym sends)
                 (Each-weaker (IsPlainMail (IsBegun scenario rows) frames) (IsPlainMail (IsBegun scenario (rows ++ r ∷ [])) frames) (mail_more (IsBegun scenario rows) (IsBegun scenario (rows ++ r ∷ [])) (node_more (Deliver number)) frames) after.1
                 (node_said (IsBegun scenario rows) frames fact.are fact.apart here.node first.mail after here.calm.plain k));
+            slots = turn_slots k;
             paid = λ mail sent. (
                 let same : first.mail ≡ mail = (let e : Some first.mail ≡ Some mail = sym first.sent ∙ sent in cc) in
                 subst (λ m. 1 + owed_by (owing_of scenario) (player_table (value player_table (nseat me) rows) (Got m)) ≤ player_owes frames (value player_table (nseat me) rows) + mail_owes m) same
                 (subst (λ p. 1 + owed_by (owing_of scenario) (player_table p (Got first.mail)) ≤ player_owes frames p + mail_owes first.mail) (sym here.fact)
-                (node_owed (IsBegun scenario rows) frames fact.are fact.apart here.node first.mail after here.calm.plain k)));
+                (node_pays direct (λ group who. omega arith) (IsBegun scenario rows) frames fact.are fact.apart here.node first.mail here.calm.plain k (nodes_of.to_me words scenario stage (plain_setting scenario) fact rows t j.asking room me one most born number fine)
+                (here.calm.own k.frame.core.id k.r k.found) (nodes_of.in_time words scenario stage (plain_setting scenario) fact rows t j.asking room me one most born number fine k.frame k.r k.is_frame k.says k.found).0
+                (nodes_of.not_client words scenario stage (plain_setting scenario) fact rows t j.asking room me one most born))));
           }
       turn_pays (inr s) =
           let h = home_leads scenario s.group here.node.me s.home in
@@ -152,6 +186,10 @@ module _ (words : ℕ → ℕ → ℕ × ℕ) (scenario : Scenario) (stage : IsS
         record {
           more = node_more Go;
           said = subst (Each (IsPlainMail (IsBegun scenario (rows ++ row_of player_table (nseat me) rows Go ∷ [])) frames)) (sym (ap (λ (p : Player × List Mail). p.1) acted_go)) tt;
+          slots = λ frame a. (
+              let became = value_own rows (nseat me) Go ∙ ap (λ (p : Player × List Mail). p.0) acted_go in
+              let same = ap next_in (same_replicas words scenario rows me Go (Node here.node) (node_number words scenario stage me one most) here.fact became frame.core.id frame.lead) in
+              omega (arith, same));
           paid = subst (λ p. owed_by (owing_of scenario) (player_table p GoInput) ≤ player_owes frames p) (sym here.fact) (omega arith);
         }
 
@@ -162,40 +200,50 @@ module _ (words : ℕ → ℕ → ℕ × ℕ) (scenario : Scenario) (stage : IsS
 
   -- ---- a client
 
-  module _ (asks : Asks) (a : Among asks scenario.clients) (born : find (λ (other : Seat Player). eqb other.who (client_actor asks.client)) (births as_nodes scenario) ≡ Some (client_seat (route_of stage.first) asks)) where
+  module _ (asks : Asks) (a_ : Among asks scenario.clients) (born : find (λ (other : Seat Player). eqb other.who (client_actor asks.client)) (births as_nodes scenario) ≡ Some (client_seat (route_of stage.first) asks)) where
     abbrev c : IsAskingClient scenario (plain_setting scenario) stage.first rows asks
-    c = clients_of.c words scenario stage (plain_setting scenario) fact linked rows t j.asking asks a born
+    c = clients_of.c words scenario stage (plain_setting scenario) fact linked rows t j.asking asks a_ born
+
+    -- no leader is a client
+    client_slots : (event : Event OrderLine) (frame : Frame) → Among frame (frames_of scenario)
+        → next_in (replica_at scenario (rows ++ row_of player_table (cseat asks) rows event ∷ []) frame.core.id frame.lead) ≤ next_in (replica_at scenario rows frame.core.id frame.lead) + 4 * cond (is_delivery event) 1 0
+    client_slots event frame a =
+        let away : frame.lead ≡ client_actor asks.client → ⊥ = λ e. both_ways (is_node (client_actor asks.client)) (client_number words scenario stage asks a_) (ap is_node (sym e) ∙ lead_node frame a) in
+        let same = ap next_in (replica_others words scenario rows (row_of player_table (cseat asks) rows event) frame.core.id frame.lead away) in
+        omega (arith, same)
 
     client_takes : (number : ℕ) → kth (waiting (system_of as_nodes words scenario) rows (Some (client_actor asks.client))) 1 ≡ Some number → RowPays (cseat asks) (Deliver number)
     client_takes number fine =
-        let first = clients_of.first words scenario stage (plain_setting scenario) fact linked rows t j.asking asks a born number fine in
-        let is_calm = clients_of.is_calm words scenario stage (plain_setting scenario) fact linked rows t j.asking asks a born number fine in
-        let got_is = clients_of.got_is words scenario stage (plain_setting scenario) fact linked rows t j.asking asks a born number fine in
-        let got_more = clients_of.got_more words scenario stage (plain_setting scenario) fact linked rows t j.asking asks a born number fine in
-        let took = clients_of.took words scenario stage (plain_setting scenario) fact linked rows t j.asking asks a born number fine in
+        let first = clients_of.first words scenario stage (plain_setting scenario) fact linked rows t j.asking asks a_ born number fine in
+        let is_calm = clients_of.is_calm words scenario stage (plain_setting scenario) fact linked rows t j.asking asks a_ born number fine in
+        let got_is = clients_of.got_is words scenario stage (plain_setting scenario) fact linked rows t j.asking asks a_ born number fine in
+        let got_more = clients_of.got_more words scenario stage (plain_setting scenario) fact linked rows t j.asking asks a_ born number fine in
+        let took = clients_of.took words scenario stage (plain_setting scenario) fact linked rows t j.asking asks a_ born number fine in
         let now : Requests = IsBegun scenario (rows ++ row_of player_table (cseat asks) rows (Deliver number) ∷ []) in
         record {
-          more = clients_of.more words scenario stage (plain_setting scenario) fact linked rows t j.asking asks a born (Deliver number) fine (table c.client (Got first.mail)) got_is got_more;
+          more = clients_of.more words scenario stage (plain_setting scenario) fact linked rows t j.asking asks a_ born (Deliver number) fine (table c.client (Got first.mail)) got_is got_more;
           said = subst (Each (IsPlainMail now frames)) (sym (ap (λ (p : Player × List Mail). p.1) got_is)) (said_plain now scenario c.client (Got first.mail) took.0.1);
+          slots = client_slots (Deliver number);
           paid = λ mail sent. (
               let same : first.mail ≡ mail = (let e : Some first.mail ≡ Some mail = sym first.sent ∙ sent in cc) in
               subst (λ m. 1 + owed_by (owing_of scenario) (player_table (value player_table (cseat asks) rows) (Got m)) ≤ player_owes frames (value player_table (cseat asks) rows) + mail_owes m) same
               (subst (λ p. 1 + owed_by (owing_of scenario) (player_table p (Got first.mail)) ≤ player_owes frames p + mail_owes first.mail) (sym c.fact)
               (takes_paid scenario stage linked (IsBegun scenario rows) asks (has_started rows (client_actor asks.client)) c.client first.mail c.calm is_calm (first.receiver ∙ ap client_actor (sym c.calm.me_is))
-              (begun_right scenario rows stage.once asks a c.client c.calm.me_is c.calm.requests_are))));
+              (begun_right scenario rows stage.once asks a_ c.client c.calm.me_is c.calm.requests_are))));
         }
 
     client_starts : has_started rows (client_actor asks.client) ≡ false → RowPays (cseat asks) Go
     client_starts fine =
-        let go_is = clients_of.go_is words scenario stage (plain_setting scenario) fact linked rows t j.asking asks a born fine in
-        let go_more = clients_of.go_more words scenario stage (plain_setting scenario) fact linked rows t j.asking asks a born fine in
-        let went = clients_of.went words scenario stage (plain_setting scenario) fact linked rows t j.asking asks a born fine in
+        let go_is = clients_of.go_is words scenario stage (plain_setting scenario) fact linked rows t j.asking asks a_ born fine in
+        let go_more = clients_of.go_more words scenario stage (plain_setting scenario) fact linked rows t j.asking asks a_ born fine in
+        let went = clients_of.went words scenario stage (plain_setting scenario) fact linked rows t j.asking asks a_ born fine in
         let now : Requests = IsBegun scenario (rows ++ row_of player_table (cseat asks) rows Go ∷ []) in
         record {
-          more = clients_of.more words scenario stage (plain_setting scenario) fact linked rows t j.asking asks a born Go fine (table c.client GoInput) go_is go_more;
+          more = clients_of.more words scenario stage (plain_setting scenario) fact linked rows t j.asking asks a_ born Go fine (table c.client GoInput) go_is go_more;
           said = subst (Each (IsPlainMail now frames)) (sym (ap (λ (p : Player × List Mail). p.1) go_is)) (said_plain now scenario c.client GoInput went.0.1);
+          slots = client_slots Go;
           paid = subst (λ p. owed_by (owing_of scenario) (player_table p GoInput) ≤ player_owes frames p) (sym c.fact)
-              (go_paid scenario stage linked asks c.client (clients_of.fresh words scenario stage (plain_setting scenario) fact linked rows t j.asking asks a born fine));
+              (go_paid scenario stage linked asks c.client (clients_of.fresh words scenario stage (plain_setting scenario) fact linked rows t j.asking asks a_ born fine));
         }
 
     client_pays : (event : Event OrderLine) → IsInOrder sys rows (client_actor asks.client) event → RowPays (cseat asks) event
@@ -227,5 +275,10 @@ module _ (words : ℕ → ℕ → ℕ × ℕ) (scenario : Scenario) (stage : IsS
       subst (λ (x : Row Mail OrderLine). IsPlainJournal words scenario stage (rows ++ x ∷ [])) (sym o.row_is) (record {
         asking = subst (λ (x : Row Mail OrderLine). IsAsking words scenario (plain_setting scenario) stage.first (rows ++ x ∷ [])) o.row_is calm;
         sent = subst (Each now) (sym (mails-snoc rows r)) (Each-append now (mails rows) r.sent (Each-weaker was now (mail_more (IsBegun scenario rows) (IsBegun scenario (rows ++ r ∷ [])) pay.more frames) (mails rows) j.sent) pay.said);
+        slots = λ frame a. (
+            let count = count_push (λ (x : Row Mail OrderLine). is_delivery x.event) rows r (is_delivery o.event) refl in
+            let low = j.slots frame a in
+            let more = pay.slots frame a in
+            omega (arith, count, low, more));
         owes = omega (arith, paid, owes);
       })
