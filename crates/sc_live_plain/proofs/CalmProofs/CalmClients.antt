@@ -7,7 +7,7 @@ use Rattle.std.proofs.lemmas.Bool.{cond_both, cond-true, eqb-true, leb-true, leb
 use Rattle.std.proofs.lemmas.List.{length_push, length-map, length-take-le}
 use Rattle.std.proofs.lemmas.Option.{slice_get-get_or, slice_get_within}
 use Rattle.sc_base.specs.Definitions.{Among, Each, Arc, end_of, client_actor, key_of, same_draw, pos_of}
-use Rattle.sc_node_table.specs.Values.{Draw, Op, Get, Reply, Got, Link, Route, AnswerBody, Value, NotLeader, NotMine, Gone, Stale, Mail, MailBody, Answer}
+use Rattle.sc_node_table.specs.Values.{Draw, Op, Get, Reply, Got, Link, Route, AnswerBody, Value, NotLeader, NotMine, Gone, Stale, Mail, MailBody, Request, Answer}
 use Rattle.sc_base.proofs.Lemmas.{draw_is, same_name}
 use Rattle.sc_words.specs.ideal.IdealDefinitions.{holds_key}
 use Rattle.sc_actor.specs.declared.rows.Input.TheVariants.{Go}
