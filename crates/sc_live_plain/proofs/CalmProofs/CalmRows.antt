@@ -122,7 +122,7 @@ module _ (begun : Requests) (frame : Frame) (fact : IsFrame frame) where
 
 module _ (ways : Ways) (bounded : AreBounded ways) (begun : Requests) (frames : List Frame) (are : (frame : Frame) → Among frame frames → IsFrame frame) (apart : AreNamedApart frames) (node : NodeState) (mail : Mail) (n : IsPlainNode begun frames node)
     (k : NodeRow begun frames are apart node mail (node_table node (Got mail))) (to : mail.to ≡ node.me) (own : k.r.me ≡ node.me) (due : IsDue k.r mail.body) (not_client : (client seq : ℕ) (op : Op) → begun client seq op → node.me ≡ client_actor client → ⊥) where
-  frame_is : IsFrame k.frame
+  abbrev frame_is : IsFrame k.frame
   frame_is = are k.frame k.is_frame
 
   says : IsPlainBody begun k.frame mail.from node.me mail.body

@@ -3,7 +3,7 @@ use Rattle.sc_live_plain.proofs.PlainRowsProofs.Lists.{at_zero}
 use Rattle.std.proofs.Common.{◌≡◌, ℕ, ◌+◌, ◌≤◌, eqb, Bool, true, false, cond, List, [], ◌∷◌, ◌++◌, map, drop, find, Some, ◌⊎◌, inl, inr, refl, sym, ◌∙◌, ap, subst, arith}
 use Rattle.std.proofs.lemmas.Bool.{cases_eq, both_ways}
 use Rattle.sc_base.specs.Definitions.{Among, Each, client_actor, is_member}
-use Rattle.sc_node_table.specs.Values.{Draw, Base, OrderLine, Mail, MailBody, Request, Accept, Accepted, Learn, Seat, Row, Event, Deliver, Go, Got, Client}
+use Rattle.sc_node_table.specs.Values.{Draw, Base, OrderLine, Mail, MailBody, Request, Answer, Accept, Accepted, Learn, Seat, Row, Event, Deliver, Go, Got, Client}
 use Rattle.sc_actor.specs.declared.rows.Input.TheVariants.{Go as GoInput}
 use Rattle.sc_actor.specs.Definitions.{mails, is_delivery, value, acted, input_of, System, row_of, has_started, waiting, kth}
 use Rattle.sc_node_table.specs.NodeDefinitions.{is_node, slots_ahead}

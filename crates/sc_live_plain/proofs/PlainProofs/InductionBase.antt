@@ -133,11 +133,14 @@ born_is groups group node r e =
     record { base = b.0; among = b.1; member = b.2; named = sym (ap name_of b.3) ∙ draw_is (name_of r) group f.1; fact = b.3 }
 
 -- none owes anything
+born_owes : (me : ℕ) (base : Base) → replica_owes 0 (born_replica slots_ahead me base) ≡ 0
+born_owes me base = refl
+
 none_owed : (me : ℕ) (groups : List Base) → sum_by (replica_owes 0) (born_replicas slots_ahead me groups) ≡ 0
 none_owed me [] = refl
 none_owed me (b ∷ groups) =
     cond_both (is_member b.core.members me) (b ∷ filter (λ x. is_member x.core.members me) groups) (filter (λ x. is_member x.core.members me) groups) (λ l. sum_by (replica_owes 0) (map (λ y. born_replica slots_ahead me y) l) ≡ 0)
-    (λ _. (let rest = none_owed me groups in let sum = sum_by-cons (replica_owes 0) (born_replica slots_ahead me b) (born_replicas slots_ahead me groups) in omega (arith, rest, sum)))
+    (λ _. (let one = born_owes me b in let rest = none_owed me groups in let sum = sum_by-cons (replica_owes 0) (born_replica slots_ahead me b) (born_replicas slots_ahead me groups) in omega (arith, one, rest, sum)))
     (λ _. none_owed me groups)
 
 -- ---- what is owed at birth

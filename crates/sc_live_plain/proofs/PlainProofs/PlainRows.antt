@@ -193,10 +193,10 @@ module _ (words : ℕ → ℕ → ℕ × ℕ) (scenario : Scenario) (stage : IsS
           paid = subst (λ p. owed_by (owing_of scenario) (player_table p GoInput) ≤ player_owes frames p) (sym here.fact) (omega arith);
         }
 
-    node_pays : (event : Event OrderLine) → IsInOrder sys rows me event → RowPays (nseat me) event
-    node_pays (Deliver number) fine = turn_pays number fine (nodes_of.turn words scenario stage (plain_setting scenario) fact rows t j.asking room me one most born number fine)
-    node_pays Go fine = node_starts
-    node_pays _ fine = absurd fine
+    node_row_pays : (event : Event OrderLine) → IsInOrder sys rows me event → RowPays (nseat me) event
+    node_row_pays (Deliver number) fine = turn_pays number fine (nodes_of.turn words scenario stage (plain_setting scenario) fact rows t j.asking room me one most born number fine)
+    node_row_pays Go fine = node_starts
+    node_row_pays _ fine = absurd fine
 
   -- ---- a client
 
@@ -246,10 +246,10 @@ module _ (words : ℕ → ℕ → ℕ × ℕ) (scenario : Scenario) (stage : IsS
               (go_paid scenario stage linked asks c.client (clients_of.fresh words scenario stage (plain_setting scenario) fact linked rows t j.asking asks a_ born fine));
         }
 
-    client_pays : (event : Event OrderLine) → IsInOrder sys rows (client_actor asks.client) event → RowPays (cseat asks) event
-    client_pays (Deliver number) fine = client_takes number fine
-    client_pays Go fine = client_starts fine
-    client_pays _ fine = absurd fine
+    client_row_pays : (event : Event OrderLine) → IsInOrder sys rows (client_actor asks.client) event → RowPays (cseat asks) event
+    client_row_pays (Deliver number) fine = client_takes number fine
+    client_row_pays Go fine = client_starts fine
+    client_row_pays _ fine = absurd fine
 
   -- ---- each row that comes in order
 
@@ -257,10 +257,10 @@ module _ (words : ℕ → ℕ → ℕ × ℕ) (scenario : Scenario) (stage : IsS
   row_pays row o = elim (of_player words scenario stage rows row o) [
     | inl n ↦ (
         let born = subst (λ (seat : Seat Player). find (λ (other : Seat Player). eqb other.who seat.who) (births as_nodes scenario) ≡ Some seat) n.seat_is o.born in
-        subst (λ (seat : Seat Player). RowPays seat o.event) (sym n.seat_is) (node_pays n.me n.one n.most born o.event (subst (λ (seat : Seat Player). IsInOrder sys rows seat.who o.event) n.seat_is o.in_order)))
+        subst (λ (seat : Seat Player). RowPays seat o.event) (sym n.seat_is) (node_row_pays n.me n.one n.most born o.event (subst (λ (seat : Seat Player). IsInOrder sys rows seat.who o.event) n.seat_is o.in_order)))
     | inr d ↦ (
         let born = subst (λ (seat : Seat Player). find (λ (other : Seat Player). eqb other.who seat.who) (births as_nodes scenario) ≡ Some seat) d.seat_is o.born in
-        subst (λ (seat : Seat Player). RowPays seat o.event) (sym d.seat_is) (client_pays d.asks d.is_asks born o.event (subst (λ (seat : Seat Player). IsInOrder sys rows seat.who o.event) d.seat_is o.in_order)))
+        subst (λ (seat : Seat Player). RowPays seat o.event) (sym d.seat_is) (client_row_pays d.asks d.is_asks born o.event (subst (λ (seat : Seat Player). IsInOrder sys rows seat.who o.event) d.seat_is o.in_order)))
   ]
 
   pub plain_row : (row : Row Mail OrderLine) → IsOrderly (system_of as_nodes words scenario) rows row → IsPlainJournal words scenario stage (rows ++ row ∷ [])
