@@ -1,5 +1,5 @@
 -- What a node finds in the mail of requests.
-use Rattle.std.proofs.Common.{◌≡◌, ℕ, [], Option, Some, None, inl, inr, refl, sym, ◌∙◌, ap, subst, arith}
+use Rattle.std.proofs.Common.{◌≡◌, ℕ, Option, Some, None, inl, inr, refl, sym, ◌∙◌, ap, subst, arith}
 use Rattle.sc_base.specs.Definitions.{Each, client_actor, same_draw}
 use Rattle.sc_node_table.specs.Values.{Draw, Op, Route, Mail, MailBody, Request}
 use Rattle.sc_base.proofs.Lemmas.{draw_is}
