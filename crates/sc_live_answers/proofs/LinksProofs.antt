@@ -1,5 +1,4 @@
 pub mod Arcs
-pub mod RingCycles
 pub mod FittingGroups
 pub mod LinkEffects
 pub mod LinkOutcomes

@@ -13,7 +13,7 @@ use Rattle.sc_client_table.specs.declared.lookup.ways.Way.{Way}
 use Rattle.sc_client_table.specs.lookup.LookupDefinitions.{KnownGroups, way_to, learnt_from_not_mine, learnt_from_gone, changed, target_of}
 use Rattle.sc_client_table.proofs.LookupProofs.KnownLemmas.{set_value-known, length-changed, some_learnt}
 use Rattle.sc_client_table.specs.table.TableDefinitions.{Client, request_at, waiting_request, ClientStep, asked_of, sent_to, sent_where, chosen_for, request_sent, started, was_asked, redirected, answer_taken, request_of, turned_on}
-use Rattle.sc_live_plain.proofs.PlainProofs.PlainKnownGroups.{one_chosen, chosen_is}
+use Rattle.sc_live_plain.proofs.PlainLemmas.{one_chosen, chosen_is}
 use Rattle.sc_law_walks.proofs.WalkLemmas.{some_there}
 use Rattle.sc_live_healed.specs.AskingClients.{IsAskingOn, IsAskingClient}
 

@@ -16,7 +16,7 @@ use Rattle.sc_scenario.specs.declared.scenario.scenarios.Scenario.{Scenario}
 use Rattle.sc_client_table.specs.table.TableDefinitions.{Client as ClientState, table, request_at, InTurn, SendsWaiting, Waits, Begins, TakesReply}
 use Rattle.sc_client_table.proofs.TableProofs.TurnLemmas.{sends_in_turn}
 use Rattle.sc_meaning.specs.sound.SoundDefinitions.{Lawful, Player, as_nodes, births, player_table, schedule, system_of, issues, asks_for, issued_from}
-use Rattle.sc_live_plain.specs.PlainDefinitions.{begun_ones, waiting_ones}
+use Rattle.sc_live_plain.specs.PlainDefinitions.{begun_ones, waiting_one}
 use Rattle.sc_live_healed.proofs.SeatBirths.{seat_born}
 use Rattle.sc_live_healed.proofs.FixedJournals.{Rows, IsOf}
 use Rattle.sc_live_healed.specs.AskingClients.{IsAskingClient}
@@ -38,14 +38,14 @@ IsAskingPlayer rows who (Client client) = IsAskingAt rows who client
 begun_grows : (before after : ClientState) (input : Input Mail OrderLine) (sent : List Mail) (started_ : Bool) → InTurn before after input sent → (is_start input ≡ true → started_ ≡ false) → IsAskingClient started_ before → begun_ones before ≤ begun_ones after
 begun_grows before after input sent started_ t once k = by t.moves
   where
-    waits_so : (o : Option ℕ) → waiting_ones o ≤ 1
+    waits_so : (o : Option ℕ) → waiting_one o ≤ 1
     waits_so None = omega arith
     waits_so (Some seq) = omega arith
 
     by : Waits before after ⊎ Begins before after input ⊎ TakesReply before after input → begun_ones before ≤ begun_ones after
-    by (inl w) = (let n = ap waiting_ones w.number in let r = ap (λ l. length l) w.replies in omega (arith, n, r))
+    by (inl w) = (let n = ap waiting_one w.number in let r = ap (λ l. length l) w.replies in omega (arith, n, r))
     by (inr (inl b)) = elim (k.state) [
-      | inl r ↦ (let none = ap waiting_ones r.waits in let same = ap (λ l. length l) b.replies in omega (arith, none, same))
+      | inl r ↦ (let none = ap waiting_one r.waits in let same = ap (λ l. length l) b.replies in omega (arith, none, same))
       | inr a ↦ absurd (true≢false (sym a.0 ∙ once (ap is_start b.go)))
     ]
     by (inr (inr r)) = (let most = waits_so before.waiting in let more = ap (λ l. length l) r.replies in let longer = length_push before.replies r.reply in omega (arith, most, more, longer))
@@ -61,7 +61,7 @@ sent_begun after sent started_ (inr (group, target, request, waits, fact)) k seq
           let asked : asks_for after.me seq (Request group after.me request.0 request.1) || false ≡ true = sym (ap (λ ms. list_any (λ (mail : Mail). asks_for after.me seq mail.body) ms) fact) ∙ e in
           let same : request.0 ≡ seq = eqb-true request.0 seq (and_parts (eqb after.me after.me) (eqb request.0 seq) (alone (asks_for after.me seq (Request group after.me request.0 request.1)) asked)).1 in
           let replies = a.1.number in
-          let one = ap waiting_ones a.1.waits in
+          let one = ap waiting_one a.1.waits in
           omega (arith, number, same, replies, one))
     ]
   where

@@ -12,7 +12,7 @@ use Rattle.sc_scenario.specs.scenario.Definitions.{IsBounded}
 use Rattle.sc_meaning.specs.sound.SoundDefinitions.{Player, Lawful, as_nodes, player_table, schedule, system_of, issues}
 use Rattle.sc_live_orderly.specs.OrderlyDefinitions.{TakesLowest, AreDelivered}
 use Rattle.sc_live_orderly.proofs.PendingMail.{takes_lowest}
-use Rattle.sc_live_plain.specs.PlainDefinitions.{waiting_ones}
+use Rattle.sc_live_plain.specs.PlainDefinitions.{waiting_one}
 use Rattle.sc_live_healed.specs.HealedDefinitions.{IsAskingOn}
 use Rattle.sc_live_healed.proofs.FixedJournals.{Rows, IsOf, IsFixedJournal, AreWithoutOrders, untold_prefix}
 use Rattle.sc_live_healed.proofs.TakenJournals.{IsTakenJournal, journal_taken}
@@ -47,7 +47,7 @@ module _ (words : ℕ → ℕ → ℕ × ℕ) (scenario : Scenario) (bounded : I
         let me_is : asks.me ≡ client = (let one = asking.number in let two = number in omega (arith, one, two)) in
         let low = asking.few seq (ap (λ n. list_any (issues n seq) rows) me_is ∙ e) in
         let replies = a.number in
-        let one = ap waiting_ones a.waits in
+        let one = ap waiting_one a.waits in
         omega (arith, low, replies, one)
 
     module _ (rows : Rows) (row : Row Mail OrderLine) (t : TakesLowest (S words scenario bounded) rows row) (k : Frames client rows) (fixed_then : IsFixedJournal scenario (rows ++ row ∷ [])) where

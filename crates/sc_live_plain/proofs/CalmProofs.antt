@@ -1,8 +1,11 @@
 pub mod QuietFrames
 pub mod KnownGroups
+pub mod RingCycles
+pub mod GroupsRoundRing
 pub mod CalmRows
 pub mod CalmNodes
 pub mod ChosenGroups
+pub mod AskedGroups
 pub mod CalmClients
 pub mod MoreCalmRequests
 pub mod RequestPhaseNodes

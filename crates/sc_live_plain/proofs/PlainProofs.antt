@@ -1,7 +1,6 @@
 pub mod SpacedOrders
 pub mod PlainJournals
 pub mod ActingClients
-pub mod PlainClientRows
 pub mod PlainRows
 pub mod PlainSteps
 pub mod BegunRequestCounts
@@ -9,7 +8,7 @@ pub mod PlainInduction
 pub mod MorePlainRequests
 pub mod PlainBeginnings
 pub mod AnsweredPlainRequests
-pub mod PlainKnownGroups
-pub mod PlainClients
+pub mod PlainClientPotential
+pub mod PlainSetting
 pub mod GroupCircle
 pub mod InductionBase

@@ -10,7 +10,6 @@ pub mod RowViews
 pub mod SlotCounts
 pub mod RepeatedMail
 pub mod PlainAcceptAndLearnRows
-pub mod Replicas
 pub mod ReplicaRows
 pub mod NodeRows
 pub mod NodeSeats

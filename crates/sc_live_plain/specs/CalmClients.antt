@@ -1,18 +1,16 @@
 -- Clients while they ask alone, between two orders of a calm journal.
-use Rattle.std.specs.Prelude.{◌≡◌, ℕ, ◌-◌, ◌<◌, ◌≤◌, Bool, true, false, List, [], ◌∷◌, length, slice_get, Some, ◌⊎◌}
-use Rattle.sc_base.specs.Definitions.{Among, Each, client_actor, least_of}
-use Rattle.sc_node_table.specs.Values.{Draw, Op, Got, Row, Route, OrderLine, Mail}
-use Rattle.sc_actor.specs.declared.rows.Input.TheVariants.{Go}
+use Rattle.std.specs.Prelude.{◌≡◌, ℕ, ◌-◌, ◌<◌, ◌≤◌, Bool, true, List, [], ◌∷◌, length, slice_get, Some, ◌⊎◌}
+use Rattle.sc_base.specs.Definitions.{Among, Each, least_of}
+use Rattle.sc_node_table.specs.Values.{Draw, Op, Route}
 use Rattle.sc_client_table.specs.lookup.LookupDefinitions.{KnownGroups, target_of}
 use Rattle.sc_client_table.specs.declared.lookup.ways.Way.{Way}
-use Rattle.sc_client_table.specs.table.TableDefinitions.{Client as ClientState, ClientStep, table}
+use Rattle.sc_client_table.specs.table.TableDefinitions.{Client as ClientState, ClientStep}
 use Rattle.sc_scenario.specs.declared.scenario.scenarios.Asks.{Asks}
-use Rattle.sc_scenario.specs.declared.scenario.scenarios.Scenario.{Scenario}
 use Rattle.sc_live_plain.specs.KnownGroups.{AreRoundRing, KnowsFirst}
-use Rattle.sc_live_plain.specs.CalmNodes.{Setting, IsHome, HasGoneTo, IsSetting, IsCalmMail}
+use Rattle.sc_live_plain.specs.CalmNodes.{Setting, IsHome, HasGoneTo, IsCalmMail}
 use Rattle.sc_live_plain.specs.Frames.{Frame}
 use Rattle.sc_live_plain.specs.PlainPotential.{begun_ones}
-use Rattle.sc_live_plain.specs.PlainClients.{IsWaiting, IsResting, IsBegun}
+use Rattle.sc_live_plain.specs.PlainClients.{IsWaiting, IsResting}
 use Rattle.sc_live_plain.specs.PlainMail.{Requests}
 
 -- these groups that stand are the whole ring, each followed by the next, from one of them on
@@ -57,12 +55,3 @@ BeginsBy begun client step = (n : ℕ) (op : Op) → 1 ≤ n → slice_get clien
 -- after its step a client is as `IsCalmClient` says, and the mail that it sends is as `IsCalmMail` says
 abbrev pub StaysCalm : Requests → Setting → Asks → Bool → ClientStep → Type 0
 StaysCalm begun set asks gone step = IsCalmClient set asks gone step.0 × Each (IsCalmMail begun set) step.1
-
--- clients stay as `IsCalmClient` says, where they start and where they take mail
-pub record ClientsStayCalm : Type 0 where
-  pub go : (scenario : Scenario) (rows : List (Row Mail OrderLine)) (set : Setting) (asks : Asks) (client : ClientState) → IsCalmClient set asks false client
-      → BeginsBy (IsBegun scenario rows) client (table client Go) → StaysCalm (IsBegun scenario rows) set asks true (table client Go)
-  pub takes : (scenario : Scenario) (rows later : List (Row Mail OrderLine)) (set : Setting) (asks : Asks) (gone : Bool) (client : ClientState) (mail : Mail) → IsSetting set → IsLinkedSetting set
-      → IsCalmClient set asks gone client → IsCalmMail (IsBegun scenario rows) set mail → mail.to ≡ client_actor client.me
-      → ((seq : ℕ) (op : Op) → IsBegun scenario rows client.me seq op → slice_get client.requests (seq - 1) ≡ Some op) → ((c n : ℕ) (op : Op) → IsBegun scenario rows c n op → IsBegun scenario later c n op)
-      → BeginsBy (IsBegun scenario later) client (table client (Got mail)) → StaysCalm (IsBegun scenario later) set asks gone (table client (Got mail))

@@ -11,7 +11,6 @@ pub mod CalmBudget
 pub mod CalmClients
 pub mod KnownGroups
 pub mod CalmNodes
-pub mod CalmRows
 pub mod Frames
 pub mod PlainLaws
 pub mod PlainPotential

@@ -1,20 +1,14 @@
--- What holds of each client of a plain journal, and which requests are begun.
-use Rattle.std.specs.Prelude.{◌≡◌, ℕ, ◌+◌, ◌-◌, ◌≤◌, Bool, true, false, List, [], ◌∷◌, length, map, take, slice_get, Some, None, ◌⊎◌}
+-- What it is for a client to wait or to rest, and which requests are begun.
+use Rattle.std.specs.Prelude.{◌≡◌, ℕ, ◌+◌, ◌-◌, ◌≤◌, Bool, true, false, List, [], ◌∷◌, length, slice_get, Some, None, ◌⊎◌}
 use Rattle.sc_base.specs.Definitions.{Among, key_of, pos_of}
 use Rattle.sc_node_table.specs.Values.{Draw, Op, Base, OrderLine, Mail, Row, Node, Client}
 use Rattle.sc_actor.specs.Definitions.{value}
-use Rattle.sc_client_table.specs.declared.lookup.ways.Way.{Way}
-use Rattle.sc_client_table.specs.lookup.LookupDefinitions.{chosen, target_in, new_way}
+use Rattle.sc_client_table.specs.lookup.LookupDefinitions.{chosen, target_in}
 use Rattle.sc_client_table.specs.table.TableDefinitions.{Client as ClientState}
 use Rattle.sc_scenario.specs.declared.scenario.scenarios.Asks.{Asks}
 use Rattle.sc_scenario.specs.declared.scenario.scenarios.Scenario.{Scenario}
 use Rattle.sc_meaning.specs.sound.SoundDefinitions.{Player, player_table, client_seat, route_of}
-use Rattle.sc_live_plain.specs.Frames.{Frame}
 use Rattle.sc_live_plain.specs.PlainPotential.{begun_ones}
-
--- what a client knows of a group when it hears of it: the name, and the way to it by where its arc begins and by its members
-abbrev pub way_of : Frame → Draw × Way
-way_of frame = (frame.core.id, new_way frame.core.arc.lo frame.core.members)
 
 -- a client waits for an answer to the request after those that are answered; it asked the group that it chooses for the request's key, at the node that it takes for its leader
 pub record IsWaiting (client : ClientState) : Type 0 where
@@ -33,16 +27,6 @@ pub record IsWaiting (client : ClientState) : Type 0 where
 pub record IsResting (gone : Bool) (client : ClientState) : Type 0 where
   pub waits : client.waiting ≡ None
   pub replies : ((gone ≡ false) × (client.replies ≡ [])) ⊎ ((gone ≡ true) × (length client.replies ≡ length client.requests))
-
--- a client of a plain journal, which has started or not: it has its scenario's requests, and knows the first `reached` groups of the list of frames, as they were at birth
-pub record IsPlainClient (frames : List Frame) (asks : Asks) (gone : Bool) (client : ClientState) : Type 0 where
-  pub me_is : client.me ≡ asks.client
-  pub requests_are : client.requests ≡ asks.ops
-  pub reached : ℕ
-  pub some : 1 ≤ reached
-  pub low : reached ≤ length frames
-  pub known_are : client.known ≡ take reached (map way_of frames)
-  pub state : IsResting gone client ⊎ ((gone ≡ true) × IsWaiting client)
 
 -- how many requests a player has begun: a node none, a client as `begun_ones` says
 abbrev pub begun_of : Player → ℕ

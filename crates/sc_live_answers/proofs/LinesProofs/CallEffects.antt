@@ -151,7 +151,7 @@ module _ (begun : Requests) (frame : Frame) (fact : IsFrame frame) (first : Repl
   entries_go : (command : Command) (place : Place) → O (Some command) → F place → F (executed_one true command place)
   entries_go command (r, mails) o g =
       let plain = o command refl in
-      let c = call_is begun frame fact 0 0 [] 0 (λ x y. ⊥) command plain in
+      let c = call_is begun frame fact 0 0 [] (λ x y. ⊥) command plain in
       subst (λ (x : Command). F (executed_one true x (r, mails))) (sym c.3) (entry_goes r mails c.0 c.1 c.2 (subst (IsPlainCommand begun frame) c.3 plain) g)
 
   -- all that is executed at once, with what is offered then

@@ -73,7 +73,7 @@ module _ (words : ℕ → ℕ → ℕ × ℕ) (scenario : Scenario) (begins : Is
         leader_idle (IsBegun scenario rows) frame frame_is g.r leads.1 (λ slot voters e node m. counted slot voters node m (g.between.votes slot voters (ap (λ o. votes_in o slot) g.there ∙ e) node m)) client seq held
 
     queued_number : (command : Command) → IsPlainCommand (IsBegun scenario rows) frame command → (client : ℕ) × (seq : ℕ) × (op : _) × (command ≡ Call client seq op)
-    queued_number command p = call_is (IsBegun scenario rows) frame frame_is 0 0 [] 0 (λ x y. ⊥) command p
+    queued_number command p = call_is (IsBegun scenario rows) frame frame_is 0 0 [] (λ x y. ⊥) command p
 
     no_calls : (backlog : List Command) → g.r.backlog ≡ backlog → backlog ≡ []
     no_calls [] e = refl

@@ -72,7 +72,7 @@ module _ (c : ℕ) (begun : Requests) (frame : Frame) (fact : IsFrame frame) (fi
 
   one_on : (command : Command) (place : Place) → IsPlainCommand begun frame command → at_slot place.0.ready (next place.0) ≡ Some command → Holds place → Holds (executed_one true command place)
   one_on command (r, mails) plain at h =
-      let k = call_is begun frame fact 0 0 [] 0 (λ x y. ⊥) command plain in
+      let k = call_is begun frame fact 0 0 [] (λ x y. ⊥) command plain in
       subst (λ (x : Command). Holds (executed_one true x (r, mails))) (sym k.3) (one_call r mails k.0 k.1 k.2 (subst (IsPlainCommand begun frame) k.3 plain) (at ∙ ap Some k.3) h)
 
   plain_at : (place : Place) (command : Command) → Holds place → at_slot place.0.ready (next place.0) ≡ Some command → IsPlainCommand begun frame command
@@ -178,7 +178,7 @@ module _ (c : ℕ) (begun : Requests) (frame : Frame) (fact : IsFrame frame) (me
   stay_row (Accepted group ballot slot) k b due n = (let leads_ = leading_at begun frame fact me r b.2 k in by_vote group ballot slot leads_.1.taken leads_.0 leads_.1.leader)
   stay_row (Accept group ballot slot command) k b due n = subst (λ (x : Ballot). Stay (Accept group x slot command)) (sym b.1) (by_accept group slot command k b.2.to_in due)
   stay_row (Learn group slot command) k b due n =
-      let x = call_is begun frame fact 0 0 [] 0 (λ x y. ⊥) command b.1.is_call in
+      let x = call_is begun frame fact 0 0 [] (λ x y. ⊥) command b.1.is_call in
       let plain : IsPlainCall begun frame x.0 x.1 x.2 = subst (IsPlainCommand begun frame) x.3 b.1.is_call in
       let follows = following_at begun frame fact me r b.1.to_in b.1.other k in
       subst (λ (y : Command). Stay (Learn group slot y)) (sym x.3) (by_learn group slot x.0 x.1 x.2 follows.0 follows.1 plain due)

@@ -1,14 +1,13 @@
 -- Before the first row of a valid scenario all is quiet.
-use Rattle.std.proofs.Common.{◌≡◌, ℕ, Bool, true, false, true≢false, cond, List, [], ◌∷◌, ◌++◌, map, filter, replicate, Some, None, inl, inr, refl, sym, ◌∙◌, ap, subst, arith}
-use Rattle.std.proofs.lemmas.Bool.{cond_both, cond-true, eqb-true, eq-eqb}
-use Rattle.sc_base.specs.Definitions.{Among, Each, same_draw, is_member, least_of}
+use Rattle.std.proofs.Common.{◌≡◌, ℕ, Bool, true, false, true≢false, cond, List, [], ◌∷◌, map, replicate, Some, None, inl, inr, refl, sym, ◌∙◌, ap, subst, arith}
+use Rattle.std.proofs.lemmas.Bool.{cond-true, eqb-true, eq-eqb}
+use Rattle.sc_base.specs.Definitions.{Among, Each, is_member, least_of}
 use Rattle.sc_node_table.specs.Values.{Draw, Base, Core}
-use Rattle.sc_base.proofs.Lemmas.{draw_is}
 use Rattle.sc_client_table.specs.table.TableDefinitions.{Client as ClientState, born_client}
-use Rattle.sc_words.proofs.PaxosProofs.PaxosLemmas.{at_least_itself, Each-among, find_found}
+use Rattle.sc_words.proofs.PaxosProofs.PaxosLemmas.{at_least_itself}
 use Rattle.sc_paxos_law.proofs.Lemmas.{from_map}
 use Rattle.sc_group_table.specs.machine.MachineDefinitions.{group_of}
-use Rattle.sc_node_table.specs.NodeDefinitions.{born_replicas, born_node, replica_of, is_node, ReplicaState, name_of, next, members, first_ballot, born_replica, slots_ahead}
+use Rattle.sc_node_table.specs.NodeDefinitions.{born_replicas, born_node, replica_of, is_node, ReplicaState, next, members, first_ballot, born_replica, slots_ahead}
 use Rattle.sc_scenario.specs.scenario.Definitions.{IsBounded, ValidScenariosAreBounded}
 use Rattle.sc_scenario.specs.declared.scenario.scenarios.Asks.{Asks}
 use Rattle.sc_scenario.specs.declared.scenario.scenarios.Scenario.{Scenario}
@@ -16,17 +15,10 @@ use Rattle.sc_meaning.specs.sound.SoundDefinitions.{route_of}
 use Rattle.sc_live_steps.specs.calm.CalmDefinitions.{View, IsNewest, IsAtRest, IsBelow, IsLinked, StandsQuiet, RisesAt, IsAnswered, IsQuiet}
 use Rattle.sc_live_steps.proofs.CalmStepsProofs.CalmStepLemmas.{begin_at_rest, first_leads}
 use Rattle.sc_live_plain.specs.PlainDefinitions.{replicas_after, IsQuietJournal, IsOfNodes, IsKept, frame_at_rest, Frame, IsFrame, frame_of, IsBegun, Requests, IsPlainGroup}
-use Rattle.sc_live_plain.proofs.PlainLemmas.{born_plain, born_found, frames_of, stage, IsBefore, parts_of, map_among, round}
+use Rattle.sc_live_plain.proofs.PlainLemmas.{born_plain, born_found, IsBornOf, born_is, stage, map_among, next_frame, least_leads}
 use Rattle.sc_live_journals.proofs.RowsProofs.ScenarioGroups.{named_once}
 use Rattle.sc_law_groups.proofs.WholeProofs.WholeLemmas.{group_place}
 use Rattle.sc_live_answers.specs.AnswerDefinitions.{QuietJournalsBegin}
-
--- the replicas of a node are those of the groups of which it is a member
-born_members : (P : ReplicaState → Type 0) (me : ℕ) (groups : List Base) → ((base : Base) → Among base groups → is_member base.core.members me ≡ true → P (born_replica slots_ahead me base)) → Each P (born_replicas slots_ahead me groups)
-born_members P me [] f = tt
-born_members P me (b ∷ groups) f =
-    cond_both (is_member b.core.members me) (b ∷ filter (λ x. is_member x.core.members me) groups) (filter (λ x. is_member x.core.members me) groups) (λ l. Each P (map (λ y. born_replica slots_ahead me y) l))
-    (λ t. (f b (inl refl) t, born_members P me groups (λ x a. f x (inr a)))) (λ _. born_members P me groups (λ x a. f x (inr a)))
 
 -- one of several same ones
 one_of : (set members : List ℕ) → Among set (replicate slots_ahead members) → set ≡ members
@@ -43,29 +35,14 @@ module _ (words : ℕ → ℕ → ℕ × ℕ) (scenario : Scenario) (bounded : I
   abbrev born : ℕ → Base → ReplicaState
   born me base = born_replica slots_ahead me base
 
-  -- what a replica at birth is
-  record IsBornOf (group : Draw) (node : ℕ) (r : ReplicaState) : Type 0 where
-    base : Base
-    among : Among base scenario.groups
-    member : is_member base.core.members node ≡ true
-    named : base.core.id ≡ group
-    fact : r ≡ born node base
-
-  born_is : (group : Draw) (node : ℕ) (r : ReplicaState) → replica_of group (born_replicas slots_ahead node scenario.groups) ≡ Some r → IsBornOf group node r
-  born_is group node r e =
-      let f = find_found (λ (x : ReplicaState). same_draw (name_of x) group) (born_replicas slots_ahead node scenario.groups) r e in
-      let b = Each-among (λ (x : ReplicaState). (base : Base) × Among base scenario.groups × (is_member base.core.members node ≡ true) × (x ≡ born node base)) (born_replicas slots_ahead node scenario.groups) r
-      (born_members (λ (x : ReplicaState). (base : Base) × Among base scenario.groups × (is_member base.core.members node ≡ true) × (x ≡ born node base)) node scenario.groups (λ base a m. (base, a, m, refl))) f.0 in
-      record { base = b.0; among = b.1; member = b.2; named = sym (ap name_of b.3) ∙ draw_is (name_of r) group f.1; fact = b.3 }
-
-  at_is : (group : Draw) (node : ℕ) (r : ReplicaState) → at group node ≡ Some r → IsBornOf group node r
+  at_is : (group : Draw) (node : ℕ) (r : ReplicaState) → at group node ≡ Some r → IsBornOf scenario.groups group node r
   at_is group node r = by (is_node node)
     where
       none_some : None ≡ Some r → ⊥
       none_some e = cc
 
-      by : (b : Bool) → cond b (replica_of group (born_replicas slots_ahead node scenario.groups)) None ≡ Some r → IsBornOf group node r
-      by true e = born_is group node r e
+      by : (b : Bool) → cond b (replica_of group (born_replicas slots_ahead node scenario.groups)) None ≡ Some r → IsBornOf scenario.groups group node r
+      by true e = born_is scenario.groups group node r e
       by false e = absurd (none_some e)
 
   frame_is : (base : Base) → Among base scenario.groups → IsFrame (frame_of base)
@@ -75,7 +52,7 @@ module _ (words : ℕ → ℕ → ℕ × ℕ) (scenario : Scenario) (bounded : I
   there : (base : Base) (node : ℕ) → Among base scenario.groups → is_member base.core.members node ≡ true → at base.core.id node ≡ Some (born node base)
   there base node a m =
       let f = born_found node scenario.groups base a m in
-      let b = born_is base.core.id node (born node f.0) f.1 in
+      let b = born_is scenario.groups base.core.id node (born node f.0) f.1 in
       let same = named_once scenario bounded b.base base b.among a b.named in
       cond-true (is_node node) (replica_of base.core.id (born_replicas slots_ahead node scenario.groups)) None ((frame_is base a).nodes 0 node m) ∙ (f.1 ∙ ap Some (b.fact ∙ ap (born node) same))
 
@@ -95,35 +72,17 @@ module _ (words : ℕ → ℕ → ℕ × ℕ) (scenario : Scenario) (bounded : I
       most = λ node other e. (let n = ap next (of_base node other e) in omega (arith, n));
     }
 
-  -- the group behind another round the circle
-  next_frame : (frame : Frame) → Among frame (frames_of scenario) → (other : Frame) × Among other (frames_of scenario) × IsBefore frame other
-  next_frame frame a = by parts.1 parts.2
-    where
-      parts : (before : List Frame) × (after : List Frame) × (frames_of scenario ≡ before ++ frame ∷ after)
-      parts = parts_of (frames_of scenario) frame a
-
-      behind_one : (before : List Frame) (other : Frame) (after : List Frame) → Among other (before ++ frame ∷ other ∷ after)
-      behind_one [] other after = inr (inl refl)
-      behind_one (f ∷ before) other after = inr (behind_one before other after)
-
-      by : (after : List Frame) → frames_of scenario ≡ parts.0 ++ frame ∷ after → (other : Frame) × Among other (frames_of scenario) × IsBefore frame other
-      by (other ∷ after) e = (other, subst (Among other) (sym e) (behind_one parts.0 other after), (round scenario bounded).next parts.0 after frame other e)
-      by [] e =
-          let s = stage scenario bounded in
-          let whole = ap (map frame_of) s.groups_are in
-          (frame_of s.first, subst (Among (frame_of s.first)) (sym whole) (inl refl), (round scenario bounded).last parts.0 (map frame_of s.others) frame (frame_of s.first) e whole)
-
   linked : (base : Base) (a : Among base scenario.groups) → IsLinked at (born base.core.first base)
   linked base a =
-      let n = next_frame (frame_of base) (map_among frame_of scenario.groups base a) in
+      let n = next_frame scenario bounded (frame_of base) (map_among frame_of scenario.groups base a) in
       let b = from_map frame_of scenario.groups n.0 n.1 in
       let core : b.0.core ≡ n.0.core = ap (λ (f : Frame). f.core) b.2 in
-      let name : base.core.succ.group ≡ b.0.core.id = n.2.name ∙ ap (λ (c : Core). c.id) (sym core) in
+      let name : base.core.succ.group ≡ b.0.core.id = n.2.after.name ∙ ap (λ (c : Core). c.id) (sym core) in
       record {
         behind = born b.0.core.first b.0;
         newest = subst (λ d. IsNewest at d (born b.0.core.first b.0)) (sym name) (newest b.0 b.1);
         stands = (frame_is b.0 b.1).stands;
-        begins = ap (λ (c : Core). c.arc.lo) core ∙ sym n.2.ends;
+        begins = ap (λ (c : Core). c.arc.lo) core ∙ n.2.after.starts;
         nodes = λ node m. (let mem : is_member b.0.core.members node ≡ true = ap (λ (c : Core). is_member c.members node) core ∙ (ap (λ ms. is_member ms node) (sym n.2.members) ∙ m) in
             (born node b.0, ap (λ d. at d node) name ∙ there b.0 node b.1 mem));
       }
@@ -199,7 +158,7 @@ module _ (words : ℕ → ℕ → ℕ × ℕ) (scenario : Scenario) (bounded : I
 
     least_member : is_member first.core.members (least_of first.core.members) ≡ true
     least_member =
-        let lead : first.core.first ≡ least_of first.core.members = (round scenario bounded).leads (frame_of first) (map_among frame_of scenario.groups first first_among) in
+        let lead : first.core.first ≡ least_of first.core.members = least_leads scenario bounded (frame_of first) (map_among frame_of scenario.groups first first_among) in
         ap (is_member first.core.members) (sym lead) ∙ mine first first_among
 
     begins : IsQuietJournal words scenario first []

@@ -6,14 +6,13 @@ use Rattle.std.proofs.lemmas.List.Filters.{length-filter_both}
 use Rattle.std.proofs.lemmas.List.Sums.{sum_by-cons}
 use Rattle.sc_base.specs.Definitions.{Among, Each}
 use Rattle.sc_node_table.specs.Values.{Draw, Route}
-use Rattle.sc_client_table.specs.lookup.LookupDefinitions.{KnownGroups, way_to}
 use Rattle.sc_client_table.specs.declared.lookup.ways.Way.{Way}
 use Rattle.sc_node_table.specs.NodeDefinitions.{ReplicaState}
 use Rattle.sc_paxos_law.proofs.Lemmas.{Among-either, Among-left, Among-right}
 use Rattle.sc_words.proofs.PaxosProofs.PaxosLemmas.{Each-among}
-use Rattle.sc_live_steps.specs.calm.CalmDefinitions.{unknown, unknown_one, StandsOnce, sent_on}
+use Rattle.sc_live_steps.specs.calm.CalmDefinitions.{StandsOnce, sent_on}
 use Rattle.sc_live_journals.specs.charts.ChartDefinitions.{ends_by, reach_in, went_in, GoInTurn}
-use Rattle.sc_live_plain.proofs.PlainLemmas.{parts_of}
+use Rattle.sc_live_plain.proofs.PlainLemmas.{parts_of, unknown_few}
 
 -- ---- how many pass
 
@@ -44,19 +43,6 @@ module _ (p q : Draw → Bool) (more : (x : Draw) → p x ≡ true → q x ≡ t
       by true false on low = absurd (true≢false (sym (on refl)))
       by false true on low = omega (arith, low)
       by false false on low = low
-
-one_most : (b : Bool) → cond b 0 1 ≤ 1
-one_most true = omega arith
-one_most false = omega arith
-
--- no more groups are unknown than there are
-unknown_few : (known : KnownGroups) (groups : List Draw) → unknown groups known ≤ length groups
-unknown_few known [] = omega arith
-unknown_few known (group ∷ groups) =
-    let s = sum_by-cons (unknown_one known) group groups in
-    let one = one_most (is_some (way_to group known)) in
-    let low = unknown_few known groups in
-    omega (arith, s, one, low)
 
 -- ---- ends
 

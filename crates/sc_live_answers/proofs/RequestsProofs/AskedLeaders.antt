@@ -15,9 +15,9 @@ use Rattle.sc_words.proofs.PaxosProofs.PaxosLemmas.{Each-among}
 use Rattle.sc_client_table.specs.table.TableDefinitions.{Client as ClientState, waiting_request, ClientStep, asked_of, sent_to, sent_where, chosen_for, request_sent, started, waits_for, was_asked, redirected, answer_taken, got}
 use Rattle.sc_scenario.specs.declared.scenario.scenarios.Asks.{Asks}
 use Rattle.sc_live_plain.specs.PlainDefinitions.{IsLinkedSetting, IsCalmClient, start_of, start_known, Setting, IsSetting, IsCalmMail, Frame, IsWaiting, IsBegun, Requests}
-use Rattle.sc_live_plain.proofs.PlainLemmas.{calm_says, CalmSays, name_in, id_of, gap, learn_in_turn, chosen_is, some_is, map_among, near_behind, started_names as starting_names}
+use Rattle.sc_live_plain.proofs.PlainLemmas.{calm_says, CalmSays, RingKnown, ring_known, alone, lacks, name_in, id_of, gap, learn_in_turn, chosen_is, chosen_among as chosen_known, same_of_one, some_is, map_among, near_behind, started_names as starting_names}
 use Rattle.sc_live_answers.specs.AnswerDefinitions.{IsLedAt, AsksLeaders, ClientsAskLeaders}
-use Rattle.sc_live_answers.proofs.RequestsProofs.ClientAnswers.{chosen_known, RingKnown, ring_known, alone, all_led, lacks}
+use Rattle.sc_live_answers.proofs.RequestsProofs.ClientAnswers.{all_led}
 
 -- ---- what is asked of groups, after changes
 
@@ -137,13 +137,6 @@ asked_group : (client : ClientState) (group : Draw) → AskedOf group client →
 asked_group client group a w = ap (λ (x : Draw × ℕ). x.0) (some_is (sym w.asked ∙ a.1))
 
 -- ---- the group that a client learns is the one that it asks next
-
-same_of_one : (xs : List Draw) (x y : Draw) → length xs ≤ 1 → Among x xs → Among y xs → x ≡ y
-same_of_one [] x y few a b = absurd a
-same_of_one (z ∷ []) x y few (inl e) (inl f) = sym e ∙ f
-same_of_one (z ∷ []) x y few (inl e) (inr b) = absurd b
-same_of_one (z ∷ []) x y few (inr a) b = absurd a
-same_of_one (z ∷ w ∷ xs) x y few a b = absurd (omega (arith, few))
 
 module _ (set : Setting) (fact : IsSetting set) (frame : Frame) (a : Among frame set.frames) (known : KnownGroups) (r : RingKnown set frame known) (p : ℕ) (c : chosen p known ≡ Some frame.core.id) (out : holds frame.core.arc p ≡ false) where
   prefix_ring : (n : ℕ) (other : Frame) → Among other (take n r.ring) → Among other r.ring
@@ -267,7 +260,7 @@ module _ (begun : Requests) (set : Setting) (fact : IsSetting set) (linked : IsL
       let known_is : learnt_from_not_mine w.group arc succ client.known ≡ learnt_from_not_mine frame.core.id frame.core.arc frame.core.succ client.known =
       ap (λ d. learnt_from_not_mine d arc succ client.known) s.says.0
       ∙ (ap (λ (x : Arc). learnt_from_not_mine frame.core.id x succ client.known) s.says.1.says.1 ∙ ap (λ (x : Link). learnt_from_not_mine frame.core.id frame.core.arc x client.known) s.says.1.says.2) in
-      subst (λ l. Leads (request_sent (record client { known = l }))) (sym known_is) (by_frame frame s.is_frame s.says.0 s.says.1.from_is (lacks begun set fact linked asks gone client k w mail m to asked_right from arc succ s))
+      subst (λ l. Leads (request_sent (record client { known = l }))) (sym known_is) (by_frame frame s.is_frame s.says.0 s.says.1.from_is (lacks begun set fact linked asks gone client k w mail to asked_right arc succ s))
     where
       by_frame : (frame : Frame) → Among frame set.frames → w.group ≡ frame.core.id → mail.from ≡ frame.lead → holds frame.core.arc (pos_of (key_of w.op)) ≡ false → Leads (request_sent (record client { known = learnt_from_not_mine frame.core.id frame.core.arc frame.core.succ client.known }))
       by_frame frame a name lead out w_ group node t =

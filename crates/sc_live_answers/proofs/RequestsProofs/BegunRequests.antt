@@ -26,7 +26,7 @@ use Rattle.sc_meaning.specs.sound.SoundDefinitions.{Player, player_table, node_s
 use Rattle.sc_law_groups.proofs.GroupProofs.GroupLemmas.{or_now, issue-push}
 use Rattle.sc_law_groups.proofs.WholeProofs.WholeLemmas.{all_apart}
 use Rattle.sc_live_steps.specs.calm.CalmDefinitions.{players, Rows}
-use Rattle.sc_live_plain.specs.PlainDefinitions.{begun_ones, waiting_ones, begun_of}
+use Rattle.sc_live_plain.specs.PlainDefinitions.{begun_ones, waiting_one, begun_of}
 use Rattle.sc_live_plain.proofs.PlainLemmas.{map_among}
 use Rattle.sc_live_answers.specs.AnswerDefinitions.{IssuedAreBegun}
 use Rattle.sc_live_steps.proofs.CalmStepsProofs.Totals.{or_assoc}
@@ -53,7 +53,7 @@ waiting_low : (o : Option ℕ) (n seq : ℕ) → o ≡ Some seq → IsNext o n �
 waiting_low o n seq e fact = subst (λ x. IsNext x n) e fact
 
 ones_of : (o : Option ℕ) (seq : ℕ) → o ≡ Some seq → (n : ℕ) (client : ClientState) → client.waiting ≡ o → length client.replies ≡ n → begun_ones client ≡ n + 1
-ones_of o seq e n client fact len = ap (λ (x : Option ℕ). length client.replies + waiting_ones x) (fact ∙ e) ∙ ap (λ m. m + 1) len
+ones_of o seq e n client fact len = ap (λ (x : Option ℕ). length client.replies + waiting_one x) (fact ∙ e) ∙ ap (λ m. m + 1) len
 
 pair : {X Y : Type 0} (x y : X) (z w : Y) → x ≡ y → z ≡ w → ◌≡◌ {A = X × Y} (x, z) (y, w)
 pair x y z w e f = cc
@@ -76,9 +76,9 @@ module _ (client : ClientState) (input : Input Mail OrderLine) (waits : IsNext c
 
   grows : begun_ones client ≤ begun_ones after
   grows = elim turn.moves [
-    | inl s ↦ (let same : begun_ones after ≡ begun_ones client = ap (λ (c : List _ × Option ℕ). length c.0 + waiting_ones c.1) (pair after.replies client.replies after.waiting client.waiting s.replies s.number) in omega (arith, same))
+    | inl s ↦ (let same : begun_ones after ≡ begun_ones client = ap (λ (c : List _ × Option ℕ). length c.0 + waiting_one c.1) (pair after.replies client.replies after.waiting client.waiting s.replies s.number) in omega (arith, same))
     | inr (inl s) ↦ (let f = fresh s.go in
-        let none : begun_ones client ≡ 0 = ap (λ (c : List _ × Option ℕ). length c.0 + waiting_ones c.1) (pair client.replies [] client.waiting None f.1 f.0) in omega (arith, none))
+        let none : begun_ones client ≡ 0 = ap (λ (c : List _ × Option ℕ). length c.0 + waiting_one c.1) (pair client.replies [] client.waiting None f.1 f.0) in omega (arith, none))
     | inr (inr s) ↦ (
         let one = ones_of (Some s.seq) s.seq refl (length client.replies) client s.waited refl in
         let more = ap length s.replies ∙ length_push client.replies s.reply in

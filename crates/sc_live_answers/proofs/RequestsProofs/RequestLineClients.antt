@@ -1,22 +1,21 @@
 -- In a line of requests a client that has not started stays as it was, and nothing is sent to who is no actor but what is nothing to any group.
-use Rattle.std.proofs.Common.{◌≡◌, ℕ, ◌+◌, ◌≤◌, ◌&&◌, ◌||◌, eqb, Bool, true, false, List, [], ◌∷◌, ◌++◌, length, drop, filter, find, Some, inl, inr, refl, sym, ◌∙◌, ap, subst, arith, append_assoc, append-nil}
-use Rattle.std.proofs.lemmas.Bool.{cond_both, cases_eq, both_ways, eqb-true, eq-eqb, or_right}
-use Rattle.std.proofs.lemmas.List.Folds.{list_any-append}
-use Rattle.sc_base.specs.Definitions.{Among, Each, client_actor, is_member}
-use Rattle.sc_node_table.specs.Values.{Draw, Op, Base, OrderLine, Mail, MailBody, Request, Answer, Accept, Accepted, Learn, Node, Client, Seat, Event, Deliver, Tick, Go, Got, Row}
+use Rattle.std.proofs.Common.{◌≡◌, ℕ, ◌≤◌, eqb, Bool, true, false, List, [], ◌∷◌, ◌++◌, length, drop, filter, find, Some, inl, inr, refl, sym, ◌∙◌, ap, subst, arith, append_assoc, append-nil}
+use Rattle.std.proofs.lemmas.Bool.{cond_both, cases_eq, both_ways, eqb-true}
+use Rattle.sc_base.specs.Definitions.{Among, Each, client_actor}
+use Rattle.sc_node_table.specs.Values.{Draw, Op, Base, OrderLine, Mail, MailBody, Request, Answer, Node, Client, Seat, Event, Deliver, Tick, Go, Got, Row}
 use Rattle.sc_actor.specs.declared.rows.Input.TheVariants.{Go as GoInput}
-use Rattle.sc_actor.specs.Definitions.{mails, value, acted, input_of, System, row_of, has_started, is_go}
+use Rattle.sc_actor.specs.Definitions.{mails, value, acted, input_of, System, row_of, has_started}
 use Rattle.sc_client_table.specs.table.TableDefinitions.{Client as ClientState, table}
 use Rattle.sc_words.proofs.PaxosProofs.PaxosLemmas.{Each-append, Each-filter}
-use Rattle.sc_node_table.specs.NodeDefinitions.{is_node, node_table, slots_ahead}
+use Rattle.sc_node_table.specs.NodeDefinitions.{is_node, node_table}
 use Rattle.sc_scenario.specs.declared.scenario.scenarios.Asks.{Asks}
 use Rattle.sc_scenario.specs.declared.scenario.scenarios.Scenario.{Scenario}
 use Rattle.sc_meaning.specs.sound.SoundDefinitions.{Player, player_table, node_seat, client_seat, route_of, births, system_of, as_nodes}
 use Rattle.sc_live_orderly.specs.OrderlyDefinitions.{IsTidy, IsOrderly, IsInOrder, rest, is_born, mail_for, taken}
 use Rattle.sc_live_orderly.proofs.OrderlyLemmas.{rest-row}
-use Rattle.sc_live_plain.specs.PlainDefinitions.{IsAsking, AreFarFromLast, AreRequests, AreSeated, Other, mark, mark_of, IsLinkedSetting, IsCalmClient, Setting, IsSetting, IsAsideBody, IsCalmMail, Frame, IsFrame, waiting_ones, IsBegun, begun_of, Requests, IsPlainBody}
+use Rattle.sc_live_plain.specs.PlainDefinitions.{IsAsking, AreFarFromLast, AreRequests, AreSeated, Other, mark, IsLinkedSetting, IsCalmClient, Setting, IsSetting, IsAsideBody, IsCalmMail, waiting_one, IsBegun, begun_of, Requests}
 use Rattle.sc_live_plain.proofs.CalmProofs.RequestPhaseClients as clients_of
-use Rattle.sc_live_plain.proofs.PlainLemmas.{aside_mark, takes_only, go_only, IsStage, node_number, client_number, value_others, gone_others, started_still, Journal, of_player, unasked, stays_by, IsFor, for_node, is_node_born as node_is_born}
+use Rattle.sc_live_plain.proofs.PlainLemmas.{aside_mark, nothing_to, starts_now, takes_only, go_only, IsStage, node_number, client_number, value_others, gone_others, started_still, Journal, of_player, unasked, stays_by, IsFor, for_node, is_node_born as node_is_born}
 use Rattle.sc_live_plain.proofs.CalmProofs.RequestPhaseNodes as turns_of
 use Rattle.sc_law_entries.proofs.NamesProofs.NameLemmas.{Each-drop}
 
@@ -46,18 +45,6 @@ IsNothing mail = (name : Draw) → mark name mail ≡ Other
 filter_to : {X : Type 0} (P Q : X → Type 0) (p : X → Bool) (xs : List X) → ((x : X) → P x → p x ≡ true → Q x) → Each P xs → Each Q (filter p xs)
 filter_to P Q p [] f e = tt
 filter_to P Q p (x ∷ xs) f e = cond_both (p x) (x ∷ filter p xs) (filter p xs) (Each Q) (λ t. (f x e.0 t, filter_to P Q p xs f e.1)) (λ _. filter_to P Q p xs f e.1)
-
-module _ (begun : Requests) (frame : Frame) (fact : IsFrame frame) (from to : ℕ) (name : Draw) (away : (slot : ℕ) → is_member (frame.at slot) to ≡ true → ⊥) where
-  member_away : is_member frame.core.members to ≡ true → ⊥
-  member_away m = away (frame.from + slots_ahead) (ap (λ ms. is_member ms to) (fact.later (frame.from + slots_ahead) (omega arith)) ∙ m)
-
-  nothing_to : (body : MailBody) → IsPlainBody begun frame from to body → mark_of name from body ≡ Other
-  nothing_to (Request group client seq op) b = refl
-  nothing_to (Answer group seq answer) b = refl
-  nothing_to (Accept group ballot slot command) b = absurd (away slot b.2.to_in)
-  nothing_to (Accepted group ballot slot) b = absurd (member_away (ap (is_member frame.core.members) b.2 ∙ fact.leads))
-  nothing_to (Learn group slot command) b = absurd (member_away b.1.to_in)
-  nothing_to _ b = absurd b
 
 module _ (words : ℕ → ℕ → ℕ × ℕ) (scenario : Scenario) (begins : IsStage scenario) (set : Setting) (fact : IsSetting set) (linked : IsLinkedSetting set) (seated : AreSeated scenario set) where
   abbrev sys : System Player Mail OrderLine
@@ -140,7 +127,7 @@ module _ (words : ℕ → ℕ → ℕ × ℕ) (scenario : Scenario) (begins : Is
           let none = unasked c.client (subst (λ g. IsCalmClient set asks g c.client) not_gone c.calm).state in
           let player : value player_table (client_seat (route_of b.first) b.asks) rows ≡ Client c.client = ap (λ (x : Asks). value player_table (client_seat (route_of b.first) x) rows) same ∙ (ap (λ (x : Base). value player_table (client_seat (route_of x) asks) rows) first ∙ c.fact) in
           let count = ap begun_of player in
-          let waits = ap waiting_ones none.0 in
+          let waits = ap waiting_one none.0 in
           let replies = ap length none.1 in
           let low = b.low in
           let one = b.from_one in
@@ -163,9 +150,8 @@ module _ (words : ℕ → ℕ → ℕ × ℕ) (scenario : Scenario) (begins : Is
           let first = clients_of.first words scenario begins set fact linked rows t j asks a born number fine in
           absurd (no_mail (sym (started_still words scenario begins rows (row_of player_table (cseat asks) rows (Deliver number)) (client_actor asks.client) refl) ∙ not_gone) first.mail first.receiver (clients_of.is_calm words scenario begins set fact linked rows t j asks a born number fine))
       own_fresh Go fine not_gone =
-          let gone_now : has_started (rows ++ row_of player_table (cseat asks) rows Go ∷ []) (client_actor asks.client) ≡ true =
-          list_any-append (λ (r : Row Mail OrderLine). eqb r.who (client_actor asks.client) && is_go r.event) rows (row_of player_table (cseat asks) rows Go ∷ [])
-          ∙ (ap (λ b. has_started rows (client_actor asks.client) || ((b && true) || false)) (eq-eqb (client_actor asks.client) (client_actor asks.client) refl) ∙ or_right (has_started rows (client_actor asks.client)) true refl) in
+          let c = j.clients asks a in
+          let gone_now = starts_now words scenario begins rows asks a c.client c.fact in
           absurd (both_ways (has_started (rows ++ row_of player_table (cseat asks) rows Go ∷ []) (client_actor asks.client)) not_gone gone_now)
       own_fresh Tick fine not_gone = absurd fine
       own_fresh _ fine not_gone = absurd fine

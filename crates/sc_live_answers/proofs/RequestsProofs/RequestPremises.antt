@@ -1,72 +1,14 @@
 -- What a node finds in the mail of requests.
-use Rattle.std.proofs.Common.{◌≡◌, ℕ, ◌≤◌, ◌&&◌, true, false, [], Option, Some, None, inl, inr, refl, sym, ◌∙◌, ap, subst, arith}
-use Rattle.std.proofs.lemmas.Bool.{both_ways}
-use Rattle.sc_base.specs.Definitions.{Each, client_actor, same_draw, is_member}
-use Rattle.sc_node_table.specs.Values.{Ballot, Draw, Op, Command, Core, Route, Mail, MailBody, Request, Answer, Accept, Accepted, Learn}
+use Rattle.std.proofs.Common.{◌≡◌, ℕ, Option, Some, None, inl, inr, refl, sym, ◌∙◌, ap, subst, arith}
+use Rattle.sc_base.specs.Definitions.{Each, client_actor, same_draw}
+use Rattle.sc_node_table.specs.Values.{Draw, Op, Route, Mail, MailBody, Request}
 use Rattle.sc_base.proofs.Lemmas.{draw_is}
-use Rattle.sc_words.specs.paxos.PaxosDefinitions.{below}
 use Rattle.sc_words.proofs.PaxosProofs.PaxosLemmas.{Each-among, find_found}
-use Rattle.sc_group_table.specs.machine.MachineDefinitions.{Group}
-use Rattle.sc_node_table.specs.NodeDefinitions.{NodeState, ReplicaState, Place, Executed, name_of, next}
-use Rattle.sc_live_steps.specs.calm.CalmDefinitions.{Chart, AreBounded, MayTake, IsCalmMailAt, Takes, MayPump, Follows, Points, group_owes, after_mail, Ways, idle_owes, Elsewhere}
-use Rattle.sc_live_plain.specs.PlainDefinitions.{Setting, KnowsBetter, IsSetting, IsCalmNode, IsCalmMail, ComesInTime, Frame, IsFrame, IsBegun, Requests, IsPlainCall, IsPlainCommand, IsPlainBody, IsPlainMail, IsPlainAt, IsDue}
-use Rattle.sc_live_plain.proofs.PlainLemmas.{StepsAside, aside_step, turns, may_pump, serves_all, runs, follows, IsFor, for_node, call_is, leading_at, following_at, none_stops, Does, replica_row}
+use Rattle.sc_node_table.specs.NodeDefinitions.{NodeState, ReplicaState, Executed, name_of}
+use Rattle.sc_live_steps.specs.calm.CalmDefinitions.{Chart, IsCalmMailAt, Takes, MayPump, Points, group_owes, after_mail, Elsewhere}
+use Rattle.sc_live_plain.specs.PlainDefinitions.{Setting, KnowsBetter, IsSetting, IsCalmNode, IsCalmMail, ComesInTime, IsFrame, IsBegun, Requests, IsPlainBody, IsPlainMail}
+use Rattle.sc_live_plain.proofs.PlainLemmas.{StepsAside, aside_step, turns, plain_owes, group_same, may_take, IsFor, for_node, replica_row}
 use Rattle.sc_live_answers.specs.AnswerDefinitions.{CountsAs, RequestsAreTakenCalmly}
-
--- ---- what a group owes by its replica
-
-owes_none : (r : ReplicaState) (most : ℕ) → r.running ≡ true → group_owes r ≤ most
-owes_none r most runs_ = (let e = ap (λ b. idle_owes b r.group.core.gone) runs_ in omega (arith, e))
-
-owes_same : (r after : ReplicaState) → r.running ≡ false → after.running ≡ false → after.group.core.gone ≡ r.group.core.gone → group_owes r ≤ group_owes after
-owes_same r after off still gone =
-    let a = ap (λ b. idle_owes b r.group.core.gone) off in
-    let b = ap (λ b. idle_owes b after.group.core.gone) still in
-    let c = ap (idle_owes false) gone in
-    omega (arith, a, b, c)
-
-module _ (begun : Requests) (frame : Frame) (fact : IsFrame frame) where
-  -- a row of a plain replica takes nobody's lead away
-  plain_owes : (me : ℕ) (r after : ReplicaState) → IsPlainAt begun frame me r → IsPlainAt begun frame me after → (is_member frame.core.members me ≡ false → after.group ≡ r.group) → group_owes r ≤ group_owes after
-  plain_owes me r after (inl (p, inl k)) later same = owes_none r (group_owes after) k.1.leader.running
-  plain_owes me r after (inl (p, inr f)) (inl (q, inl k)) same = absurd (f.0 k.0)
-  plain_owes me r after (inl (p, inr f)) (inl (q, inr g)) same =
-      owes_same r after f.1.stopped g.1.stopped (ap (λ (core : Core). core.gone) (q.group.core_is ∙ sym p.group.core_is))
-  plain_owes me r after (inl (p, inr f)) (inr left) same =
-      owes_same r after f.1.stopped left.follower.stopped (ap (λ (group : Group). group.core.gone) (same left.left))
-  plain_owes me r after (inr left) (inl (q, inl k)) same = absurd (both_ways (is_member frame.core.members me) left.left (ap (is_member frame.core.members) k.0 ∙ fact.leads))
-  plain_owes me r after (inr left) (inl (q, inr g)) same = owes_same r after left.follower.stopped g.1.stopped (ap (λ (group : Group). group.core.gone) (same left.left))
-  plain_owes me r after (inr left) (inr stays) same = owes_same r after left.follower.stopped stays.follower.stopped (ap (λ (group : Group). group.core.gone) (same left.left))
-
-  away : (me : ℕ) → is_member frame.core.members me ≡ false → me ≡ frame.lead → ⊥
-  away me left e = both_ways (is_member frame.core.members me) left (ap (is_member frame.core.members) e ∙ fact.leads)
-
-  -- at a node that left, only what is to be accepted comes, which leaves the state as it is
-  group_same : (me from : ℕ) (body : MailBody) (r : ReplicaState) (place : Place) → is_member frame.core.members me ≡ false → IsPlainBody begun frame from me body → Does begun frame fact me r from body place → place.0.group ≡ r.group
-  group_same me from (Accept group ballot slot command) r place left b response = response.group_is
-  group_same me from (Request group client seq op) r place left b response = absurd (away me left response.0)
-  group_same me from (Accepted group ballot slot) r place left b response = absurd (away me left response.0)
-  group_same me from (Learn group slot command) r place left b response = absurd (both_ways (is_member frame.core.members me) left b.1.to_in)
-  group_same me from _ r place left b response = absurd response
-
-  module _ (ways : Ways) (bounded : AreBounded ways) where
-    -- what a plain replica finds in a mail of its group
-    may_take : (me from : ℕ) (body : MailBody) (r : ReplicaState) → IsPlainAt begun frame me r → IsPlainBody begun frame from me body → IsDue r body → ((client seq : ℕ) (op : Op) → begun client seq op → me ≡ client_actor client → ⊥) → MayTake ways r body
-    may_take me from (Request group client seq op) r k b due n =
-        let leads = leading_at begun frame fact me r b.1.to_is k in
-        let name : name_of r ≡ group = ap (λ (c : Core). c.id) leads.0.group.core_is ∙ sym b.0 in
-        (name, may_pump ways begun frame fact bounded r leads.0 leads.1, subst (λ d. Points ways d r) name (runs ways begun frame fact bounded r leads.0 leads.1))
-    may_take me from (Accepted group ballot slot) r k b due n =
-        let leads = leading_at begun frame fact me r b.2 k in
-        inr (inl (serves_all ways begun frame fact bounded r leads.0 leads.1))
-    may_take me from (Accept group ballot slot command) r k b due n = ap (λ (x : Ballot). r.running && below r.leader.ballot x) b.1 ∙ none_stops begun frame fact me r k
-    may_take me from (Learn group slot command) r k b due n =
-        let c = call_is begun frame fact 0 0 [] 0 (λ x y. ⊥) command b.1.is_call in
-        let call : IsPlainCall begun frame c.0 c.1 c.2 = subst (IsPlainCommand begun frame) c.3 b.1.is_call in
-        let f = following_at begun frame fact me r b.1.to_in b.1.other k in
-        inr (subst (λ (x : Command). Follows x r × (slot ≤ next r)) (sym c.3) (follows ways begun frame fact bounded me c.0 c.1 c.2 r f.0 f.1 call, omega (arith, due)))
-    may_take me from (Answer group seq answer) r k b due n = absurd (n b.1.client seq b.1.op b.1.is_begun b.1.to_is)
-    may_take me from _ r k b due n = absurd b
 
 module _ (begun : Requests) (set : Setting) (fact : IsSetting set) (chart : Chart) (counts : CountsAs set chart) (elsewhere : Elsewhere) (node : NodeState) (n : IsCalmNode begun set node) (pumps : Each MayPump node.replicas) (mail : Mail) (to : mail.to ≡ node.me)
     (not_client : (client seq : ℕ) (op : Op) → begun client seq op → node.me ≡ client_actor client → ⊥) (due : ComesInTime begun set node mail) where

@@ -56,9 +56,9 @@ voter_at begun frame fact me r slot m (inr left) = left.voter slot m
 
 module _ (begun : Requests) (frame : Frame) (fact : IsFrame frame) (r : ReplicaState) (from : ℕ) (room : next r + slots_ahead ≤ last_slot) where
   -- one that takes it at the leading node
-  by_run : (body : MailBody) (me taken bound : ℕ) (held : List _) (wanted : ℕ → ℕ → Type 0) (place : Place) → me ≡ frame.lead → IsPlainReplica begun frame frame.lead r → IsPlainLeader begun frame taken r
-      → IsRun begun frame fact (next r) (next r + taken) held bound wanted place → Leaves r place.0 → Serves frame me body r place.0
-  by_run body me taken bound held wanted place e p l run leaves = record {
+  by_run : (body : MailBody) (me taken : ℕ) (held : List _) (wanted : ℕ → ℕ → Type 0) (place : Place) → me ≡ frame.lead → IsPlainReplica begun frame frame.lead r → IsPlainLeader begun frame taken r
+      → IsRun begun frame fact (next r) (next r + taken) held wanted place → Leaves r place.0 → Serves frame me body r place.0
+  by_run body me taken held wanted place e p l run leaves = record {
     next_up = run.leads.low;
     hint_was = p.hint_is;
     hint_is = run.leads.plain.hint_is;
@@ -97,12 +97,12 @@ module _ (begun : Requests) (frame : Frame) (fact : IsFrame frame) (r : ReplicaS
       hint_of : IsPlainAt begun frame me r → r.hint ≡ Some frame.lead
       hint_of (inl p) = p.0.hint_is
       hint_of (inr left) = absurd (both_ways (is_member frame.core.members me) left.left (ap (is_member frame.core.members) e ∙ fact.leads))
-  by_request me body client seq op place k leaves (e, inr q) = by_run body me q.taken _ _ _ place e q.plain q.leader q.run leaves
+  by_request me body client seq op place k leaves (e, inr q) = by_run body me q.taken _ _ place e q.plain q.leader q.run leaves
 
   -- ---- a vote
 
   by_vote : (me : ℕ) (body : MailBody) (slot : ℕ) (place : Place) → (DidCount begun frame fact r from slot place → Leaves r place.0) → (me ≡ frame.lead) × DidCount begun frame fact r from slot place → Serves frame me body r place.0
-  by_vote me body slot place leaves (e, c) = by_run body me c.taken _ _ _ place e c.plain c.leader c.counted.run (leaves c)
+  by_vote me body slot place leaves (e, c) = by_run body me c.taken _ _ place e c.plain c.leader c.counted.run (leaves c)
 
   -- ---- an accept
 
@@ -178,7 +178,7 @@ module _ (begun : Requests) (frame : Frame) (fact : IsFrame frame) (r : ReplicaS
   serves_row me (Accept group ballot slot command) k b due not_client =
       subst (λ (x : Ballot). Serves frame me (Accept group x slot command) r (mailed from (Accept group x slot command) (r, [])).0.0) (sym b.1) (by_accept me group slot command k b.2.to_in due)
   serves_row me (Learn group slot command) k b due not_client =
-      let c = call_is begun frame fact 0 0 [] 0 (λ x y. ⊥) command b.1.is_call in
+      let c = call_is begun frame fact 0 0 [] (λ x y. ⊥) command b.1.is_call in
       let plain : IsPlainCall begun frame c.0 c.1 c.2 = subst (IsPlainCommand begun frame) c.3 b.1.is_call in
       let follows = following_at begun frame fact me r b.1.to_in b.1.other k in
       subst (λ (x : Command). Serves frame me (Learn group slot x) r (mailed from (Learn group slot x) (r, [])).0.0) (sym c.3) (by_learn me group slot c.0 c.1 c.2 follows.0 follows.1 b.1.to_in b.1.other plain due)

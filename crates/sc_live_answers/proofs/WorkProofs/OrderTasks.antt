@@ -1,5 +1,5 @@
 -- An order that splits, and any other, is such an affair.
-use Rattle.sc_live_plain.proofs.PlainProofs.PlainKnownGroups.{among_first}
+use Rattle.sc_live_plain.proofs.PlainLemmas.{among_first}
 use Rattle.std.proofs.Common.{◌≡◌, ℕ, ◌||◌, Bool, true, false, List, take, Option, Some, None, inl, inr, refl, sym, subst}
 use Rattle.std.specs.List.{list_any}
 use Rattle.std.proofs.lemmas.Bool.{cond_both}

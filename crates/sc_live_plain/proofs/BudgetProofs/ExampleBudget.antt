@@ -13,7 +13,7 @@ use Rattle.sc_scenario.specs.declared.scenario.scenarios.SchedLine.{SchedLine}
 use Rattle.sc_scenario.specs.declared.scenario.scenarios.SchedLine.TheVariants.{Go, Told, Settle}
 use Rattle.sc_meaning.specs.sound.SoundDefinitions.{kept_replies, alone, put_it, get_it, ballot, mail, row, example_rows, put_get_scenario, player_table, node_seat, client_seat, as_nodes, route_of, schedule}
 use Rattle.sc_live_orderly.specs.OrderlyDefinitions.{AreSpaced, Nothing}
-use Rattle.sc_live_plain.specs.PlainDefinitions.{calm_budget_of, gives_order, are_parted, IsCalmAtBudget, requests_of, budget_of, delivers, IsAtBudget, StartsBeforeDeliveries, AreAnswered, mail_owes, player_owes, begun_of, EndsAtBudget}
+use Rattle.sc_live_plain.specs.PlainDefinitions.{calm_budget_of, gives_order, are_parted, IsCalmAtBudget, requests_of, budget_of, delivers, IsAtBudget, StartsBeforeDeliveries, AreAnswered, mail_owes, frame_of, player_owes, begun_of, EndsAtBudget}
 
 -- two requests and one group
 requests : requests_of put_get_scenario ≡ 2
@@ -81,15 +81,15 @@ unfoldable pub asks : Asks
 asks = record { client = 1; ops = put_it ∷ get_it ∷ [] }
 
 -- at birth two mails of requests are owed, by the client alone
-client_birth : player_owes 1 (client_seat (route_of alone) asks).actor ≡ 58
+client_birth : player_owes (frame_of alone ∷ []) (client_seat (route_of alone) asks).actor ≡ 56
 unfolding asks
 client_birth = refl
 
-node_birth : player_owes 1 (node_seat as_nodes (alone ∷ []) false 1).actor ≡ 0
+node_birth : player_owes (frame_of alone ∷ []) (node_seat as_nodes (alone ∷ []) false 1).actor ≡ 0
 node_birth = refl
 
 -- what each mail owes when it is sent: request, accept, vote, answer, and so again
-mails_owe : map mail_owes (mails example_rows) ≡ 29 ∷ 2 ∷ 1 ∷ 1 ∷ 29 ∷ 2 ∷ 1 ∷ 1 ∷ []
+mails_owe : map mail_owes (mails example_rows) ≡ 28 ∷ 2 ∷ 1 ∷ 1 ∷ 28 ∷ 2 ∷ 1 ∷ 1 ∷ []
 mails_owe = refl
 
 -- at its end both requests are begun, and the client owes nothing
@@ -97,7 +97,7 @@ begun_both : begun_of (value player_table (client_seat (route_of alone) asks) ex
 unfolding asks
 begun_both = refl
 
-client_end : player_owes 1 (value player_table (client_seat (route_of alone) asks) example_rows) ≡ 0
+client_end : player_owes (frame_of alone ∷ []) (value player_table (client_seat (route_of alone) asks) example_rows) ≡ 0
 unfolding asks
 client_end = refl
 

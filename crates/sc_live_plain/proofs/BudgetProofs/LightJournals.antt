@@ -31,8 +31,9 @@ use Rattle.sc_live_plain.proofs.PlainProofs.PlainBeginnings.{frames_of, IsStage,
 use Rattle.sc_live_plain.proofs.PlainProofs.PlainSteps.{node_born}
 use Rattle.sc_live_plain.proofs.PlainProofs.PlainJournals.{plain_journal}
 use Rattle.sc_live_plain.proofs.BudgetProofs.JournalBytes.{mail_light, begun_short, bytes_low}
-use Rattle.sc_live_plain.proofs.BudgetProofs.PlainLineEnds.{lines_plain, far_from_last, some_owed}
-use Rattle.sc_live_plain.proofs.PlainProofs.GroupCircle.{round}
+use Rattle.sc_live_plain.proofs.BudgetProofs.PlainLineEnds.{lines_plain, far_from_last}
+use Rattle.sc_live_plain.proofs.PlainProofs.PlainSetting.{is_linked}
+use Rattle.sc_live_plain.proofs.PlainProofs.PlainClientPotential.{some_owed}
 use Rattle.sc_live_plain.proofs.PlainRowsProofs.Lists.{map_among}
 use Rattle.sc_live_steps.proofs.CalmStepsProofs.CalmStepLemmas.{count_numbers}
 
@@ -226,13 +227,13 @@ journals_light all_bounded words scenario journal valid at lawful =
     let lines = schedule scenario in
     let plain = lines_plain (budget_of scenario) scenario.lines at in
     let each : (rows : List (Row Mail OrderLine)) → IsLawful sys_ lines rows → IsPlainJournal words scenario s rows =
-    λ rows l. plain_journal words scenario s (round scenario bounded) (far_from_last words scenario bounded) lines plain (journal_at_birth scenario bounded words) rows l in
+    λ rows l. plain_journal words scenario s (is_linked scenario bounded) (far_from_last words scenario bounded) lines plain (journal_at_birth scenario bounded words) rows l in
     let j = each journal lawful in
     let light = Each-weaker (IsPlainMail (IsBegun scenario journal) (frames_of scenario)) (λ mail. body_weight mail.body ≤ 576) (mail_light (IsBegun scenario journal) (begun_short scenario bounded journal) (frames_of scenario)) (mails journal) j.sent in
     let bytes = bytes_low journal light in
     let to : SendsToActors sys_ lines = λ rows l. Each-weaker (IsPlainMail (IsBegun scenario rows) (frames_of scenario)) (λ mail. is_born sys_ mail.to ≡ true)
     (λ mail m. body_born words scenario s rows m.frame m.is_frame mail.from mail.to mail.body m.says) (mails rows) (each rows l).sent in
-    let some = Each-weaker (IsPlainMail (IsBegun scenario journal) (frames_of scenario)) (λ mail. 1 ≤ mail_owes mail) (λ mail m. some_owed mail.body) (mails journal) j.sent in
+    let some = Each-weaker (IsPlainMail (IsBegun scenario journal) (frames_of scenario)) (λ mail. 1 ≤ mail_owes mail) (some_owed (IsBegun scenario journal) (frames_of scenario)) (mails journal) j.sent in
     let sent = mails_are_owed sys_ s.seats_apart lines plain to (owing_of scenario) journal some lawful in
     let owes = j.owes in
     let within = birth_within scenario bounded words in

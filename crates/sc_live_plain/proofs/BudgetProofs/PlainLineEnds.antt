@@ -1,9 +1,9 @@
 -- No line of a plain scenario at its budget is cut off with mail pending.
-use Rattle.std.proofs.Common.{ℕ, ◌+◌, ◌≤◌, List, [], ◌∷◌, map, arith}
+use Rattle.std.proofs.Common.{ℕ, ◌+◌, ◌*◌, ◌≤◌, List, [], ◌∷◌, map, arith}
 use Rattle.sc_base.specs.Definitions.{Each}
-use Rattle.sc_node_table.specs.Values.{OrderLine, Value, NotLeader, NotMine, Gone, Stale, Mail, MailBody, Answer}
+use Rattle.sc_node_table.specs.Values.{OrderLine, Mail}
 use Rattle.sc_actor.specs.Definitions.{mails, System}
-use Rattle.sc_words.proofs.PaxosProofs.PaxosLemmas.{Each-from}
+use Rattle.sc_words.proofs.PaxosProofs.PaxosLemmas.{Each-weaker}
 use Rattle.sc_node_table.specs.NodeDefinitions.{last_slot}
 use Rattle.sc_scenario.specs.scenario.Definitions.{IsBounded, ValidScenariosAreBounded}
 use Rattle.sc_scenario.specs.declared.scenario.scenarios.Scenario.{Scenario}
@@ -12,12 +12,13 @@ use Rattle.sc_scenario.specs.declared.scenario.scenarios.SchedLine.TheVariants.{
 use Rattle.sc_meaning.specs.sound.SoundDefinitions.{Player, line_of, schedule, system_of, as_nodes}
 use Rattle.sc_live_orderly.specs.OrderlyDefinitions.{IsPlainLine, HasRoom, owed_at_birth}
 use Rattle.sc_live_orderly.proofs.OrderlyLemmas.{never_cut_by}
-use Rattle.sc_live_plain.specs.PlainDefinitions.{AllowsDeliveries, budget_of, body_owes, mail_owes, PlainLinesEndQuiet}
+use Rattle.sc_live_plain.specs.PlainDefinitions.{AllowsDeliveries, budget_of, mail_owes, IsBegun, IsPlainMail, PlainLinesEndQuiet}
 use Rattle.sc_live_plain.proofs.PlainProofs.InductionBase.{birth_within, birth_few, journal_at_birth}
 use Rattle.sc_live_plain.proofs.PlainProofs.PlainInduction.{owing_of}
-use Rattle.sc_live_plain.proofs.PlainProofs.PlainBeginnings.{stage}
+use Rattle.sc_live_plain.proofs.PlainProofs.PlainBeginnings.{frames_of, stage}
 use Rattle.sc_live_plain.proofs.PlainProofs.PlainJournals.{plain_journal}
-use Rattle.sc_live_plain.proofs.PlainProofs.GroupCircle.{round}
+use Rattle.sc_live_plain.proofs.PlainProofs.PlainSetting.{is_linked}
+use Rattle.sc_live_plain.proofs.PlainProofs.PlainClientPotential.{some_owed}
 
 -- lines at a budget are plain
 pub lines_plain : (budget : ℕ) (lines : List SchedLine) → Each (AllowsDeliveries budget) lines → Each IsPlainLine (map line_of lines)
@@ -48,17 +49,8 @@ lines_roomy budget total (Told node order ∷ lines) low at = absurd at.0
 lines_roomy budget total (Storm number most ∷ lines) low at = absurd at.0
 
 -- what is owed at birth keeps far from the last slot
-pub far_from_last : (words : ℕ → ℕ → ℕ × ℕ) (scenario : Scenario) (bounded : IsBounded scenario) → owed_at_birth (system_of as_nodes words scenario) (owing_of scenario) + 16 ≤ last_slot
+pub far_from_last : (words : ℕ → ℕ → ℕ × ℕ) (scenario : Scenario) (bounded : IsBounded scenario) → 4 * owed_at_birth (system_of as_nodes words scenario) (owing_of scenario) + 16 ≤ last_slot
 far_from_last words scenario bounded = (let few = birth_few scenario bounded words in omega (arith, few))
-
--- each mail owes something
-pub some_owed : (body : MailBody) → 1 ≤ body_owes body
-some_owed (Answer group seq (Value reply)) = omega arith
-some_owed (Answer group seq (NotMine arc succ)) = omega arith
-some_owed (Answer group seq (NotLeader hint)) = omega arith
-some_owed (Answer group seq (Gone into)) = omega arith
-some_owed (Answer group seq (Stale last)) = omega arith
-some_owed _ = omega arith
 
 pub ends_quiet : ValidScenariosAreBounded → PlainLinesEndQuiet
 ends_quiet all_bounded words scenario journal valid at lawful =
@@ -66,7 +58,7 @@ ends_quiet all_bounded words scenario journal valid at lawful =
     let s = stage scenario bounded in
     let sys : System Player Mail OrderLine = system_of as_nodes words scenario in
     let plain = lines_plain (budget_of scenario) scenario.lines at in
-    never_cut_by sys (owing_of scenario) (schedule scenario) plain
-    (λ rows l. (plain_journal words scenario s (round scenario bounded) (far_from_last words scenario bounded) (schedule scenario) plain (journal_at_birth scenario bounded words) rows l).owes)
-    (λ rows l. Each-from (λ mail. 1 ≤ mail_owes mail) (mails rows) (λ mail a. some_owed mail.body))
+    let each = plain_journal words scenario s (is_linked scenario bounded) (far_from_last words scenario bounded) (schedule scenario) plain (journal_at_birth scenario bounded words) in
+    never_cut_by sys (owing_of scenario) (schedule scenario) plain (λ rows l. (each rows l).owes)
+    (λ rows l. Each-weaker (IsPlainMail (IsBegun scenario rows) (frames_of scenario)) (λ mail. 1 ≤ mail_owes mail) (some_owed (IsBegun scenario rows) (frames_of scenario)) (mails rows) (each rows l).sent)
     (lines_roomy (budget_of scenario) (owed_at_birth sys (owing_of scenario)) scenario.lines (birth_within scenario bounded words) at) journal lawful

@@ -1,5 +1,5 @@
 -- What a client does while clients ask alone, between two orders: it stays calm, and asks nodes that have a replica.
-use Rattle.std.proofs.Common.{◌≡◌, ℕ, ◌+◌, ◌-◌, ◌<◌, ◌≤◌, eqb, Bool, true, false, cond, List, [], ◌∷◌, ◌++◌, length, map, take, drop, Option, Some, None, ◌⊎◌, inl, inr, refl, sym, ◌∙◌, ap, subst, arith, take-append-drop}
+use Rattle.std.proofs.Common.{◌≡◌, ℕ, ◌+◌, ◌-◌, ◌<◌, ◌≤◌, eqb, Bool, true, false, cond, List, [], ◌∷◌, ◌++◌, length, map, take, Option, Some, None, ◌⊎◌, inl, inr, refl, sym, ◌∙◌, ap, subst, arith}
 use Rattle.std.specs.Prelude.{nat_le, slice_get, get_or, is_some}
 use Rattle.std.specs.Option.{option_map}
 use Rattle.std.specs.Map.{remove_entry}
@@ -7,27 +7,34 @@ use Rattle.std.proofs.lemmas.Bool.{cond_both, cond-true, eqb-true, leb-true, leb
 use Rattle.std.proofs.lemmas.List.{length_push, length-map, length-take-le}
 use Rattle.std.proofs.lemmas.Option.{slice_get-get_or, slice_get_within}
 use Rattle.sc_base.specs.Definitions.{Among, Each, Arc, end_of, client_actor, key_of, same_draw, pos_of}
-use Rattle.sc_node_table.specs.Values.{Draw, Op, Get, Reply, Got, Link, Route, AnswerBody, Value, NotLeader, NotMine, Gone, Stale, Mail, MailBody, Answer}
+use Rattle.sc_node_table.specs.Values.{Draw, Op, Get, Reply, Got, Link, Route, AnswerBody, Value, NotLeader, NotMine, Gone, Stale, Mail, MailBody, Request, Answer}
 use Rattle.sc_base.proofs.Lemmas.{draw_is, same_name}
 use Rattle.sc_words.specs.ideal.IdealDefinitions.{holds_key}
 use Rattle.sc_actor.specs.declared.rows.Input.TheVariants.{Go}
 use Rattle.sc_client_table.specs.lookup.LookupDefinitions.{KnownGroups, way_to, chosen, target_in, changed, preferring, starting, group_learnt, learnt_from_not_mine, learnt_from_gone, new_way, target_of}
 use Rattle.sc_client_table.specs.declared.lookup.ways.Way.{Way}
-use Rattle.sc_paxos_law.proofs.Lemmas.{from_map, Among-left}
 use Rattle.sc_client_table.specs.table.TableDefinitions.{Client as ClientState, request_at, waiting_request, ClientStep, asked_of, sent_to, sent_where, chosen_for, request_sent, started, waits_for, was_asked, redirected, answer_taken, got, table}
 use Rattle.sc_scenario.specs.declared.scenario.scenarios.Asks.{Asks}
-use Rattle.sc_live_plain.specs.PlainDefinitions.{IsLinkedSetting, Knows, CanBeAsked, IsCalmClient, BeginsBy, StaysCalm, ClientsStayCalm, Setting, IsHome, HasGoneTo, IsSetting, IsAsideBody, IsCalmMail, Frame, begun_ones, IsWaiting, IsResting, IsBegun, Requests, IsPlainBody}
+use Rattle.sc_live_plain.specs.PlainDefinitions.{IsLinkedSetting, Knows, CanBeAsked, IsCalmClient, BeginsBy, StaysCalm, Setting, IsHome, HasGoneTo, IsSetting, IsCalmMail, Frame, begun_ones, IsWaiting, IsResting, Requests}
 use Rattle.sc_live_plain.proofs.CalmProofs.ChosenGroups.{way_found, lookup_has, set_each, push_each, chosen_same, chosen_among}
-use Rattle.sc_live_plain.proofs.CalmProofs.KnownGroups.{name_in, id_of, one_of_one, preferring_names, preferring_starts, learn_in_turn}
-use Rattle.sc_live_plain.proofs.PlainProofs.PlainClients.{asking, unasked}
-use Rattle.sc_live_plain.proofs.PlainProofs.PlainKnownGroups.{one_chosen}
+use Rattle.sc_live_plain.proofs.CalmProofs.KnownGroups.{name_in, id_of, one_chosen, one_of_one, preferring_names, preferring_starts, learn_in_turn}
+use Rattle.sc_live_plain.proofs.CalmProofs.AskedGroups.{CalmSays, calm_says, few as reply_missing, ring_known, alone, op_same}
 use Rattle.sc_live_plain.proofs.PlainRowsProofs.Lists.{some_is}
 use Rattle.sc_live_plain.proofs.PlainRowsProofs.RepeatedMail.{mail_of}
 use Rattle.sc_live_plain.proofs.PlainProofs.BegunRequestCounts.{request_same as sent_begun}
 
+-- the mail of a client's request
+abbrev pub asking : ℕ → ℕ → Draw → ℕ → Op → Mail
+asking me target group seq op = mail_of (client_actor me) target (Request group me seq op)
+
+-- a client that has not started has asked nothing
+pub unasked : (client : ClientState) → IsResting false client ⊎ ((false ≡ true) × IsWaiting client) → (client.waiting ≡ None) × (client.replies ≡ [])
+unasked client (inl rests) = elim (rests.replies) [ inl fact ↦ (rests.waits, fact.1) | inr fact ↦ (let bad : false ≡ true = fact.0 in cc) ]
+unasked client (inr fact) = (let bad : false ≡ true = fact.0 in cc)
+
 -- ---- how many requests are begun
 
-started_begun : (seq : ℕ) (client : ClientState) → seq ≤ length client.requests → begun_ones (started seq client).0 ≡ length client.replies + 1
+pub started_begun : (seq : ℕ) (client : ClientState) → seq ≤ length client.requests → begun_ones (started seq client).0 ≡ length client.replies + 1
 started_begun seq client le =
     ap (λ (x : ClientStep). begun_ones x.0) (cond-true (nat_le seq (length client.requests)) (request_sent (record client { waiting = Some seq })) (record client { waiting = None }, []) (le-leb seq (length client.requests) le))
     ∙ sent_begun (record client { waiting = Some seq })
@@ -51,28 +58,13 @@ pub record Ignores (client : ClientState) (mail : Mail) (step : ClientStep) : Ty
   pub after_is : step ≡ (client, [])
   pub no_end : (w : IsWaiting client) (answer : AnswerBody) → EndsWait answer → mail ≡ mail_of w.target (client_actor client.me) (Answer w.group w.seq answer) → ⊥
 
--- what a body of calm mail says: plain words of a group, or what stands beside them
-pub record SaysPlain (begun : Requests) (set : Setting) (from to : ℕ) (body : MailBody) : Type 0 where
-  pub frame : Frame
-  pub is_frame : Among frame set.frames
-  pub says : IsPlainBody begun frame from to body
-
-abbrev pub CalmSays : Requests → Setting → ℕ → ℕ → MailBody → Type 0
-CalmSays begun set from to body = SaysPlain begun set from to body ⊎ IsAsideBody begun set from to body
-
-pub calm_says : (begun : Requests) (set : Setting) (mail : Mail) → IsCalmMail begun set mail → (body : MailBody) → mail.body ≡ body → CalmSays begun set mail.from mail.to body
-calm_says begun set mail m body e = elim m [
-  | inl q ↦ inl (record { frame = q.frame; is_frame = q.is_frame; says = subst (IsPlainBody begun q.frame mail.from mail.to) e q.says })
-  | inr a ↦ inr (subst (IsAsideBody begun set mail.from mail.to) e a)
-]
-
 module _ (set : Setting) where
   abbrev P : Draw × Way → Type 0
   P = CanBeAsked set
 
   -- ---- known groups and their targets
 
-  one_known : (known : KnownGroups) → Knows set known → 1 ≤ length known
+  pub one_known : (known : KnownGroups) → Knows set known → 1 ≤ length known
   one_known known (inl k) = (let n = ap length k.2 in omega (arith, n))
   one_known known (inr k) =
       let names = ap length k.first.names in
@@ -211,18 +203,17 @@ module _ (set : Setting) where
       module _ (is_gone : gone ≡ true) (w : IsWaiting client) where
         -- the request of an answer to the client is the one that waits
         module _ (who : ℕ) (op : Op) (receiver : mail.to ≡ client_actor who) (b : begun who w.seq op) where
+          same_op : op ≡ w.op
+          same_op = op_same begun set fact linked asks gone client k w mail to asked_right who op receiver b
+
           mine : begun client.me w.seq op
           mine = (let same : who ≡ client.me = omega (arith, to, receiver) in subst (λ c. begun c w.seq op) same b)
 
-          op_same : op ≡ w.op
-          op_same = some_is (sym (asked_right w.seq op mine) ∙ w.op_is)
-
           begun_later : later client.me w.seq w.op
-          begun_later = weaker client.me w.seq w.op (subst (λ x. begun client.me w.seq x) op_same mine)
+          begun_later = weaker client.me w.seq w.op (subst (λ x. begun client.me w.seq x) same_op mine)
 
-        -- a reply is missing
         few : length client.replies < length client.requests
-        few = (let low = slice_get_within client.requests (w.seq - 1) w.op w.op_is in let number = w.number in omega (arith, low, number))
+        few = reply_missing begun set fact linked asks gone client k w
 
         ready : (known : KnownGroups) → Knows set known → Each (CanBeAsked set) known → IsReady w.seq w.op (record client { known = known })
         ready known knows targets = record { me_is = k.me_is; requests_are = k.requests_are; knows = knows; targets = targets; waits = w.waits; number = w.number; op_is = w.op_is }
@@ -248,58 +239,34 @@ module _ (set : Setting) where
             sends (sent_to group (record client { known = known })) (asked_row later gone is_gone w.seq w.op (record client { known = known }) (ready known (preferring_knows group node client.known (k.knows few)) (preferring_each group node client.known s.says.has (k.targets few))) group chosen_is_ (begun_later s.client s.op s.to_is s.is_begun))
 
         -- it says that the key is another group's: the next one is learnt, and asked
-        next_known : (frame : Frame) → Among frame set.frames → w.group ≡ frame.core.id → holds_key frame.core.arc (key_of w.op) ≡ false → Knows set client.known → Knows set (learnt_from_not_mine frame.core.id frame.core.arc frame.core.succ client.known)
-        next_known frame a name lacks (inl one) =
-            let chosen_here : chosen (pos_of (key_of w.op)) client.known ≡ Some frame.core.id = w.chosen_is ∙ ap Some name in
-            let among = subst (λ l. Among frame.core.id (map name_in l)) one.2 (chosen_among (pos_of (key_of w.op)) client.known frame.core.id chosen_here) in
-            let same : one.0 ≡ frame.core.id = elim among [ inl e ↦ e | inr none ↦ absurd none ] in
-            let known_is : client.known ≡ (frame.core.id, one.1) ∷ [] = one.2 ∙ ap (λ d. (d, one.1) ∷ []) same in
-            let ring = linked.rings frame a in
-            let first = learn_in_turn.gone ring.0 frame one.1 in
-            let next_ = learn_in_turn.not_mine (frame ∷ ring.0) 1 (pos_of (key_of w.op)) frame ((frame.core.id, one.1) ∷ []) ring.1.round first (inl refl) (ap (chosen (pos_of (key_of w.op))) (sym known_is) ∙ chosen_here) lacks in
-            subst (λ l. Knows set (learnt_from_not_mine frame.core.id frame.core.arc frame.core.succ l)) (sym known_is) (inr (record { ring = frame ∷ ring.0; is_ring = ring.1; reached = 2; first = next_.1 }))
-        next_known frame a name lacks (inr r) =
-            let chosen_here : chosen (pos_of (key_of w.op)) client.known ≡ Some frame.core.id = w.chosen_is ∙ ap Some name in
-            let among = subst (Among frame.core.id) r.first.names (chosen_among (pos_of (key_of w.op)) client.known frame.core.id chosen_here) in
-            let f = from_map id_of (take r.reached r.ring) frame.core.id among in
-            let in_ring : Among f.0 r.ring = subst (Among f.0) (take-append-drop r.reached r.ring) (Among-left f.0 (take r.reached r.ring) (drop r.reached r.ring) f.1) in
-            let same : f.0 ≡ frame = fact.apart f.0 frame (r.is_ring.within f.0 in_ring) a f.2 in
-            let next_ = learn_in_turn.not_mine r.ring r.reached (pos_of (key_of w.op)) frame client.known r.is_ring.round r.first (subst (λ x. Among x r.ring) same in_ring) chosen_here lacks in
-            inr (record { ring = r.ring; is_ring = r.is_ring; reached = r.reached + 1; first = next_.1 })
+        next_known : (frame : Frame) → Among frame set.frames → w.group ≡ frame.core.id → holds_key frame.core.arc (key_of w.op) ≡ false → Knows set (learnt_from_not_mine frame.core.id frame.core.arc frame.core.succ client.known)
+        next_known frame a name without =
+            let r = ring_known begun set fact linked asks gone client k w frame a name in
+            let next_ = learn_in_turn.not_mine r.ring r.reached (pos_of (key_of w.op)) frame client.known r.round r.first r.among (w.chosen_is ∙ ap Some name) without in
+            inr (record { ring = r.ring; is_ring = record { round = r.round; within = r.within }; reached = r.reached + 1; first = next_.1 })
 
         sent_on : (group : Draw) (arc : Arc) (succ : Link) → w.group ≡ group → CalmSays begun set mail.from mail.to (Answer group w.seq (NotMine arc succ)) → Keeps (request_sent (record client { known = learnt_from_not_mine group arc succ client.known }))
         sent_on group arc succ name (inr s) = absurd (s.says)
         sent_on group arc succ name (inl s) =
             let frame : Frame = s.frame in
             let reply = s.says.1 in
-            let lacks : holds_key frame.core.arc (key_of w.op) ≡ false = ap (λ x. holds_key frame.core.arc (key_of x)) (sym (op_same reply.client reply.op reply.to_is reply.is_begun)) ∙ reply.says.0 in
+            let without : holds_key frame.core.arc (key_of w.op) ≡ false = ap (λ x. holds_key frame.core.arc (key_of x)) (sym (same_op reply.client reply.op reply.to_is reply.is_begun)) ∙ reply.says.0 in
             let known_is : learnt_from_not_mine group arc succ client.known ≡ learnt_from_not_mine frame.core.id frame.core.arc frame.core.succ client.known =
             ap (λ d. learnt_from_not_mine d arc succ client.known) s.says.0
             ∙ (ap (λ (x : Arc). learnt_from_not_mine frame.core.id x succ client.known) reply.says.1 ∙ ap (λ (x : Link). learnt_from_not_mine frame.core.id frame.core.arc x client.known) reply.says.2) in
             let known : KnownGroups = learnt_from_not_mine frame.core.id frame.core.arc frame.core.succ client.known in
             let targets = learnt_each frame.core.succ.group (end_of frame.core.arc) frame.core.succ.members (starting frame.core.id frame.core.arc.lo client.known) (linked.links frame s.is_frame) (starting_each frame.core.id frame.core.arc.lo client.known (k.targets few)) in
             subst (λ l. Keeps (request_sent (record client { known = l }))) (sym known_is)
-            (sends (request_sent (record client { known = known })) (ready_row later gone is_gone w.seq w.op (record client { known = known }) (ready known (next_known frame s.is_frame (name ∙ s.says.0) lacks (k.knows few)) targets) (begun_later reply.client reply.op reply.to_is reply.is_begun)))
+            (sends (request_sent (record client { known = known })) (ready_row later gone is_gone w.seq w.op (record client { known = known }) (ready known (next_known frame s.is_frame (name ∙ s.says.0) without) targets) (begun_later reply.client reply.op reply.to_is reply.is_begun)))
 
         -- it says where the group went, which is known alone
-        alone : (group : Draw) (into : Route) → w.group ≡ group → HasGoneTo set group into → Knows set client.known → (way : Way) × (client.known ≡ (group, way) ∷ [])
-        alone group into name went (inl one) =
-            let among = subst (λ l. Among group (map name_in l)) one.2 (chosen_among (pos_of (key_of w.op)) client.known group (w.chosen_is ∙ ap Some name)) in
-            let same : one.0 ≡ group = elim among [ inl e ↦ e | inr none ↦ absurd none ] in
-            (one.1, one.2 ∙ ap (λ d. (d, one.1) ∷ []) same)
-        alone group into name went (inr r) =
-            let among = subst (Among group) r.first.names (chosen_among (pos_of (key_of w.op)) client.known group (w.chosen_is ∙ ap Some name)) in
-            let f = from_map id_of (take r.reached r.ring) group among in
-            let in_ring : Among f.0 r.ring = subst (Among f.0) (take-append-drop r.reached r.ring) (Among-left f.0 (take r.reached r.ring) (drop r.reached r.ring) f.1) in
-            absurd (linked.stand f.0 into (r.is_ring.within f.0 in_ring) (subst (λ d. HasGoneTo set d into) (sym f.2) went))
-
         moved : (group : Draw) (into : Route) → w.group ≡ group → CalmSays begun set mail.from mail.to (Answer group w.seq (Gone into)) → Keeps (request_sent (record client { known = learnt_from_gone group into client.known }))
         moved group into name (inl s) = absurd (s.says.1.says)
         moved group into name (inr s) =
-            let one = alone group into name s.says (k.knows few) in
+            let one = alone begun set fact linked asks gone client k w into (subst (λ d. HasGoneTo set d into) (sym name) s.says) in
             let known : KnownGroups = (into.group, new_way into.lo into.members) ∷ [] in
             let removed : remove_entry (same_draw group) ((group, one.0) ∷ []) ≡ [] = cond-true (same_draw group group) [] ((group, one.0) ∷ []) (same_name group group refl) in
-            let known_is : learnt_from_gone group into client.known ≡ known = ap (learnt_from_gone group into) one.1 ∙ ap (group_learnt into.group into.lo into.members) removed in
+            let known_is : learnt_from_gone group into client.known ≡ known = ap (learnt_from_gone group into) (one.1 ∙ ap (λ d. (d, one.0) ∷ []) name) ∙ ap (group_learnt into.group into.lo into.members) removed in
             subst (λ l. Keeps (request_sent (record client { known = l }))) (sym known_is)
             (sends (request_sent (record client { known = known })) (ready_row later gone is_gone w.seq w.op (record client { known = known }) (ready known (inl (into.group, new_way into.lo into.members, refl)) (linked.routes group into s.says, tt)) (begun_later s.client s.op s.to_is s.is_begun)))
 
@@ -380,10 +347,3 @@ waiting_home set asks gone client k w = by (way_to w.group client.known) refl w.
     by : (o : Option Way) → way_to w.group client.known ≡ o → option_map target_of o ≡ Some w.target → IsHome set w.group w.target
     by None e t = cc
     by (Some way) e t = subst (IsHome set w.group) (some_is t) (lookup_has (CanBeAsked set) client.known w.group way e (k.targets few))
-
--- Between two orders, while clients ask alone, a client that goes or takes mail stays calm: it asks nodes that have a replica of the group, and its request goes where its answers send it.
-pub clients_calm : ClientsStayCalm
-clients_calm = record {
-  go = λ scenario rows set asks client k now. (go_calm set asks (IsBegun scenario rows) client k now).0;
-  takes = λ scenario rows later set asks gone client mail fact linked k m to asked_right weaker now. (takes_calm set asks (IsBegun scenario rows) (IsBegun scenario later) gone client mail fact linked k m to asked_right weaker now).0;
-}

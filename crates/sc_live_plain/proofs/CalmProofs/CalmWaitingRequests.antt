@@ -17,9 +17,9 @@ use Rattle.sc_live_plain.proofs.CalmProofs.RequestPhaseClients as clients_of
 use Rattle.sc_live_plain.proofs.PlainProofs.PlainBeginnings.{IsStage}
 use Rattle.sc_live_plain.proofs.PlainProofs.PlainSteps.{client_number, value_others}
 use Rattle.sc_live_plain.proofs.PlainRowsProofs.RowViews.{Journal, replica_others}
-use Rattle.sc_live_plain.proofs.PlainProofs.PlainJournals.{of_player}
+use Rattle.sc_live_plain.proofs.PlainProofs.PlainSteps.{of_player}
 use Rattle.sc_live_plain.proofs.CalmProofs.CalmClients.{Seeks, Ignores}
-use Rattle.sc_live_plain.proofs.PlainProofs.PlainClients.{asking}
+use Rattle.sc_live_plain.proofs.CalmProofs.CalmClients.{asking}
 use Rattle.sc_live_plain.proofs.CalmProofs.RequestsLeftByRows.{sent_left, others_left, behind_left}
 use Rattle.sc_live_plain.proofs.PlainRowsProofs.RowViews.{client_is}
 use Rattle.sc_live_plain.proofs.PlainRowsProofs.RepeatedMail.{mail_of}

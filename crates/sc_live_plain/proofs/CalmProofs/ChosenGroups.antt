@@ -9,8 +9,7 @@ use Rattle.sc_base.proofs.Lemmas.{draw_is, same_name}
 use Rattle.sc_client_table.specs.lookup.LookupDefinitions.{KnownGroups, way_to, nearer, better, chosen, far}
 use Rattle.sc_client_table.specs.declared.lookup.ways.Way.{Way}
 use Rattle.sc_live_plain.specs.PlainDefinitions.{start_known}
-use Rattle.sc_live_plain.proofs.CalmProofs.KnownGroups.{name_in, gap}
-use Rattle.sc_live_plain.proofs.PlainProofs.PlainKnownGroups.{chosen_is}
+use Rattle.sc_live_plain.proofs.CalmProofs.KnownGroups.{name_in, gap, chosen_is}
 use Rattle.sc_live_plain.proofs.PlainRowsProofs.Lists.{some_is, map_among}
 
 -- ---- what is known of a group

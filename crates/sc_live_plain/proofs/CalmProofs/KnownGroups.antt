@@ -1,20 +1,20 @@
 -- The groups that a client knows between two orders: the first ones round the ring, from the one that it reached first.
-use Rattle.std.proofs.Common.{◌≡◌, ℕ, ◌+◌, ◌-◌, ◌%◌, ◌^◌, ◌<◌, ◌≤◌, false, Bool, List, [], ◌∷◌, ◌++◌, length, map, take, Option, Some, None, inl, inr, refl, sym, ◌∙◌, ap, subst, arith, append_assoc, take-append-drop, length-append}
+use Rattle.std.proofs.Common.{◌≡◌, ℕ, suc, ◌+◌, ◌-◌, ◌%◌, ◌^◌, ◌<◌, ◌≤◌, false, Bool, List, [], ◌∷◌, ◌++◌, length, map, take, drop, fold, Option, Some, None, inl, inr, refl, sym, ◌∙◌, ap, subst, arith, append_assoc, take-append-drop, length-append}
 use Rattle.std.specs.Prelude.{is_some}
+use Rattle.std.specs.Option.{option_map}
 use Rattle.std.specs.Map.{lookup, set_value}
 use Rattle.std.proofs.lemmas.Bool.{cond_both, cond-true, cond-false, cases_Bool, cases_lt, ltb-false}
 use Rattle.std.proofs.lemmas.List.{length-take-le}
-use Rattle.sc_base.specs.Definitions.{Among, holds, end_of, same_draw}
+use Rattle.sc_base.specs.Definitions.{Among, Each, holds, end_of, same_draw}
 use Rattle.sc_node_table.specs.Values.{Draw}
 use Rattle.sc_base.proofs.Lemmas.{draw_is, same_name}
-use Rattle.sc_words.proofs.PaxosProofs.PaxosLemmas.{Each-among}
+use Rattle.sc_words.proofs.PaxosProofs.PaxosLemmas.{Each-among, Each-append, Each-from_All, Each-weaker}
 use Rattle.sc_client_table.specs.declared.lookup.ways.Way.{Way}
-use Rattle.sc_client_table.specs.lookup.LookupDefinitions.{far, new_way, KnownGroups, way_to, chosen, changed, preferring, starting, learnt_from_not_mine}
-use Rattle.sc_paxos_law.proofs.Lemmas.{from_map, Among-right, Among-either}
+use Rattle.sc_client_table.specs.lookup.LookupDefinitions.{far, new_way, KnownGroups, way_to, better, chosen, changed, preferring, starting, learnt_from_not_mine}
+use Rattle.sc_client_table.proofs.LookupProofs.ChoiceLemmas.{chooses_nearest, some_chosen}
+use Rattle.sc_paxos_law.proofs.Lemmas.{from_map, Among-left, Among-right, Among-either}
 use Rattle.sc_live_plain.specs.PlainDefinitions.{FollowedBy, AreRoundRing, start_of, start_known, KnowsFirst, ClientsLearnInTurn, Frame}
-use Rattle.sc_live_plain.proofs.PlainProofs.PlainKnownGroups.{Follows, follows, IsChosen, among_first, chosen_is, parts_of, take_prefix}
 use Rattle.sc_live_plain.proofs.PlainRowsProofs.Lists.{map_among}
-use Rattle.sc_live_plain.proofs.PlainProofs.PlainKnownGroups.{map_push as map_last}
 
 abbrev pub name_in : Draw × Way → Draw
 name_in entry = entry.0
@@ -32,13 +32,31 @@ near_behind p lo len low some most lacks = omega arith
 
 -- ---- lists
 
+pub parts_of : {X : Type 0} (xs : List X) (x : X) → Among x xs → (a : List X) × (b : List X) × (xs ≡ a ++ x ∷ b)
+parts_of [] x e = absurd e
+parts_of {X} (y ∷ xs) x (inl same) = ([], xs, ap (λ (z : X). z ∷ xs) same)
+parts_of {X} (y ∷ xs) x (inr e) = (let r = parts_of xs x e in (y ∷ r.0, r.1, ap (λ (l : List X). y ∷ l) r.2))
+
+pub among_first : {X : Type 0} (reached : ℕ) (xs : List X) (x : X) → Among x (take reached xs) → Among x xs
+among_first reached xs x a = subst (Among x) (take-append-drop reached xs) (Among-left x (take reached xs) (drop reached xs) a)
+
+pub map_push : {X Y : Type 0} (f : X → Y) (xs : List X) (x : X) → map f (xs ++ x ∷ []) ≡ map f xs ++ f x ∷ []
+map_push f [] x = refl
+map_push f (y ∷ xs) x = ap (λ l. f y ∷ l) (map_push f xs x)
+
+pub take_prefix : {X : Type 0} (prefix : List X) (x : X) (back : List X) → take (length prefix + 1) (prefix ++ x ∷ back) ≡ prefix ++ x ∷ []
+take_prefix [] x back = refl
+take_prefix {X} (y ∷ prefix) x back =
+    let n : length (y ∷ prefix) + 1 ≡ suc (length prefix + 1) = omega arith in
+    ap (λ m. take m ((y ∷ prefix) ++ x ∷ back)) n ∙ ap (λ (l : List X). y ∷ l) (take_prefix prefix x back)
+
 -- in lists of one length with an end each, an equation of both
 pub one_of_one : {X : Type 0} (f : X → Draw) (xs : List X) (d : Draw) → map f xs ≡ d ∷ [] → (x : X) × (xs ≡ x ∷ []) × (f x ≡ d)
 one_of_one f [] d e = cc
 one_of_one f (x ∷ []) d e = (x, refl, (let same : f x ≡ d = cc in same))
 one_of_one f (x ∷ y ∷ xs) d e = cc
 
-same_of_one : {X : Type 0} (xs : List X) (x y : X) → length xs ≤ 1 → Among x xs → Among y xs → x ≡ y
+pub same_of_one : {X : Type 0} (xs : List X) (x y : X) → length xs ≤ 1 → Among x xs → Among y xs → x ≡ y
 same_of_one [] x y few a b = absurd a
 same_of_one (z ∷ []) x y few (inl e) (inl f) = sym e ∙ f
 same_of_one (z ∷ []) x y few (inl e) (inr b) = absurd b
@@ -50,6 +68,37 @@ only_one [] x few a = absurd a
 only_one {X} (z ∷ []) x few (inl e) = ap (λ (y : X). y ∷ []) e
 only_one (z ∷ []) x few (inr a) = absurd a
 only_one (z ∷ w ∷ xs) x few a = absurd (omega (arith, few))
+
+-- ---- the nearest
+
+-- the group that is chosen is known, and none is nearer
+pub record IsChosen (p : ℕ) (known : KnownGroups) (group : Draw) : Type 0 where
+  pub entry : Draw × Way
+  pub stands : Among entry known
+  pub name : entry.0 ≡ group
+  pub each : Each (λ (x : Draw × Way). far p entry.1 ≤ far p x.1) known
+
+pub chosen_is : (p : ℕ) (known : KnownGroups) (group : Draw) → chosen p known ≡ Some group → IsChosen p known group
+chosen_is p known group e =
+    let n = chooses_nearest p known group e in
+    let near : Draw × Way → Type 0 = λ x. far p n.way ≤ far p x.1 in
+    let farther : Draw × Way → Type 0 = λ x. far p n.way < far p x.1 in
+    record {
+      entry = (group, n.way);
+      stands = subst (Among (group, n.way)) (sym n.stands) (Among-right (group, n.way) n.before ((group, n.way) ∷ n.after) (inl refl));
+      name = refl;
+      each = subst (Each near) (sym n.stands)
+          (Each-append near n.before ((group, n.way) ∷ n.after) (Each-from_All near n.before n.none_nearer)
+          (omega arith, Each-weaker farther near (λ x less. omega (arith, less)) n.after (Each-from_All farther n.after n.each_farther)));
+    }
+
+-- of some groups one is chosen
+pub one_chosen : (p : ℕ) (known : KnownGroups) → 1 ≤ length known → (group : Draw) × (chosen p known ≡ Some group)
+one_chosen p known some = by (fold (better p) None known) refl
+  where
+    by : (o : Option (Draw × Way)) → fold (better p) None known ≡ o → (group : Draw) × (chosen p known ≡ Some group)
+    by None e = absurd (some_chosen p known some e)
+    by (Some entry) e = (entry.0, ap (λ (o : Option (Draw × Way)). option_map (λ (x : Draw × Way). x.0) o) e)
 
 -- ---- what another value of a known group leaves
 
@@ -138,6 +187,44 @@ module _ (frames : List Frame) (ring : AreRoundRing frames) where
       let out = ltb-false (((p + 2 ^ 32) - frame.core.arc.lo) % 2 ^ 32) frame.core.arc.len lacks in
       subst (λ lo. gap p lo < gap p frame.core.arc.lo) (sym k.starts) (near_behind p frame.core.arc.lo frame.core.arc.len arc.1 arc.0.some arc.0.most (omega (arith, out)))
 
+  -- ---- the one behind the nearest
+
+  module _ (reached : ℕ) where
+    -- none of the first groups is nearer to a position
+    abbrev IsNearest : ℕ → Frame → Type 0
+    IsNearest p frame = (other : Frame) → Among other (take reached frames) → gap p frame.core.arc.lo ≤ gap p other.core.arc.lo
+
+    -- the first one behind them, which follows a group
+    record Follows (frame : Frame) : Type 0 where
+      other : Frame
+      rest : List Frame
+      back_is : drop reached frames ≡ other ∷ rest
+      before : FollowedBy frame other
+
+    wrapped : (p : ℕ) (frame : Frame) → Among frame (take reached frames) → IsNearest p frame → holds frame.core.arc p ≡ false → (l : List Frame) → frames ≡ l ++ frame ∷ [] → (all : List Frame) → frames ≡ all → take reached frames ≡ all → Follows frame
+    wrapped p frame a near lacks l whole [] e same = absurd (subst (Among frame) same a)
+    wrapped p frame a near lacks l whole (first ∷ rest) e same =
+        let k = ring.last l rest frame first whole e in
+        let le = near first (subst (Among first) (sym same) (inl refl)) in
+        let lt = nearer p frame first (among_first reached frames frame a) k lacks in
+        absurd (omega (arith, le, lt))
+
+    behind : (p : ℕ) (frame : Frame) → Among frame (take reached frames) → IsNearest p frame → holds frame.core.arc p ≡ false → (l b rest : List Frame) → drop reached frames ≡ rest → take reached frames ≡ l ++ frame ∷ b → frames ≡ l ++ frame ∷ (b ++ rest) → Follows frame
+    behind p frame a near lacks l (other ∷ b) rest r split whole =
+        let k = ring.next l (b ++ rest) frame other whole in
+        let le = near other (subst (Among other) (sym split) (Among-right other l (frame ∷ other ∷ b) (inr (inl refl)))) in
+        let lt = nearer p frame other (among_first reached frames frame a) k lacks in
+        absurd (omega (arith, le, lt))
+    behind p frame a near lacks l [] (other ∷ rest) r split whole = record { other = other; rest = rest; back_is = r; before = ring.next l rest frame other whole }
+    behind p frame a near lacks l [] [] r split whole = wrapped p frame a near lacks l whole frames refl (split ∙ sym whole)
+
+    -- the nearest of the first groups, where it lacks the position, is followed by the first one behind them
+    follows : (p : ℕ) (frame : Frame) → Among frame (take reached frames) → IsNearest p frame → holds frame.core.arc p ≡ false → Follows frame
+    follows p frame a near lacks =
+        let w = parts_of (take reached frames) frame a in
+        behind p frame a near lacks w.0 w.1 (drop reached frames) refl w.2
+        (sym (take-append-drop reached frames) ∙ (ap (λ (fs : List Frame). fs ++ drop reached frames) w.2 ∙ append_assoc w.0 (frame ∷ w.1) (drop reached frames)))
+
   -- ---- a client learns that a key is not the chosen group's
 
   module _ (reached p : ℕ) (frame : Frame) (known : KnownGroups) (k : KnowsFirst frames reached known) (a : Among frame frames) (c : chosen p known ≡ Some frame.core.id) (lacks : holds frame.core.arc p ≡ false) where
@@ -177,8 +264,8 @@ module _ (frames : List Frame) (ring : AreRoundRing frames) where
           omega (arith, e))
     ]
 
-    next_one : Follows frames FollowedBy ring.next ring.last nearer reached frame
-    next_one = follows frames FollowedBy ring.next ring.last nearer reached p frame in_prefix near lacks
+    next_one : Follows reached frame
+    next_one = follows reached p frame in_prefix near lacks
 
     -- the first ones, and those behind them
     whole : frames ≡ take reached frames ++ next_one.other ∷ next_one.rest
@@ -212,10 +299,10 @@ module _ (frames : List Frame) (ring : AreRoundRing frames) where
     names_after : map name_in (learnt_from_not_mine frame.core.id frame.core.arc frame.core.succ known) ≡ map id_of (take (reached + 1) frames)
     names_after =
         ap (λ l. map name_in l) learnt
-        ∙ (map_last name_in started entry
+        ∙ (map_push name_in started entry
         ∙ (ap (λ l. l ++ frame.core.succ.group ∷ []) names_started
         ∙ (ap (λ d. map id_of (take reached frames) ++ d ∷ []) next_one.before.name
-        ∙ (sym (map_last id_of (take reached frames) next_one.other)
+        ∙ (sym (map_push id_of (take reached frames) next_one.other)
         ∙ ap (λ l. map id_of l) (sym taken)))))
 
     -- all starts are known now
@@ -245,11 +332,11 @@ module _ (frames : List Frame) (ring : AreRoundRing frames) where
     starts_after : map start_known (learnt_from_not_mine frame.core.id frame.core.arc frame.core.succ known) ≡ map start_of (take (reached + 1) frames)
     starts_after =
         ap (λ l. map start_known l) learnt
-        ∙ (map_last start_known started entry
+        ∙ (map_push start_known started entry
         ∙ (ap (λ l. l ++ (frame.core.succ.group, end_of frame.core.arc) ∷ []) starts_started
         ∙ (ap (λ d. map start_of (take reached frames) ++ (d, end_of frame.core.arc) ∷ []) next_one.before.name
         ∙ (ap (λ lo. map start_of (take reached frames) ++ (next_one.other.core.id, lo) ∷ []) (sym next_one.before.starts)
-        ∙ (sym (map_last start_of (take reached frames) next_one.other)
+        ∙ (sym (map_push start_of (take reached frames) next_one.other)
         ∙ ap (λ l. map start_of l) (sym taken))))))
 
     more : reached + 1 ≤ length frames

@@ -21,7 +21,7 @@ use Rattle.sc_live_plain.proofs.PlainProofs.PlainSteps.{node_number, value_other
 use Rattle.sc_live_plain.proofs.PlainRowsProofs.RowViews.{same_replicas, value_own, Journal, replica_is, replica_others}
 use Rattle.sc_live_plain.proofs.CalmProofs.CalmClients.{EndsWait}
 use Rattle.sc_live_plain.proofs.CalmProofs.CalmNodes.{Turns, aside_is, aside_answer, step_is}
-use Rattle.sc_live_plain.proofs.PlainProofs.PlainClients.{asking}
+use Rattle.sc_live_plain.proofs.CalmProofs.CalmClients.{asking}
 use Rattle.sc_live_plain.proofs.LeadersProofs.LeadingReplicas.{IsHeld, IsReportedOf}
 use Rattle.sc_live_plain.proofs.PlainRowsProofs.Lists.{some_is}
 use Rattle.sc_live_plain.proofs.PlainRowsProofs.NodeRows.{NodeRow, found_after, others_after}

@@ -21,7 +21,7 @@ use Rattle.sc_live_plain.proofs.PlainProofs.PlainBeginnings.{IsStage, stage}
 use Rattle.sc_live_plain.proofs.PlainProofs.PlainSteps.{node_born, node_number}
 use Rattle.sc_live_plain.proofs.PlainRowsProofs.RowViews.{Journal, replica_is}
 use Rattle.sc_live_plain.proofs.CalmProofs.CalmClients.{waiting_home}
-use Rattle.sc_live_plain.proofs.PlainProofs.PlainClients.{asking}
+use Rattle.sc_live_plain.proofs.CalmProofs.CalmClients.{asking}
 use Rattle.sc_live_plain.proofs.LeadersProofs.LeadingReplicas.{IsHeld}
 use Rattle.sc_live_plain.proofs.PlainRowsProofs.Lists.{map_among}
 use Rattle.sc_live_plain.proofs.LeadersProofs.IdleLeaders.{leader_idle}

@@ -1,12 +1,12 @@
 -- Between two orders each row of a client leaves a journal in which clients ask alone; and so each row.
 use Rattle.sc_live_plain.proofs.PlainRowsProofs.Lists.{at_zero}
-use Rattle.std.proofs.Common.{◌≡◌, ℕ, ◌≤◌, eqb, Bool, true, false, cond, List, [], ◌∷◌, ◌++◌, drop, find, Some, ◌⊎◌, inl, inr, refl, sym, ◌∙◌, ap, subst}
-use Rattle.std.proofs.lemmas.Bool.{cases_eq}
-use Rattle.sc_base.specs.Definitions.{Among, Each, client_actor}
-use Rattle.sc_node_table.specs.Values.{Draw, Base, OrderLine, Mail, Seat, Row, Event, Deliver, Go, Got, Client}
+use Rattle.std.proofs.Common.{◌≡◌, ℕ, ◌+◌, ◌≤◌, eqb, Bool, true, false, cond, List, [], ◌∷◌, ◌++◌, map, drop, find, Some, ◌⊎◌, inl, inr, refl, sym, ◌∙◌, ap, subst, arith}
+use Rattle.std.proofs.lemmas.Bool.{cases_eq, both_ways}
+use Rattle.sc_base.specs.Definitions.{Among, Each, client_actor, is_member}
+use Rattle.sc_node_table.specs.Values.{Draw, Base, OrderLine, Mail, MailBody, Request, Answer, Accept, Accepted, Learn, Seat, Row, Event, Deliver, Go, Got, Client}
 use Rattle.sc_actor.specs.declared.rows.Input.TheVariants.{Go as GoInput}
 use Rattle.sc_actor.specs.Definitions.{mails, is_delivery, value, acted, input_of, System, row_of, has_started, waiting, kth}
-use Rattle.sc_node_table.specs.NodeDefinitions.{is_node}
+use Rattle.sc_node_table.specs.NodeDefinitions.{is_node, slots_ahead}
 use Rattle.sc_client_table.specs.table.TableDefinitions.{ClientStep, table}
 use Rattle.sc_scenario.specs.declared.scenario.scenarios.Asks.{Asks}
 use Rattle.sc_scenario.specs.declared.scenario.scenarios.Scenario.{Scenario}
@@ -14,20 +14,38 @@ use Rattle.sc_scenario.specs.scenario.Definitions.{ValidScenariosAreBounded}
 use Rattle.sc_meaning.specs.sound.SoundDefinitions.{Player, player_table, node_seat, client_seat, route_of, births, system_of, as_nodes}
 use Rattle.sc_live_orderly.specs.OrderlyDefinitions.{IsTidy, IsOrderly, IsInOrder, rest, mail_for, taken}
 use Rattle.sc_live_orderly.proofs.OrderlyLemmas.{TakesFirst, takes_first, is_born-from, rest-row}
-use Rattle.sc_live_plain.specs.PlainDefinitions.{IsAskingClient, IsAsking, AreFarFromLast, RequestsGoOn, Other, mark, marks_for, marks_at, IsOther, IsTaken, IsLinkedSetting, IsCalmClient, BeginsBy, StaysCalm, Setting, IsSetting, IsCalmMail, begun_ones, IsBegun}
+use Rattle.sc_live_plain.specs.PlainDefinitions.{IsAskingClient, IsAsking, AreFarFromLast, RequestsGoOn, Other, mark, marks_for, marks_at, IsOther, IsTaken, IsLinkedSetting, IsCalmClient, BeginsBy, StaysCalm, Setting, IsSetting, IsCalmMail, begun_ones, IsBegun, Frame, IsFrame, mark_of, Requests, IsPlainBody}
 use Rattle.sc_live_plain.proofs.PlainProofs.ActingClients.{becomes, begins_more, begins_by, takes_is, starts_is, starts_more, starts_now}
 use Rattle.sc_live_plain.proofs.CalmProofs.MoreCalmRequests.{aside_mark, takes_only, go_only}
 use Rattle.sc_live_plain.proofs.CalmProofs.RequestPhaseNodes as turns_of
 use Rattle.sc_live_plain.proofs.PlainProofs.MorePlainRequests.{IsMore}
-use Rattle.sc_live_plain.proofs.PlainProofs.PlainClientRows.{client_mark, taken_other}
 use Rattle.sc_live_plain.proofs.PlainRowsProofs.LeaderMailOfGroups.{group_idle}
 use Rattle.sc_live_plain.proofs.PlainProofs.BegunRequestCounts.{begun_right, got_grows}
 use Rattle.sc_live_plain.proofs.PlainRowsProofs.LeaderMarks.{each_mark}
 use Rattle.sc_live_plain.proofs.PlainProofs.PlainBeginnings.{IsStage, stage}
-use Rattle.sc_live_plain.proofs.PlainProofs.PlainSteps.{client_number, started_still, same_client, node_away}
+use Rattle.sc_live_plain.proofs.PlainProofs.PlainSteps.{client_number, started_still, same_client, node_away, of_player}
 use Rattle.sc_live_plain.proofs.PlainRowsProofs.RowViews.{Journal, replica_others, replica_none}
-use Rattle.sc_live_plain.proofs.PlainProofs.PlainJournals.{of_player}
-use Rattle.sc_live_plain.proofs.CalmProofs.CalmClients.{clients_calm, Seeks, Ignores, takes_calm, go_calm}
+use Rattle.sc_live_plain.proofs.CalmProofs.CalmClients.{Seeks, Ignores, takes_calm, go_calm}
+
+-- a mail for one who votes in no slot of a group is nothing to it
+module _ (begun : Requests) (frame : Frame) (fact : IsFrame frame) (from to : ℕ) (name : Draw) (away : (slot : ℕ) → is_member (frame.at slot) to ≡ true → ⊥) where
+  member_away : is_member frame.core.members to ≡ true → ⊥
+  member_away m = away (frame.from + slots_ahead) (ap (λ ms. is_member ms to) (fact.later (frame.from + slots_ahead) (omega arith)) ∙ m)
+
+  pub nothing_to : (body : MailBody) → IsPlainBody begun frame from to body → mark_of name from body ≡ Other
+  nothing_to (Request group client seq op) b = refl
+  nothing_to (Answer group seq answer) b = refl
+  nothing_to (Accept group ballot slot command) b = absurd (away slot b.2.to_in)
+  nothing_to (Accepted group ballot slot) b = absurd (member_away (ap (is_member frame.core.members) b.2 ∙ fact.leads))
+  nothing_to (Learn group slot command) b = absurd (member_away b.1.to_in)
+  nothing_to _ b = absurd b
+
+-- a mail that a client takes is of no mark of a group
+pub taken_other : (words : ℕ → ℕ → ℕ × ℕ) (scenario : Scenario) (rows : Journal) (who number : ℕ) (first : TakesFirst (system_of as_nodes words scenario) rows who number) (name : Draw) → mark name first.mail ≡ Other
+    → IsTaken Other (marks_at words scenario rows name who) (drop 1 (marks_at words scenario rows name who))
+taken_other words scenario rows who number first name other =
+    let all : marks_at words scenario rows name who ≡ mark name first.mail ∷ map (mark name) first.behind = ap (map (mark name)) first.first in
+    inl (all ∙ (ap (λ m. m ∷ map (mark name) first.behind) other ∙ ap (λ l. Other ∷ l) (sym (ap (drop 1) all))))
 
 module _ (words : ℕ → ℕ → ℕ × ℕ) (scenario : Scenario) (begins : IsStage scenario) (set : Setting) (fact : IsSetting set) (linked : IsLinkedSetting set) (rows : Journal) (t : IsTidy rows) (j : IsAsking words scenario set begins.first rows) where
   abbrev sys : System Player Mail OrderLine
@@ -99,22 +117,27 @@ module _ (words : ℕ → ℕ → ℕ × ℕ) (scenario : Scenario) (begins : Is
       pub got_more : begun_ones c.client ≤ begun_ones (table c.client (Got first.mail)).0
       got_more = got_grows first.mail.from first.mail.body c.client
 
-      -- what becomes of the request that waits
+      -- it stays calm; and what becomes of the request that waits
+      pub took : StaysCalm (IsBegun scenario (rows ++ row_of player_table (client_seat (route_of begins.first) asks) rows (Deliver number) ∷ [])) set asks (has_started rows (client_actor asks.client)) (table c.client (Got first.mail))
+          × (Seeks (table c.client (Got first.mail)) ⊎ Ignores c.client first.mail (table c.client (Got first.mail)))
+      took =
+          takes_calm set asks (IsBegun scenario rows) (IsBegun scenario (rows ++ row_of player_table (client_seat (route_of begins.first) asks) rows (Deliver number) ∷ [])) (has_started rows (client_actor asks.client)) c.client first.mail fact linked c.calm is_calm
+          (first.receiver ∙ ap client_actor (sym c.calm.me_is)) (begun_right scenario rows begins.once asks a c.client c.calm.me_is c.calm.requests_are) (more (Deliver number) fine (table c.client (Got first.mail)) got_is got_more) (now (Deliver number) fine (table c.client (Got first.mail)) got_is got_more)
+
       pub response : Seeks (table c.client (Got first.mail)) ⊎ Ignores c.client first.mail (table c.client (Got first.mail))
-      response =
-          (takes_calm set asks (IsBegun scenario rows) (IsBegun scenario (rows ++ row_of player_table (client_seat (route_of begins.first) asks) rows (Deliver number) ∷ [])) (has_started rows (client_actor asks.client)) c.client first.mail fact linked c.calm is_calm
-          (first.receiver ∙ ap client_actor (sym c.calm.me_is)) (begun_right scenario rows begins.once asks a c.client c.calm.me_is c.calm.requests_are) (more (Deliver number) fine (table c.client (Got first.mail)) got_is got_more) (now (Deliver number) fine (table c.client (Got first.mail)) got_is got_more)).1
+      response = took.1
 
       mark_none : (name : Draw) → IsCalmMail (IsBegun scenario rows) set first.mail → mark name first.mail ≡ Other
-      mark_none name (inl p) = client_mark (IsBegun scenario rows) p.frame name (fact.are p.frame p.is_frame) first.mail.from first.mail.to first.mail.body (ap is_node first.receiver ∙ no_node) p.says
+      mark_none name (inl p) =
+          nothing_to (IsBegun scenario rows) p.frame (fact.are p.frame p.is_frame) first.mail.from first.mail.to name
+          (λ slot m. both_ways (is_node first.mail.to) (ap is_node first.receiver ∙ no_node) ((fact.are p.frame p.is_frame).nodes slot first.mail.to m)) first.mail.body p.says
       mark_none name (inr s) = aside_mark (IsBegun scenario rows) set name first.mail first.mail.body refl s
 
       client_turn : IsAsking words scenario set begins.first (rows ++ row_of player_table (client_seat (route_of begins.first) asks) rows (Deliver number) ∷ [])
       client_turn =
           let r = row_of player_table (cseat asks) rows (Deliver number) in
           client_after (Deliver number) fine (table c.client (Got first.mail)) got_is got_more (has_started rows (client_actor asks.client)) (started_still words scenario begins rows r (client_actor asks.client) refl)
-          (clients_calm.takes scenario rows (rows ++ r ∷ []) set asks (has_started rows (client_actor asks.client)) c.client first.mail fact linked c.calm is_calm (first.receiver ∙ ap client_actor (sym c.calm.me_is)) (begun_right scenario rows begins.once asks a c.client c.calm.me_is c.calm.requests_are)
-          (more (Deliver number) fine (table c.client (Got first.mail)) got_is got_more) (now (Deliver number) fine (table c.client (Got first.mail)) got_is got_more)) (λ name. taken_other words scenario rows (client_actor asks.client) number first name (mark_none name is_calm)) (takes_only first.mail c.client)
+          took.0 (λ name. taken_other words scenario rows (client_actor asks.client) number first name (mark_none name is_calm)) (takes_only first.mail c.client)
 
     -- ---- a client starts
 
@@ -128,13 +151,16 @@ module _ (words : ℕ → ℕ → ℕ × ℕ) (scenario : Scenario) (begins : Is
       pub go_more : begun_ones c.client ≤ begun_ones (table c.client GoInput).0
       go_more = starts_more words scenario begins rows asks a c.client c.fact fresh.state
 
+      pub went : StaysCalm (IsBegun scenario (rows ++ row_of player_table (client_seat (route_of begins.first) asks) rows Go ∷ [])) set asks true (table c.client GoInput) × Seeks (table c.client GoInput)
+      went = go_calm set asks (IsBegun scenario (rows ++ row_of player_table (client_seat (route_of begins.first) asks) rows Go ∷ [])) c.client fresh (now Go fine (table c.client GoInput) go_is go_more)
+
       pub seeks : Seeks (table c.client GoInput)
-      seeks = (go_calm set asks (IsBegun scenario (rows ++ row_of player_table (client_seat (route_of begins.first) asks) rows Go ∷ [])) c.client fresh (now Go fine (table c.client GoInput) go_is go_more)).1
+      seeks = went.1
 
       client_go : IsAsking words scenario set begins.first (rows ++ row_of player_table (client_seat (route_of begins.first) asks) rows Go ∷ [])
       client_go =
           client_after Go fine (table c.client GoInput) go_is go_more true (starts_now words scenario begins rows asks a c.client c.fact)
-          (clients_calm.go scenario (rows ++ row_of player_table (cseat asks) rows Go ∷ []) set asks c.client fresh (now Go fine (table c.client GoInput) go_is go_more))
+          went.0
           (λ name. inr (refl, sym (at_zero (marks_at words scenario rows name (client_actor asks.client))))) (go_only c.client)
 
     -- whatever row of it comes in order

@@ -14,7 +14,7 @@ use Rattle.sc_scenario.specs.declared.scenario.scenarios.Scenario.{Scenario}
 use Rattle.sc_meaning.specs.sound.SoundDefinitions.{player_table, client_seat, route_of, system_of, as_nodes}
 use Rattle.sc_live_orderly.specs.OrderlyDefinitions.{rest, mail_for, taken}
 use Rattle.sc_paxos_law.proofs.Lemmas.{Among-left, Among-right}
-use Rattle.sc_live_plain.specs.PlainDefinitions.{Frame, IsFrame, answer_owes, waiting_ones, IsBegun, IsWaiting, begun_of, Requests, IsPlainAnswer, IsPlainBody}
+use Rattle.sc_live_plain.specs.PlainDefinitions.{Frame, IsFrame, waiting_one, IsBegun, IsWaiting, begun_of, Requests, IsPlainAnswer, IsPlainBody}
 use Rattle.sc_live_plain.proofs.PlainProofs.PlainBeginnings.{IsStage}
 use Rattle.sc_live_plain.proofs.PlainRowsProofs.RowViews.{Journal}
 use Rattle.sc_live_plain.proofs.LeadersProofs.LeadingReplicas.{IsHeld, IsReportedOf}
@@ -91,7 +91,7 @@ module _ (words : ℕ → ℕ → ℕ × ℕ) (scenario : Scenario) where
         let same : b.asks ≡ asks = stage.once b.asks asks b.is_asks a (b.client_is ∙ me_is) in
         let low = b.low in
         let at = ap (λ (f : Base). begun_of (value player_table (client_seat (route_of f) b.asks) rows)) first ∙ (ap (λ (x : Asks). begun_of (value player_table (client_seat (route_of stage.first) x) rows)) same ∙ ap begun_of fact) in
-        let one = ap waiting_ones w.waits in
+        let one = ap waiting_one w.waits in
         let number = w.number in
         omega (arith, low, at, one, number)
 
@@ -106,14 +106,14 @@ module _ (words : ℕ → ℕ → ℕ × ℕ) (scenario : Scenario) where
         let low = begun_low t.number reply.op mine in
         let later = t.later in
         let number : t.number ≡ w.seq = omega (arith, low, later) in
-        (t.answer, final t.answer t.number reply.client reply.op number who t.owes reply.says, subst (λ n. Among (mail_of frame.lead (client_actor client.me) (Answer frame.core.id n t.answer)) sent) number t.taught_slots)
+        (t.answer, final t.answer t.number reply.client reply.op number who reply.says, subst (λ n. Among (mail_of frame.lead (client_actor client.me) (Answer frame.core.id n t.answer)) sent) number t.taught_slots)
       where
-        final : (answer : AnswerBody) (number c : ℕ) (op : Op) → number ≡ w.seq → client.me ≡ c → answer_owes answer ≡ 1 → IsPlainAnswer (IsBegun scenario rows) frame c number op answer → IsFinal answer
-        final (Value reply) number c op n e owes p = tt
-        final (NotMine arc succ) number c op n e owes p = tt
-        final (Stale last) number c op n e owes p =
+        final : (answer : AnswerBody) (number c : ℕ) (op : Op) → number ≡ w.seq → client.me ≡ c → IsPlainAnswer (IsBegun scenario rows) frame c number op answer → IsFinal answer
+        final (Value reply) number c op n e p = tt
+        final (NotMine arc succ) number c op n e p = tt
+        final (Stale last) number c op n e p =
             (let later = p.0 in
             let low = begun_low last p.1.0 (subst (λ x. IsBegun scenario rows x last p.1.0) (sym e) p.1.1) in
             absurd (omega (arith, later, low, n)))
-        final (NotLeader hint) number c op n e owes p = absurd p
-        final (Gone into) number c op n e owes p = absurd p
+        final (NotLeader hint) number c op n e p = absurd p
+        final (Gone into) number c op n e p = absurd p

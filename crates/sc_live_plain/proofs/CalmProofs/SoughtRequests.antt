@@ -13,7 +13,7 @@ use Rattle.sc_live_plain.specs.PlainDefinitions.{IsAsking, replica_at, IsLinkedS
 use Rattle.sc_live_plain.proofs.PlainProofs.PlainBeginnings.{IsStage}
 use Rattle.sc_live_plain.proofs.PlainRowsProofs.RowViews.{Journal}
 use Rattle.sc_live_plain.proofs.CalmProofs.CalmClients.{EndsWait}
-use Rattle.sc_live_plain.proofs.PlainProofs.PlainClients.{asking}
+use Rattle.sc_live_plain.proofs.CalmProofs.CalmClients.{asking}
 use Rattle.sc_live_plain.proofs.LeadersProofs.LeadingReplicas.{IsHeld}
 use Rattle.sc_live_plain.proofs.PlainRowsProofs.RowViews.{client_is}
 use Rattle.sc_live_plain.proofs.PlainRowsProofs.RepeatedMail.{mail_of}

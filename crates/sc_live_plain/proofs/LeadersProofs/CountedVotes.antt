@@ -8,10 +8,10 @@ use Rattle.sc_node_table.specs.Values.{Command, Call, Counted, Chosen, NotYet, F
 use Rattle.sc_words.specs.paxos.PaxosDefinitions.{LeaderState, flight_at, without_flight, without_flight_at, kept_voters, voters_after, with_voters, vote_at}
 use Rattle.sc_words.proofs.PaxosProofs.PaxosLemmas.{find_found, Each-among}
 use Rattle.sc_node_table.specs.NodeDefinitions.{has_room, executed, ReplicaState, Place, Executed, childless, next, set_at, last_slot, at_slot, with_slot, numbers_from, slots_ahead, leads, readied, vote_tallied, voted, accepted_row}
-use Rattle.sc_live_plain.specs.PlainDefinitions.{Frame, IsFrame, replica_owes, Requests, IsPlainCommand, takers, IsPlainFlight, IsPlainLeader, IsPlainReplica, HasOffered}
+use Rattle.sc_live_plain.specs.PlainDefinitions.{Frame, IsFrame, Requests, IsPlainCommand, takers, IsPlainFlight, IsPlainLeader, IsPlainReplica, HasOffered}
 use Rattle.sc_live_plain.proofs.LeadersProofs.LeaderRequests.{begins}
-use Rattle.sc_live_plain.proofs.PlainRowsProofs.SlotCounts.{found_one, one_if, one_if_most, one_yes, one_no, entries_at, with_length, with_count, with_each, with_among, with_it, with_at, out_length, out_here, out_other, out_each, out_among}
-use Rattle.sc_live_plain.proofs.LeadersProofs.Flights.{others_out, voted_length, voted_count, voted_each, voted_value, voted_others, voted_here, only_flight, no_flight_at, numbered_get, numbered_past, closed_set}
+use Rattle.sc_live_plain.proofs.PlainRowsProofs.SlotCounts.{found_one, one_if, one_if_most, one_yes, one_no, entries_at, with_count, with_each, with_among, with_it, with_at, out_here, out_other, out_each, out_among}
+use Rattle.sc_live_plain.proofs.LeadersProofs.Flights.{others_out, voted_count, voted_each, voted_value, voted_others, voted_here, only_flight, no_flight_at, numbered_get, closed_set}
 use Rattle.sc_live_steps.proofs.FollowingProofs.KeptVotes.{HasVoted, vote_kept}
 use Rattle.sc_live_plain.proofs.LeadersProofs.LeadingReplicas.{in_range, range_before, range_behind, early_taken, flights_at, IsHeld, Leads}
 use Rattle.sc_live_plain.proofs.LeadersProofs.PlainPumps.{call_is}
@@ -34,16 +34,16 @@ module _ (begun : Requests) (frame : Frame) (fact : IsFrame frame) (taken : ℕ)
   pub record IsCounted (from slot : ℕ) (place : Place) : Type 0 where
     pub held : List (Flight Command)
     pub votes : IsVoted from slot r.leader.flights held
-    pub run : IsRun begun frame fact (next r) (next r + taken) held (replica_owes r) Keeps place
+    pub run : IsRun begun frame fact (next r) (next r + taken) held Keeps place
 
   abbrev changed : List (Flight Command) → List (ℕ × Command) → ReplicaState
   changed fs es = record r { leader = record r.leader { flights = fs }; ready = es }
 
   -- other flights, and other commands that are ready, at the same slots
   changed_leads : (fs : List (Flight Command)) (es : List (ℕ × Command)) → Each (IsPlainFlight begun frame) fs → Each (λ (e : ℕ × Command). IsPlainCommand begun frame e.1) es
-      → ((s : ℕ) → flights_at s fs + entries_at s es ≡ takers r s) → length fs + length es ≤ length r.leader.flights + length r.ready → ((c n : ℕ) → Keeps c n → IsHeld (changed fs es) c n)
-      → Leads begun frame (next r) (next r + taken) fs (replica_owes r) Keeps taken (changed fs es, [])
-  changed_leads fs es fe ee same few holds =
+      → ((s : ℕ) → flights_at s fs + entries_at s es ≡ takers r s) → ((c n : ℕ) → Keeps c n → IsHeld (changed fs es) c n)
+      → Leads begun frame (next r) (next r + taken) fs Keeps taken (changed fs es, [])
+  changed_leads fs es fe ee same holds =
       let none : 0 ≡ next r - next r = omega arith in
       record {
         plain = record {
@@ -78,7 +78,6 @@ module _ (begun : Requests) (frame : Frame) (fact : IsFrame frame) (taken : ℕ)
         said = tt;
         learns = λ who m ne. ap (numbers_from (next r)) none;
         offers = λ slot who least high a. absurd (omega (arith, least, high));
-        owed = omega (arith, few);
         backlog = λ c n w. inl (holds c n w);
       }
 
@@ -87,7 +86,7 @@ module _ (begun : Requests) (frame : Frame) (fact : IsFrame frame) (taken : ℕ)
   same_counted from slot none = record {
     held = r.leader.flights;
     votes = record { others = λ other ne. refl; here = λ flight e. absurd (none flight e) };
-    run = record { taken = taken; leads = begins begun frame fact taken r p l (replica_owes r) Keeps (omega arith) (λ c n h. h); done = d };
+    run = record { taken = taken; leads = begins begun frame fact taken r p l Keeps (λ c n h. h); done = d };
   }
 
   -- a slot that is not open has no flight
@@ -161,7 +160,7 @@ module _ (begun : Requests) (frame : Frame) (fact : IsFrame frame) (taken : ℕ)
                 undecided = (let same : flight ≡ g = some_is (sym e ∙ k) in
                     let here : g.slot ≡ slot = ap (λ (x : Flight Command). x.slot) (sym same) ∙ at in ap (λ s. is_majority (frame.at s) (kept_voters voters)) here ∙ undecided);
               }))
-              l.ready (λ s. (let c = voted_count slot voters s r.leader.flights in omega (arith, c))) (let long = voted_length slot voters r.leader.flights in omega (arith, long))
+              l.ready (λ s. (let c = voted_count slot voters s r.leader.flights in omega (arith, c)))
               (λ c n h. record {
                 number = h.number;
                 op = h.op;
@@ -185,13 +184,10 @@ module _ (begun : Requests) (frame : Frame) (fact : IsFrame frame) (taken : ℕ)
       es : List (ℕ × Command)
       es = with_slot r.ready slot flight.value
 
-      ready_leads : Leads begun frame (next r) (next r + taken) fs (replica_owes r) Keeps taken (changed fs es, [])
+      ready_leads : Leads begun frame (next r) (next r + taken) fs Keeps taken (changed fs es, [])
       unfolding fs es
       ready_leads =
           let one = one_flight in
-          let none = no_entry in
-          let shorter = out_length (λ (f : Flight Command). f.slot) (λ s xs. without_flight s xs) (λ s. refl) (λ s x xs. refl) slot r.leader.flights (omega (arith, one)) in
-          let longer = with_length slot flight.value r.ready no_entry in
           changed_leads (without_flight slot r.leader.flights) (with_slot r.ready slot flight.value)
           (out_each (λ (f : Flight Command). f.slot) (λ s xs. without_flight s xs) (λ s. refl) (λ s x xs. refl) (IsPlainFlight begun frame) slot r.leader.flights l.flights)
           (with_each slot flight.value (λ (x : ℕ × Command). IsPlainCommand begun frame x.1) r.ready flies.is_call l.ready)
@@ -208,7 +204,6 @@ module _ (begun : Requests) (frame : Frame) (fact : IsFrame frame) (taken : ℕ)
                 let no_ = one_no (eqb slot s) (ne_eqb slot s past) in
                 omega (arith, out, more, no_))
           ])
-          (omega (arith, shorter, longer))
           (λ c n h. record {
             number = h.number;
             op = h.op;
@@ -235,7 +230,7 @@ module _ (begun : Requests) (frame : Frame) (fact : IsFrame frame) (taken : ℕ)
           let out = out_here (λ (f : Flight Command). f.slot) (λ m xs. without_flight m xs) (λ m. refl) (λ m x xs. refl) slot r.leader.flights (omega (arith, one)) in
           no_flight_at slot (without_flight slot r.leader.flights) g (omega (arith, one, out)) k
 
-      decided_by : (place : Place) → IsRun begun frame fact (next r) (next r + taken) fs (replica_owes r) Keeps place → R place
+      decided_by : (place : Place) → IsRun begun frame fact (next r) (next r + taken) fs Keeps place → R place
       unfolding fs
       decided_by place run = record {
         held = without_flight slot r.leader.flights;
@@ -251,14 +246,14 @@ module _ (begun : Requests) (frame : Frame) (fact : IsFrame frame) (taken : ℕ)
           cond_both (eqb slot (next r) && has_room after) (executed true flight.value (after, [])) (childless (after, [])) (λ (step : Executed). R step.0)
           (λ t. (
           let here = eqb-true slot (next r) (and_parts (eqb slot (next r)) (has_room after) t).0 in
-          let c = call_is begun frame fact (next r) (next r + taken) fs (replica_owes r) Keeps flight.value flies.is_call in
+          let c = call_is begun frame fact (next r) (next r + taken) fs Keeps flight.value flies.is_call in
           let ready : at_slot es (next r) ≡ Some flight.value = ap (at_slot es) (sym here) ∙ with_at slot flight.value r.ready in
-          let less = some_taken begun frame fact (next r) (next r + taken) fs (replica_owes r) Keeps taken after [] flight.value ready ready_leads in
-          let now = subst (λ t_. Leads begun frame (next r) (next r + taken) fs (replica_owes r) Keeps t_ (after, [])) less.1 ready_leads in
+          let less = some_taken begun frame fact (next r) (next r + taken) fs Keeps taken after [] flight.value ready ready_leads in
+          let now = subst (λ t_. Leads begun frame (next r) (next r + taken) fs Keeps t_ (after, [])) less.1 ready_leads in
           let up : next r + (less.0 + 1) ≡ next r + taken = ap (λ t_. next r + t_) (sym less.1) in
           decided_by (executed true flight.value (after, [])).0
-          (subst (λ (x : Command). IsRun begun frame fact (next r) (next r + taken) fs (replica_owes r) Keeps (executed true x (after, [])).0) (sym c.3)
-          (executed_run begun frame fact (next r) (next r + taken) fs (replica_owes r) Keeps room less.0 after [] c.0 c.1 c.2 up (ready ∙ ap Some c.3) now))))
+          (subst (λ (x : Command). IsRun begun frame fact (next r) (next r + taken) fs Keeps (executed true x (after, [])).0) (sym c.3)
+          (executed_run begun frame fact (next r) (next r + taken) fs Keeps room less.0 after [] c.0 c.1 c.2 up (ready ∙ ap Some c.3) now))))
           (λ n. (
           let past : slot ≡ next r → ⊥ = λ here. both_ways (eqb slot (next r) && has_room after) n
           (and_from (eqb slot (next r)) (has_room after) (eq-eqb slot (next r) here) (lt-ltb (next r) (last_slot + length r.sets) (omega (arith, room, sets)))) in
@@ -275,13 +270,13 @@ module _ (begun : Requests) (frame : Frame) (fact : IsFrame frame) (taken : ℕ)
           cond_both (eqb slot (next r) && has_room after) (executed true flight.value (after, [])) (childless (after, [])) (λ (step : Executed). step.1 ≡ [])
           (λ t. (
           let here = eqb-true slot (next r) (and_parts (eqb slot (next r)) (has_room after) t).0 in
-          let c = call_is begun frame fact (next r) (next r + taken) fs (replica_owes r) Keeps flight.value flies.is_call in
+          let c = call_is begun frame fact (next r) (next r + taken) fs Keeps flight.value flies.is_call in
           let ready : at_slot es (next r) ≡ Some flight.value = ap (at_slot es) (sym here) ∙ with_at slot flight.value r.ready in
-          let less = some_taken begun frame fact (next r) (next r + taken) fs (replica_owes r) Keeps taken after [] flight.value ready ready_leads in
-          let now = subst (λ t_. Leads begun frame (next r) (next r + taken) fs (replica_owes r) Keeps t_ (after, [])) less.1 ready_leads in
+          let less = some_taken begun frame fact (next r) (next r + taken) fs Keeps taken after [] flight.value ready ready_leads in
+          let now = subst (λ t_. Leads begun frame (next r) (next r + taken) fs Keeps t_ (after, [])) less.1 ready_leads in
           let up : next r + (less.0 + 1) ≡ next r + taken = ap (λ t_. next r + t_) (sym less.1) in
           subst (λ (x : Command). (executed true x (after, [])).1 ≡ []) (sym c.3)
-          (executed_none begun frame fact (next r) (next r + taken) fs (replica_owes r) Keeps room less.0 after [] c.0 c.1 c.2 up (ready ∙ ap Some c.3) now)))
+          (executed_none begun frame fact (next r) (next r + taken) fs Keeps room less.0 after [] c.0 c.1 c.2 up (ready ∙ ap Some c.3) now)))
           (λ n. refl)
 
     vote_none : (o : Option (Flight Command)) → flight_at slot r.leader.flights ≡ o → (vote_tallied slot (vote_at from slot (frame.at slot) o r.leader) (r, [])).1 ≡ []

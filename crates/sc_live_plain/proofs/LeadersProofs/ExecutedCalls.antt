@@ -10,7 +10,7 @@ use Rattle.sc_words.specs.ideal.IdealDefinitions.{Contents, key_of, holds_key, r
 use Rattle.sc_words.specs.declared.commands.effects.Effect.TheVariants as Was
 use Rattle.sc_group_table.specs.machine.MachineDefinitions.{Group, done, served_by_note, served, called, applied}
 use Rattle.sc_node_table.specs.NodeDefinitions.{answer_of, entered, forgotten, ReplicaState}
-use Rattle.sc_live_plain.specs.PlainDefinitions.{Frame, IsFrame, answer_owes, Requests, written_by, IsWrittenValue, IsPlainCall, IsPlainAnswer, IsPlainGroup}
+use Rattle.sc_live_plain.specs.PlainDefinitions.{Frame, IsFrame, Requests, written_by, IsWrittenValue, IsPlainCall, IsPlainAnswer, IsPlainGroup}
 use Rattle.sc_live_plain.proofs.PlainRowsProofs.Lists.{some_is}
 
 -- what a key has after an operation is what it had, or what the operation writes
@@ -44,7 +44,6 @@ pub record IsServed (begun : Requests) (frame : Frame) (client seq : ℕ) (op : 
   pub answer : AnswerBody
   pub answer_is : answer_of after.1 ≡ Some answer
   pub says : IsPlainAnswer begun frame client seq op answer
-  pub owes : answer_owes answer ≡ 1
 
 module _ (begun : Requests) (frame : Frame) (fact : IsFrame frame) where
   done_plain : (client seq : ℕ) (op : Op) (group : Group) → begun client seq op → IsPlainGroup begun frame group → IsServed begun frame client seq op (done group client seq op)
@@ -68,7 +67,6 @@ module _ (begun : Requests) (frame : Frame) (fact : IsFrame frame) where
     answer = Value (reply_of op group.pairs);
     answer_is = refl;
     says = λ value e. g.stored (key_of op) value e;
-    owes = refl;
   }
 
   -- a call is answered by what was noted of its client
@@ -78,10 +76,10 @@ module _ (begun : Requests) (frame : Frame) (fact : IsFrame frame) where
   note_plain (Some note) client seq op group e b g =
       cond_both (ltb note.seq seq) (done group client seq op) (cond (eqb note.seq seq) (group, Was.Again note.reply) (group, Was.Stale note.seq)) (IsServed begun frame client seq op) (λ _. done_plain client seq op group b g)
       (λ f. cond_both (eqb note.seq seq) (group, Was.Again note.reply) (group, Was.Stale note.seq) (IsServed begun frame client seq op)
-      (λ _. record { group = g; answer = Value note.reply; answer_is = refl; says = λ value k. g.replied client note e value k; owes = refl })
+      (λ _. record { group = g; answer = Value note.reply; answer_is = refl; says = λ value k. g.replied client note e value k })
       (λ d. (let low = ltb-false note.seq seq f in
       let other = eqb-false note.seq seq d in
-      record { group = g; answer = Stale note.seq; answer_is = refl; says = (omega (arith, low, other), g.noted client note e); owes = refl })))
+      record { group = g; answer = Stale note.seq; answer_is = refl; says = (omega (arith, low, other), g.noted client note e) })))
 
   -- a call is answered by the arc
   arc_plain : (client seq : ℕ) (op : Op) (group : Group) → IsPlainCall begun frame client seq op → IsPlainGroup begun frame group → IsServed begun frame client seq op (served group client seq op)

@@ -1,13 +1,11 @@
 -- What a vote makes of the flights, and of those that voted.
-use Rattle.std.proofs.Common.{◌≡◌, ℕ, zero, suc, ◌+◌, ◌<◌, ◌≤◌, eqb, true, false, cond, List, [], ◌∷◌, length, map, Option, Some, None, inl, inr, refl, sym, ◌∙◌, ap, arith, ◌-◌, ◌*◌, ◌||◌, ◌⊎◌, Bool, ◌++◌, count_by, subst}
+use Rattle.std.proofs.Common.{◌≡◌, ℕ, zero, suc, ◌+◌, ◌<◌, ◌≤◌, eqb, true, false, cond, List, [], ◌∷◌, map, Option, Some, None, inl, inr, refl, sym, ◌∙◌, ap, arith, ◌-◌, ◌⊎◌}
 use Rattle.std.specs.Prelude.{slice_get, nat_lt}
-use Rattle.std.proofs.lemmas.Bool.{cond_both, cond-true, cond-false, eqb-true, eq-eqb, ne_eqb, both_ways, cases_Bool, lt-ltb, le-ltb, or_cases, or_parts, or_left}
-use Rattle.sc_base.specs.Definitions.{Among, Each, votes_of, is_majority, is_member, with_member, IsRoster}
+use Rattle.std.proofs.lemmas.Bool.{cond_both, cond-true, cond-false, eqb-true, eq-eqb, ne_eqb, both_ways, lt-ltb, le-ltb}
+use Rattle.sc_base.specs.Definitions.{Among, Each}
 use Rattle.sc_node_table.specs.Values.{Command, Flight}
-use Rattle.sc_words.specs.paxos.PaxosDefinitions.{flight_at, without_flight, with_voters, kept_voters, add_voter, voters_after}
+use Rattle.sc_words.specs.paxos.PaxosDefinitions.{flight_at, without_flight, with_voters}
 use Rattle.sc_node_table.specs.NodeDefinitions.{numbers_from, ReplicaState, next, set_at, slots_ahead}
-use Rattle.sc_base.proofs.Lemmas.{length_with as with_one}
-use Rattle.sc_paxos_law.proofs.Lemmas.{member-among}
 use Rattle.sc_live_plain.proofs.PlainRowsProofs.SlotCounts.{one_yes, one_no, count-cons}
 use Rattle.sc_live_plain.proofs.LeadersProofs.LeadingReplicas.{flights_at}
 use Rattle.sc_live_plain.proofs.PlainRowsProofs.Lists.{some_is}
@@ -28,10 +26,6 @@ others_out slot other (f ∷ fs) ne =
 module _ (slot : ℕ) (voters : Option (List ℕ)) where
   voted_by : (P : Flights → Type 0) (f : Flight Command) (fs : Flights) → (eqb f.slot slot ≡ true → P ((record f { voters = voters }) ∷ fs)) → (eqb f.slot slot ≡ false → P (f ∷ with_voters slot voters fs)) → P (with_voters slot voters (f ∷ fs))
   voted_by P f fs here later = cond_both (eqb f.slot slot) ((record f { voters = voters }) ∷ fs) (f ∷ with_voters slot voters fs) P here later
-
-  pub voted_length : (fs : Flights) → length (with_voters slot voters fs) ≡ length fs
-  voted_length [] = refl
-  voted_length (f ∷ fs) = voted_by (λ l. length l ≡ length (f ∷ fs)) f fs (λ _. refl) (λ _. (let rest = voted_length fs in omega (arith, rest)))
 
   pub voted_count : (s : ℕ) (fs : Flights) → flights_at s (with_voters slot voters fs) ≡ flights_at s fs
   voted_count s [] = refl

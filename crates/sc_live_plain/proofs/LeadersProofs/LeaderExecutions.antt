@@ -11,9 +11,9 @@ use Rattle.sc_live_plain.proofs.LeadersProofs.LeadingReplicas.{in_range, range_b
 use Rattle.sc_live_plain.proofs.LeadersProofs.PlainPumps.{call_is, pumped_leads}
 use Rattle.sc_live_plain.proofs.LeadersProofs.ReadyCalls.{one_leads, one_next, one_less}
 
-module _ (begun : Requests) (frame : Frame) (fact : IsFrame frame) (first free : ℕ) (held : List (Flight Command)) (bound : ℕ) (wanted : ℕ → ℕ → Type 0) where
+module _ (begun : Requests) (frame : Frame) (fact : IsFrame frame) (first free : ℕ) (held : List (Flight Command)) (wanted : ℕ → ℕ → Type 0) where
   abbrev L : ℕ → Place → Type 0
-  L taken place = Leads begun frame first free held bound wanted taken place
+  L taken place = Leads begun frame first free held wanted taken place
 
   -- ---- all that is ready
 
@@ -29,7 +29,7 @@ module _ (begun : Requests) (frame : Frame) (fact : IsFrame frame) (first free :
 
   pumped_done : free ≤ last_slot → (place : Place) → IsDone place → IsDone (pumped place)
   pumped_done room place d =
-      let p = pumped_leads begun frame fact first free held bound wanted d.taken place room d.leads in
+      let p = pumped_leads begun frame fact first free held wanted d.taken place room d.leads in
       record { taken = p.taken; leads = p.leads; none = ap (λ m. entries_at m (pumped place).0.ready) p.same_next ∙ ap (λ (es : List (ℕ × Command)). entries_at (next place.0) es) p.same_ready ∙ d.none }
 
   ready_is : (taken : ℕ) (r : ReplicaState) (mails : List Mail) → free ≤ last_slot → L taken (r, mails) → next_ready r ≡ at_slot r.ready (next r)
@@ -56,15 +56,15 @@ module _ (begun : Requests) (frame : Frame) (fact : IsFrame frame) (first free :
   done_by room es taken r mails short end k (Some command) e more =
       let found = at_found r.ready (next r) command (sym e) in
       let plain = Each-among (λ (entry : ℕ × Command). IsPlainCommand begun frame entry.1) r.ready (next r, command) k.leader.ready found.1 in
-      let c = call_is begun frame fact first free held bound wanted command plain in
+      let c = call_is begun frame fact first free held wanted command plain in
       let less = some_taken taken r mails command (sym e) k in
       let ready : at_slot r.ready (next r) ≡ Some (Call c.0 c.1 c.2) = sym e ∙ ap Some c.3 in
       let now : L (less.0 + 1) (r, mails) = subst (λ t. L t (r, mails)) less.1 k in
       let up : next r + (less.0 + 1) ≡ free = ap (λ t. next r + t) (sym less.1) ∙ end in
       let place : Place = executed_one true (Call c.0 c.1 c.2) (r, mails) in
-      let shorter = one_less begun frame fact first free held bound wanted less.0 r mails c.0 c.1 c.2 up ready now in
-      let step = one_next begun frame fact first free held bound wanted less.0 r mails c.0 c.1 c.2 up ready now in
-      let done : IsDone (executed_ready es place).0 = more less.0 place (omega (arith, shorter, short)) (omega (arith, step, up)) (one_leads begun frame fact first free held bound wanted less.0 r mails c.0 c.1 c.2 up ready now) in
+      let shorter = one_less begun frame fact first free held wanted less.0 r mails c.0 c.1 c.2 up ready now in
+      let step = one_next begun frame fact first free held wanted less.0 r mails c.0 c.1 c.2 up ready now in
+      let done : IsDone (executed_ready es place).0 = more less.0 place (omega (arith, shorter, short)) (omega (arith, step, up)) (one_leads begun frame fact first free held wanted less.0 r mails c.0 c.1 c.2 up ready now) in
       subst (λ (x : Command). IsDone (pumped (executed_ready es (executed_one true x (r, mails))).0)) (sym c.3) (pumped_done room (executed_ready es place).0 done)
 
   all_done : free ≤ last_slot → (es : List (ℕ × Command)) (taken : ℕ) (place : Place) → length place.0.ready ≤ length es → next place.0 + taken ≡ free → L taken place → IsDone (executed_ready es place).0
@@ -92,15 +92,15 @@ module _ (begun : Requests) (frame : Frame) (fact : IsFrame frame) (first free :
       child_by_ready es taken r mails end k (Some command) e more =
           let found = at_found r.ready (next r) command (sym e) in
           let plain = Each-among (λ (entry : ℕ × Command). IsPlainCommand begun frame entry.1) r.ready (next r, command) k.leader.ready found.1 in
-          let c = call_is begun frame fact first free held bound wanted command plain in
+          let c = call_is begun frame fact first free held wanted command plain in
           let less = some_taken taken r mails command (sym e) k in
           let ready : at_slot r.ready (next r) ≡ Some (Call c.0 c.1 c.2) = sym e ∙ ap Some c.3 in
           let now : L (less.0 + 1) (r, mails) = subst (λ t. L t (r, mails)) less.1 k in
           let up : next r + (less.0 + 1) ≡ free = ap (λ t. next r + t) (sym less.1) ∙ end in
           let place : Place = executed_one true (Call c.0 c.1 c.2) (r, mails) in
-          let step = one_next begun frame fact first free held bound wanted less.0 r mails c.0 c.1 c.2 up ready now in
+          let step = one_next begun frame fact first free held wanted less.0 r mails c.0 c.1 c.2 up ready now in
           subst (λ (y : Command). next_child y r ++ (executed_ready es (executed_one true y (r, mails))).1 ≡ []) (sym c.3)
-          (more less.0 place (omega (arith, step, up)) (one_leads begun frame fact first free held bound wanted less.0 r mails c.0 c.1 c.2 up ready now))
+          (more less.0 place (omega (arith, step, up)) (one_leads begun frame fact first free held wanted less.0 r mails c.0 c.1 c.2 up ready now))
 
   -- nor an execution
   pub executed_none : free ≤ last_slot → (taken : ℕ) (r : ReplicaState) (mails : List Mail) (client seq : ℕ) (op : Op) → next r + (taken + 1) ≡ free → at_slot r.ready (next r) ≡ Some (Call client seq op) → L (taken + 1) (r, mails)
@@ -108,8 +108,8 @@ module _ (begun : Requests) (frame : Frame) (fact : IsFrame frame) (first free :
   unfolding executed
   executed_none room taken r mails client seq op end ready k =
       let place : Place = executed_one true (Call client seq op) (r, mails) in
-      let step = one_next begun frame fact first free held bound wanted taken r mails client seq op end ready k in
-      no_children room place.0.ready taken place (omega (arith, step, end)) (one_leads begun frame fact first free held bound wanted taken r mails client seq op end ready k)
+      let step = one_next begun frame fact first free held wanted taken r mails client seq op end ready k in
+      no_children room place.0.ready taken place (omega (arith, step, end)) (one_leads begun frame fact first free held wanted taken r mails client seq op end ready k)
 
   -- ---- the whole of an execution
 
@@ -124,10 +124,10 @@ module _ (begun : Requests) (frame : Frame) (fact : IsFrame frame) (first free :
   unfolding executed
   executed_run room taken r mails client seq op end ready k =
       let place : Place = executed_one true (Call client seq op) (r, mails) in
-      let step = one_next begun frame fact first free held bound wanted taken r mails client seq op end ready k in
+      let step = one_next begun frame fact first free held wanted taken r mails client seq op end ready k in
       let rest : Place = (all_ready place).0 in
-      let d : IsDone rest = all_done room place.0.ready taken place (omega arith) (omega (arith, step, end)) (one_leads begun frame fact first free held bound wanted taken r mails client seq op end ready k) in
-      let p = pumped_leads begun frame fact first free held bound wanted d.taken rest room d.leads in
+      let d : IsDone rest = all_done room place.0.ready taken place (omega arith) (omega (arith, step, end)) (one_leads begun frame fact first free held wanted taken r mails client seq op end ready k) in
+      let p = pumped_leads begun frame fact first free held wanted d.taken rest room d.leads in
       record {
         taken = p.taken;
         leads = p.leads;
@@ -140,7 +140,7 @@ module _ (begun : Requests) (frame : Frame) (fact : IsFrame frame) (first free :
   -- and of a pump
   pub pumped_run : free ≤ last_slot → (taken : ℕ) (place : Place) → entries_at (next place.0) place.0.ready ≡ 0 → L taken place → IsRun (pumped place)
   pumped_run room taken place none k =
-      let p = pumped_leads begun frame fact first free held bound wanted taken place room k in
+      let p = pumped_leads begun frame fact first free held wanted taken place room k in
       record {
         taken = p.taken;
         leads = p.leads;

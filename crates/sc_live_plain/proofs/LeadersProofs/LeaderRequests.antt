@@ -1,15 +1,14 @@
 -- A request at the leading replica of a plain group: it waits and is offered, or its client is sent on.
-use Rattle.std.proofs.Common.{◌≡◌, ℕ, suc, ◌+◌, ◌-◌, ◌≤◌, ◌&&◌, not, eqb, Bool, true, false, cond, List, [], ◌∷◌, ◌++◌, length, Option, Some, None, ◌⊎◌, inl, inr, refl, sym, ◌∙◌, ap, subst, arith, append-nil}
+use Rattle.std.proofs.Common.{◌≡◌, ℕ, ◌+◌, ◌-◌, ◌≤◌, ◌&&◌, not, eqb, Bool, true, false, List, [], ◌∷◌, ◌++◌, Option, Some, None, ◌⊎◌, inl, inr, refl, sym, ◌∙◌, ap, subst, arith, append-nil}
 use Rattle.std.specs.Prelude.{nat_le}
 use Rattle.std.proofs.lemmas.Bool.{cond_both, cond-true, cond-false, eqb-true, leb-true, leb-false, cases_Bool, and_from, and_right}
-use Rattle.std.proofs.lemmas.List.{length_push}
 use Rattle.sc_base.specs.Definitions.{Among, Each, client_actor}
 use Rattle.sc_node_table.specs.Values.{Op, Command, Call, Core, Route, AnswerBody, Answer}
 use Rattle.sc_words.specs.ideal.IdealDefinitions.{key_of, holds_key}
 use Rattle.sc_mail.specs.declared.bodies.AnswerBody.TheVariants as Says
 use Rattle.sc_words.proofs.PaxosProofs.PaxosLemmas.{Each-push}
 use Rattle.sc_node_table.specs.NodeDefinitions.{admits_requests, pumped, queued_number, without_request, ReplicaState, Place, next, last_slot, request_refusal, queued, requested, request_row, numbers_from}
-use Rattle.sc_live_plain.specs.PlainDefinitions.{Frame, IsFrame, replica_owes, Requests, IsPlainCommand, IsPlainCall, IsPlainLeader, IsPlainReplica, HasOffered}
+use Rattle.sc_live_plain.specs.PlainDefinitions.{Frame, IsFrame, Requests, IsPlainCommand, IsPlainCall, IsPlainLeader, IsPlainReplica, HasOffered}
 use Rattle.sc_live_plain.proofs.LeadersProofs.LeadingReplicas.{early_taken, IsHeld, Leads}
 use Rattle.sc_live_plain.proofs.LeadersProofs.LeaderExecutions.{IsRun, pumped_run}
 use Rattle.sc_live_plain.proofs.PlainRowsProofs.RepeatedMail.{mail_of, among_push, last_among}
@@ -17,15 +16,6 @@ use Rattle.sc_live_plain.proofs.PlainRowsProofs.Lists.{some_is}
 use Rattle.sc_law_groups.proofs.GroupProofs.WithoutOne.{Each-without_request as out_calls}
 
 -- ---- the queued requests of a client
-
--- one that is there is taken out
-out_one : (backlog : List Command) (client seq : ℕ) → queued_number backlog client ≡ Some seq → length (without_request backlog client) + 1 ≡ length backlog
-out_one [] client seq e = cc
-out_one (Call c s op ∷ backlog) client seq e =
-    cond_both (eqb c client) (Some s) (queued_number backlog client) (λ o. o ≡ Some seq → length (cond (eqb c client) backlog (Call c s op ∷ without_request backlog client)) + 1 ≡ suc (length backlog))
-    (λ t _. (let short = ap length (cond-true (eqb c client) backlog (Call c s op ∷ without_request backlog client) t) in omega (arith, short)))
-    (λ f k. (let long = ap length (cond-false (eqb c client) backlog (Call c s op ∷ without_request backlog client) f) in let rest = out_one backlog client seq k in omega (arith, long, rest))) e
-out_one (_ ∷ backlog) client seq e = (let rest = out_one backlog client seq e in omega (arith, rest))
 
 -- the queued request that is found stands in the queue
 found_call : (backlog : List Command) (client seq : ℕ) → queued_number backlog client ≡ Some seq → (op : Op) × Among (Call client seq op) backlog
@@ -83,8 +73,8 @@ refusal_key None core running hint op g t s h =
 
 module _ (begun : Requests) (frame : Frame) (fact : IsFrame frame) (taken : ℕ) (r : ReplicaState) (p : IsPlainReplica begun frame frame.lead r) (l : IsPlainLeader begun frame taken r) where
   -- how a row begins
-  pub begins : (bound : ℕ) (wanted : ℕ → ℕ → Type 0) → replica_owes r ≤ bound → ((c n : ℕ) → wanted c n → IsHeld r c n) → Leads begun frame (next r) (next r + taken) r.leader.flights bound wanted taken (r, [])
-  begins bound wanted low holds =
+  pub begins : (wanted : ℕ → ℕ → Type 0) → ((c n : ℕ) → wanted c n → IsHeld r c n) → Leads begun frame (next r) (next r + taken) r.leader.flights wanted taken (r, [])
+  begins wanted holds =
       let none : 0 ≡ next r - next r = omega arith in
       record {
         plain = p;
@@ -99,7 +89,6 @@ module _ (begun : Requests) (frame : Frame) (fact : IsFrame frame) (taken : ℕ)
         said = tt;
         learns = λ who m ne. ap (numbers_from (next r)) none;
         offers = λ slot who least high a. absurd (omega (arith, least, high));
-        owed = omega (arith, low);
         backlog = λ c n w. inl (holds c n w);
       }
 
@@ -125,14 +114,14 @@ module _ (begun : Requests) (frame : Frame) (fact : IsFrame frame) (taken : ℕ)
     Wanted c n = IsHeld r c n ⊎ ((c ≡ client) × (n ≤ seq))
 
     abbrev Run : Place → Type 0
-    Run place = IsRun begun frame fact (next r) (next r + taken) r.leader.flights (replica_owes r + 28) Wanted place
+    Run place = IsRun begun frame fact (next r) (next r + taken) r.leader.flights Wanted place
 
     -- with such requests queued
-    with_calls : (backlog : List Command) → Each (IsPlainCommand begun frame) backlog → length backlog ≤ length r.backlog + 1 → ((c n : ℕ) → Wanted c n → IsHeld (record r { backlog = backlog }) c n) → Run (pumped (record r { backlog = backlog }, []))
-    with_calls backlog e few holds =
+    with_calls : (backlog : List Command) → Each (IsPlainCommand begun frame) backlog → ((c n : ℕ) → Wanted c n → IsHeld (record r { backlog = backlog }) c n) → Run (pumped (record r { backlog = backlog }, []))
+    with_calls backlog e holds =
         let after : ReplicaState = record r { backlog = backlog } in
         let none : 0 ≡ next r - next r = omega arith in
-        pumped_run begun frame fact (next r) (next r + taken) r.leader.flights (replica_owes r + 28) Wanted room taken (record r { backlog = backlog }, []) d.executed (record {
+        pumped_run begun frame fact (next r) (next r + taken) r.leader.flights Wanted room taken (record r { backlog = backlog }, []) d.executed (record {
           plain = record {
             me_is = p.me_is;
             group = p.group;
@@ -156,7 +145,6 @@ module _ (begun : Requests) (frame : Frame) (fact : IsFrame frame) (taken : ℕ)
           said = tt;
           learns = λ who m ne. ap (numbers_from (next r)) none;
           offers = λ slot who least high a. absurd (omega (arith, least, high));
-          owed = omega (arith, few);
           backlog = λ c n w. inl (holds c n w);
         })
 
@@ -169,7 +157,7 @@ module _ (begun : Requests) (frame : Frame) (fact : IsFrame frame) (taken : ℕ)
     queued_run : (o : Option ℕ) → queued_number r.backlog client ≡ o → Run (queued o client seq op (r, []))
     unfolding queued
     queued_run None e =
-        with_calls (r.backlog ++ Call client seq op ∷ []) (Each-push (IsPlainCommand begun frame) r.backlog (Call client seq op) l.backlog call) (let push = length_push r.backlog (Call client seq op) in omega (arith, push))
+        with_calls (r.backlog ++ Call client seq op ∷ []) (Each-push (IsPlainCommand begun frame) r.backlog (Call client seq op) l.backlog call)
         (λ c n w. elim w [
           | inr mine ↦ last_call c n r.backlog mine
           | inl h ↦ record {
@@ -183,7 +171,7 @@ module _ (begun : Requests) (frame : Frame) (fact : IsFrame frame) (taken : ℕ)
         cond_both (nat_le seq other) (r, []) (pumped (record r { backlog = without_request r.backlog client ++ Call client seq op ∷ [] }, [])) Run
         (λ t. record {
           taken = taken;
-          leads = begins (replica_owes r + 28) Wanted (omega arith) (λ c n w. elim w [
+          leads = begins Wanted (λ c n w. elim w [
             | inl h ↦ h
             | inr mine ↦ (
                 let found = found_call r.backlog client other e in
@@ -195,7 +183,6 @@ module _ (begun : Requests) (frame : Frame) (fact : IsFrame frame) (taken : ℕ)
         })
         (λ f. with_calls (without_request r.backlog client ++ Call client seq op ∷ [])
         (Each-push (IsPlainCommand begun frame) (without_request r.backlog client) (Call client seq op) (out_calls (IsPlainCommand begun frame) r.backlog client l.backlog) call)
-        (let push = length_push (without_request r.backlog client) (Call client seq op) in let out = out_one r.backlog client other e in omega (arith, push, out))
         (λ c n w. elim w [
           | inr mine ↦ last_call c n (without_request r.backlog client) mine
           | inl h ↦ elim (h.where_) [

@@ -1,5 +1,5 @@
 -- What holds of the leading replica of a plain group, with the mails of its row so far.
-use Rattle.std.proofs.Common.{◌≡◌, ℕ, ◌+◌, ◌-◌, ◌<◌, ◌≤◌, ◌&&◌, ◌||◌, leb, ltb, eqb, Bool, true, false, List, [], ◌∷◌, ◌++◌, count_by, sum_by, Option, Some, None, ◌⊎◌, inl, inr, refl, ◌∙◌, ap, arith}
+use Rattle.std.proofs.Common.{◌≡◌, ℕ, ◌+◌, ◌-◌, ◌<◌, ◌≤◌, ◌&&◌, ◌||◌, leb, ltb, eqb, Bool, true, false, List, [], ◌∷◌, ◌++◌, count_by, Option, Some, None, ◌⊎◌, inl, inr, refl, ◌∙◌, ap, arith}
 use Rattle.std.specs.Prelude.{is_some, nat_le, nat_lt}
 use Rattle.std.specs.List.{list_any}
 use Rattle.std.specs.Option.{option_map}
@@ -9,7 +9,7 @@ use Rattle.sc_node_table.specs.Values.{Op, Command, Call, AnswerBody, Mail, Mail
 use Rattle.sc_words.specs.paxos.PaxosDefinitions.{flight_at}
 use Rattle.sc_words.proofs.PaxosProofs.PaxosLemmas.{Each-among, find_found}
 use Rattle.sc_node_table.specs.NodeDefinitions.{is_act, from_backlog, from_acts, from_queues, offered, ReplicaState, Place, next, flying, either, taken_at, listed, taken_from, under_way, open_slots, at_slot, numbers_from}
-use Rattle.sc_live_plain.specs.PlainDefinitions.{Frame, answer_owes, mail_owes, replica_owes, Requests, IsPlainCommand, IsPlainBody, takers, AreTaken, IsPlainLeader, IsPlainReplica}
+use Rattle.sc_live_plain.specs.PlainDefinitions.{Frame, Requests, IsPlainCommand, IsPlainBody, takers, AreTaken, IsPlainLeader, IsPlainReplica}
 use Rattle.sc_live_plain.proofs.PlainRowsProofs.SlotCounts.{one_if, one_yes, one_no, count-cons, count-push, find_none, find_some, at_none, at_some, at_found}
 use Rattle.sc_live_plain.proofs.PlainRowsProofs.RepeatedMail.{learns_to, mail_of}
 
@@ -193,7 +193,6 @@ pub record IsReportedOf (frame : Frame) (mails : List Mail) (client seq : ℕ) :
   pub number : ℕ
   pub answer : AnswerBody
   pub later : seq ≤ number
-  pub owes : answer_owes answer ≡ 1
   pub taught_slots : Among (mail_of frame.lead (client_actor client) (Answer frame.core.id number answer)) mails
 
 -- the slots of what is sent in a row: Accept of slots that were free, from `free` on, and Learn of those that were not executed, from `first` on
@@ -219,8 +218,8 @@ pub record IsNew (free : ℕ) (flight : Flight Command) : Type 0 where
   pub late : free ≤ flight.slot
   pub unvoted : flight.voters ≡ None
 
--- the row began at the slot `first`, with all slots before `free` taken and these flights; at most `bound` is owed, and these requests are wanted. Now `taken` slots have a command
-pub record Leads (begun : Requests) (frame : Frame) (first free : ℕ) (held : List (Flight Command)) (bound : ℕ) (wanted : ℕ → ℕ → Type 0) (taken : ℕ) (place : Place) : Type 0 where
+-- the row began at the slot `first`, with all slots before `free` taken and these flights, and these requests are wanted. Now `taken` slots have a command
+pub record Leads (begun : Requests) (frame : Frame) (first free : ℕ) (held : List (Flight Command)) (wanted : ℕ → ℕ → Type 0) (taken : ℕ) (place : Place) : Type 0 where
   pub plain : IsPlainReplica begun frame frame.lead place.0
   pub leader : IsPlainLeader begun frame taken place.0
   pub low : first ≤ next place.0
@@ -233,5 +232,4 @@ pub record Leads (begun : Requests) (frame : Frame) (first free : ℕ) (held : L
   pub said : Each (IsSaid begun frame first free (next place.0) (next place.0 + taken)) place.1
   pub learns : (who : ℕ) → is_member frame.core.members who ≡ true → (who ≡ frame.lead → ⊥) → learns_to frame.core.id who place.1 ≡ numbers_from first (next place.0 - first)
   pub offers : (slot who : ℕ) → free ≤ slot → slot < next place.0 + taken → Among who (frame.at slot) → (command : Command) × Among (mail_of frame.lead who (Accept frame.core.id frame.ballot slot command)) place.1
-  pub owed : replica_owes place.0 + sum_by mail_owes place.1 ≤ bound
   pub backlog : (client seq : ℕ) → wanted client seq → IsHeld place.0 client seq ⊎ IsReportedOf frame place.1 client seq

@@ -1,18 +1,17 @@
 -- What the leading replica of a plain group offers: its queued requests, at the slots that are free, in their order.
-use Rattle.std.proofs.Common.{◌≡◌, ℕ, zero, suc, ◌+◌, ◌<◌, ◌≤◌, ◌&&◌, not, leb, Bool, true, List, [], ◌∷◌, ◌++◌, length, map, sum_by, Option, Some, None, ◌⊎◌, inl, inr, refl, sym, ◌∙◌, ap, subst, arith, append_assoc}
+use Rattle.std.proofs.Common.{◌≡◌, ℕ, zero, suc, ◌+◌, ◌<◌, ◌≤◌, ◌&&◌, not, leb, Bool, true, List, [], ◌∷◌, ◌++◌, map, Option, Some, None, ◌⊎◌, inl, inr, refl, sym, ◌∙◌, ap, subst, arith, append_assoc}
 use Rattle.std.specs.Prelude.{is_some, nat_le}
 use Rattle.std.proofs.lemmas.Bool.{cond_both, cond-true, cond-false, cases_lt, cases_eq, le-leb, and_from, both_ways}
-use Rattle.std.proofs.lemmas.List.{length_push}
 use Rattle.sc_base.specs.Definitions.{Among, Each, votes_of}
 use Rattle.sc_node_table.specs.Values.{Ballot, Draw, Op, Command, Call, Core, Lock, Free, Route, AnswerBody, Mail, MailBody, Accept, Must, Flight}
 use Rattle.sc_words.specs.ideal.IdealDefinitions.{key_of, holds_key}
 use Rattle.sc_words.proofs.PaxosProofs.PaxosLemmas.{Each-push, Each-weaker}
 use Rattle.sc_node_table.specs.NodeDefinitions.{sent_all, answered, Found, admits_requests, waits, refused_by, turned_down, next_queued, from_backlog, found_by, found_for, offered, pumped_from, pumped, ReplicaState, Place, name_of, next, first_set, settled, may_offer, taken_at, is_idle, last_slot, numbers_from, slots_ahead}
 use Rattle.sc_paxos_law.proofs.Lemmas.{among-member}
-use Rattle.sc_live_plain.specs.PlainDefinitions.{Frame, IsFrame, mail_owes, replica_owes, Requests, IsPlainCommand, IsPlainCall, IsPlainFlight, IsPlainLeader, IsPlainReplica}
+use Rattle.sc_live_plain.specs.PlainDefinitions.{Frame, IsFrame, Requests, IsPlainCommand, IsPlainCall, IsPlainFlight, IsPlainLeader, IsPlainReplica}
 use Rattle.sc_live_plain.proofs.PlainRowsProofs.SlotCounts.{one_yes, one_no}
 use Rattle.sc_live_plain.proofs.LeadersProofs.LeadingReplicas.{in_range, range_yes, range_behind, takes, takes_not, plain_acts, requests_only, offer_taken, IsHeld, IsReportedOf, IsSaid, IsNew, later_row, Leads}
-use Rattle.sc_live_plain.proofs.PlainRowsProofs.RepeatedMail.{mail_of, all_each, all_owed, all_learns, all_kept, all_reached, among_push, last_among}
+use Rattle.sc_live_plain.proofs.PlainRowsProofs.RepeatedMail.{mail_of, all_each, all_learns, all_kept, all_reached, among_push, last_among}
 use Rattle.sc_live_steps.proofs.FollowingProofs.LeastMembers.{none_decided}
 
 -- ---- what is found in the queue
@@ -53,9 +52,9 @@ no_votes : (members : List ℕ) → votes_of members [] ≡ 0
 no_votes [] = refl
 no_votes (x ∷ xs) = no_votes xs
 
-module _ (begun : Requests) (frame : Frame) (fact : IsFrame frame) (first free : ℕ) (held : List (Flight Command)) (bound : ℕ) (wanted : ℕ → ℕ → Type 0) where
+module _ (begun : Requests) (frame : Frame) (fact : IsFrame frame) (first free : ℕ) (held : List (Flight Command)) (wanted : ℕ → ℕ → Type 0) where
   abbrev pub L : ℕ → Place → Type 0
-  L taken place = Leads begun frame first free held bound wanted taken place
+  L taken place = Leads begun frame first free held wanted taken place
 
   module _ (slot taken : ℕ) (r : ReplicaState) (mails : List Mail) (k : L taken (r, mails)) (low : next r ≤ slot) where
     found_calls : found_for slot (r, mails) ≡ from_backlog (r, mails)
@@ -127,16 +126,6 @@ module _ (begun : Requests) (frame : Frame) (fact : IsFrame frame) (first free :
       slots = record { most = omega (arith, room); once = offer_taken slot taken (frame.at slot) (Call client seq op) (record r { backlog = rest }) mails at k.leader.slots.once };
     })
 
-    offered_owed : replica_owes after.0 + sum_by mail_owes after.1 ≤ bound
-    unfolding after offered
-    offered_owed =
-        let before = k.owed in
-        let count = ap length e in
-        let push = length_push r.leader.flights (record { slot = slot; value = Call client seq op; voters = None }) in
-        let sent = all_owed r.me (Accept (name_of r) r.leader.ballot slot (Call client seq op)) (frame.at slot) mails in
-        let nine = (fact.rosters slot).most in
-        omega (arith, before, count, push, sent, nine)
-
     accept_is : (who : ℕ) → mail_of r.me who (Accept (name_of r) r.leader.ballot slot (Call client seq op)) ≡ mail_of frame.lead who (Accept frame.core.id frame.ballot slot (Call client seq op))
     accept_is who =
         ap (λ me. mail_of me who (Accept (name_of r) r.leader.ballot slot (Call client seq op))) k.plain.me_is
@@ -177,7 +166,6 @@ module _ (begun : Requests) (frame : Frame) (fact : IsFrame frame) (first free :
             number = taught_slots.number;
             answer = taught_slots.answer;
             later = taught_slots.later;
-            owes = taught_slots.owes;
             taught_slots = all_kept r.me (Accept (name_of r) r.leader.ballot slot (Call client seq op)) (frame.at slot) mails _ taught_slots.taught_slots;
           })
           | inl is_held ↦ inl (record {
@@ -213,7 +201,6 @@ module _ (begun : Requests) (frame : Frame) (fact : IsFrame frame) (first free :
           said = offered_said;
           learns = λ who m ne. all_learns r.me (Accept (name_of r) r.leader.ballot slot (Call client seq op)) frame.core.id who (frame.at slot) mails refl ∙ k.learns who m ne;
           offers = offered_offers;
-          owed = offered_owed;
           backlog = offered_calls;
         }
 

@@ -1,6 +1,6 @@
 -- What the leading replica of a plain group executes: the ready call of its next slot.
-use Rattle.std.proofs.Common.{◌≡◌, ℕ, ◌+◌, ◌-◌, ◌<◌, ◌≤◌, eqb, true, List, [], ◌∷◌, ◌++◌, length, sum_by, Some, ◌⊎◌, inl, inr, refl, sym, ◌∙◌, ap, subst, arith, append-nil}
-use Rattle.std.proofs.lemmas.Bool.{cond_both, cond-true, cases_eq, eq-eqb, ne_eqb}
+use Rattle.std.proofs.Common.{◌≡◌, ℕ, ◌+◌, ◌-◌, ◌<◌, ◌≤◌, eqb, true, List, [], ◌∷◌, ◌++◌, length, Some, ◌⊎◌, inl, inr, refl, sym, ◌∙◌, ap, subst, arith, append-nil}
+use Rattle.std.proofs.lemmas.Bool.{cond_both, cases_eq, eq-eqb, ne_eqb}
 use Rattle.sc_base.specs.Definitions.{Among, Each, client_actor, is_member, IsRoster}
 use Rattle.sc_node_table.specs.Values.{Op, Command, Call, Core, Mail, Answer, Learn, Flight}
 use Rattle.sc_words.specs.paxos.PaxosDefinitions.{without_flight}
@@ -9,16 +9,16 @@ use Rattle.sc_group_table.specs.machine.MachineDefinitions.{applied}
 use Rattle.sc_node_table.specs.NodeDefinitions.{entered, executed_one, answer_to, sent_others, ReplicaState, Place, name_of, next, members, forgotten, at_slot, without_slot, numbers_from, slots_ahead}
 use Rattle.sc_law_walks.proofs.WalkLemmas.{cleared, entered_next}
 use Rattle.sc_paxos_law.proofs.Lemmas.{among-member}
-use Rattle.sc_live_plain.specs.PlainDefinitions.{Frame, IsFrame, mail_owes, replica_owes, Requests, IsPlainCommand, IsPlainCall, takers, IsPlainFlight, IsPlainLeader, IsPlainReplica}
+use Rattle.sc_live_plain.specs.PlainDefinitions.{Frame, IsFrame, Requests, IsPlainCommand, IsPlainCall, takers, IsPlainFlight, IsPlainLeader, IsPlainReplica}
 use Rattle.sc_live_plain.proofs.PlainRowsProofs.SlotCounts.{one_if, one_yes, one_no, entries_at, out_none, out_length, out_here, out_other, out_each, out_among, at_found, at_only}
 use Rattle.sc_live_plain.proofs.LeadersProofs.PlainEntries.{entered_plain, recorded_after, counted_call}
 use Rattle.sc_live_plain.proofs.LeadersProofs.LeadingReplicas.{in_range, range_yes, range_less, flights_at, IsHeld, IsReportedOf, IsSaid, later_row, Leads}
-use Rattle.sc_live_plain.proofs.PlainRowsProofs.RepeatedMail.{learns_to, mail_of, owed_push, learns_push, last_among, others_each, others_kept, others_owed, learns_one, member_counts, numbers_push, roster_rises, among_push}
+use Rattle.sc_live_plain.proofs.PlainRowsProofs.RepeatedMail.{learns_to, mail_of, learns_push, last_among, others_each, others_kept, learns_one, numbers_push, roster_rises, among_push}
 use Rattle.sc_live_plain.proofs.LeadersProofs.ExecutedCalls.{IsServed, call_plain, entered_frame}
 
-module _ (begun : Requests) (frame : Frame) (fact : IsFrame frame) (first free : ℕ) (held : List (Flight Command)) (bound : ℕ) (wanted : ℕ → ℕ → Type 0) where
+module _ (begun : Requests) (frame : Frame) (fact : IsFrame frame) (first free : ℕ) (held : List (Flight Command)) (wanted : ℕ → ℕ → Type 0) where
   abbrev L : ℕ → Place → Type 0
-  L taken place = Leads begun frame first free held bound wanted taken place
+  L taken place = Leads begun frame first free held wanted taken place
 
   -- the members are a set
   members_roster : IsRoster frame.core.members
@@ -95,10 +95,6 @@ module _ (begun : Requests) (frame : Frame) (fact : IsFrame frame) (first free :
     unfolding entered forgotten
     ready_after = refl
 
-    calls_after : after.backlog ≡ r.backlog
-    unfolding entered forgotten
-    calls_after = refl
-
     once_after : (s : ℕ) → takers after s ≡ one_if (in_range (next after) taken s)
     once_after s =
         let flights : flights_at s after.leader.flights ≡ flights_at s r.leader.flights = ap (flights_at s) flights_after in
@@ -150,29 +146,6 @@ module _ (begun : Requests) (frame : Frame) (fact : IsFrame frame) (first free :
           ready = out_each (λ (entry : ℕ × Command). entry.0) (λ s es. without_slot es s) (λ s. refl) (λ s x es. refl) (λ (entry : ℕ × Command). IsPlainCommand begun frame entry.1) (next r) r.ready l.ready;
           slots = record { most = omega (arith, most); once = once_after };
         }
-
-    owes_after : replica_owes after + 9 ≤ replica_owes r
-    owes_after =
-        let up = next_after in
-        let fs = ap length flights_after in
-        let es = ap length ready_after in
-        let cs = ap length calls_after in
-        let less = entries_less in
-        let runs = cond-true after.running (next after - 1) 0 runs_after in
-        let ran = cond-true r.running (next r - 1) 0 k.leader.running in
-        omega (arith, up, fs, es, cs, less, runs, ran)
-
-    owed_after : replica_owes after + sum_by mail_owes said_mails ≤ bound
-    unfolding said_mails
-    owed_after =
-        let before = k.owed in
-        let owes = owes_after in
-        let others = others_owed frame.lead (Learn frame.core.id (next r) (Call client seq op)) frame.core.members (answer_to frame.lead frame.core.id client seq serves.answer mails) refl in
-        let push = owed_push mails (mail_of frame.lead (client_actor client) (Answer frame.core.id seq serves.answer)) in
-        let one = serves.owes in
-        let counts = member_counts frame.lead frame.core.members fact.leads in
-        let nine = members_roster.most in
-        omega (arith, before, owes, others, push, one, counts, nine)
 
     said_after : Each (IsSaid begun frame first free (next after) (next after + taken)) said_mails
     unfolding said_mails
@@ -230,7 +203,6 @@ module _ (begun : Requests) (frame : Frame) (fact : IsFrame frame) (first free :
                     number = h.number;
                     answer = serves.answer;
                     later = h.later;
-                    owes = serves.owes;
                     taught_slots = subst (λ m. Among (mail_of frame.lead (client_actor c) (Answer frame.core.id m serves.answer)) said_mails) number
                         (subst (λ m. Among (mail_of frame.lead (client_actor m) (Answer frame.core.id seq serves.answer)) said_mails) who told_it);
                   }))
@@ -248,7 +220,7 @@ module _ (begun : Requests) (frame : Frame) (fact : IsFrame frame) (first free :
     calls_kept c s w =
         elim (k.backlog c s w) [
           | inl h ↦ held_after c s h
-          | inr taught_slots ↦ inr (record { number = taught_slots.number; answer = taught_slots.answer; later = taught_slots.later; owes = taught_slots.owes; taught_slots = kept_mail _ taught_slots.taught_slots })
+          | inr taught_slots ↦ inr (record { number = taught_slots.number; answer = taught_slots.answer; later = taught_slots.later; taught_slots = kept_mail _ taught_slots.taught_slots })
         ]
 
     after_leads : L taken (after, said_mails)
@@ -269,7 +241,6 @@ module _ (begun : Requests) (frame : Frame) (fact : IsFrame frame) (first free :
           said = said_after;
           learns = learns_after;
           offers = λ s who least high a. absurd (omega (arith, up, end, least, high));
-          owed = owed_after;
           backlog = calls_kept;
         }
 

@@ -13,12 +13,12 @@ use Rattle.sc_scenario.specs.declared.scenario.scenarios.Asks.{Asks}
 use Rattle.sc_scenario.specs.declared.scenario.scenarios.Scenario.{Scenario}
 use Rattle.sc_meaning.specs.sound.SoundDefinitions.{Player, player_table, client_seat, route_of, system_of, as_nodes}
 use Rattle.sc_live_orderly.proofs.OrderlyLemmas.{TakesFirst}
-use Rattle.sc_live_plain.specs.PlainDefinitions.{IsWaiting, IsResting, BeginsBy, begun_ones, waiting_ones, begun_of, IsBegun}
+use Rattle.sc_live_plain.specs.PlainDefinitions.{IsWaiting, IsResting, BeginsBy, begun_ones, waiting_one, begun_of, IsBegun}
 use Rattle.sc_live_plain.proofs.PlainProofs.MorePlainRequests.{IsMore}
 use Rattle.sc_live_plain.proofs.PlainProofs.PlainBeginnings.{IsStage}
 use Rattle.sc_live_plain.proofs.PlainProofs.PlainSteps.{value_others, begun_more, same_client}
 use Rattle.sc_live_plain.proofs.PlainRowsProofs.RowViews.{value_own, Journal}
-use Rattle.sc_live_plain.proofs.PlainProofs.PlainClients.{unasked}
+use Rattle.sc_live_plain.proofs.CalmProofs.CalmClients.{unasked}
 
 module _ (words : ℕ → ℕ → ℕ × ℕ) (scenario : Scenario) (stage : IsStage scenario) (rows : Journal) (asks : Asks) (a : Among asks scenario.clients) (client : ClientState)
     (fact : value player_table (client_seat (route_of stage.first) asks) rows ≡ Client client) where
@@ -63,7 +63,7 @@ module _ (words : ℕ → ℕ → ℕ × ℕ) (scenario : Scenario) (stage : IsS
   pub starts_more : IsResting false client ⊎ ((false ≡ true) × IsWaiting client) → begun_ones client ≤ begun_ones (table client GoInput).0
   starts_more state =
       let none = unasked client state in
-      let waits = ap waiting_ones none.0 in
+      let waits = ap waiting_one none.0 in
       let replies = ap length none.1 in
       omega (arith, waits, replies)
 

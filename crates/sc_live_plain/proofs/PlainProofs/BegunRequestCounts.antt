@@ -9,7 +9,7 @@ use Rattle.sc_client_table.specs.lookup.LookupDefinitions.{target_in, preferring
 use Rattle.sc_client_table.specs.table.TableDefinitions.{Client, waiting_request, asked_of, sent_where, chosen_for, request_sent, started, waits_for, was_asked, redirected, answer_taken, got}
 use Rattle.sc_scenario.specs.declared.scenario.scenarios.Asks.{Asks}
 use Rattle.sc_scenario.specs.declared.scenario.scenarios.Scenario.{Scenario}
-use Rattle.sc_live_plain.specs.PlainDefinitions.{waiting_ones, begun_ones, IsBegun}
+use Rattle.sc_live_plain.specs.PlainDefinitions.{waiting_one, begun_ones, IsBegun}
 
 pub asked_same : (client : Client) (group : Draw) (target : Option ℕ) (request : Option (ℕ × Op)) → begun_ones (asked_of client group target request).0 ≡ begun_ones client
 asked_same client group (Some target) (Some request) = refl
@@ -38,7 +38,7 @@ started_some seq client =
     cond_both (nat_le seq (length client.requests)) (request_sent (record client { waiting = Some seq })) (record client { waiting = None }, []) (λ p. length client.replies ≤ begun_ones p.0)
     (λ _. (let same = request_same (record client { waiting = Some seq }) in omega (arith, same))) (λ _. omega arith)
 
-waits_one : (waiting : Option ℕ) (seq : ℕ) → waits_for waiting seq ≡ true → waiting_ones waiting ≡ 1
+waits_one : (waiting : Option ℕ) (seq : ℕ) → waits_for waiting seq ≡ true → waiting_one waiting ≡ 1
 waits_one None seq t = cc
 waits_one (Some number) seq t = refl
 

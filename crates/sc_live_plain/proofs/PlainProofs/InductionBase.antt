@@ -1,14 +1,14 @@
 -- The induction over plain journals: how it begins, and what is owed at birth.
-use Rattle.std.proofs.Common.{◌≡◌, ℕ, zero, suc, ◌+◌, ◌-◌, ◌*◌, ◌<◌, ◌≤◌, ◌&&◌, not, ltb, eqb, true, false, cond, List, [], ◌∷◌, ◌++◌, length, map, filter, take, get_or, Some, None, inl, inr, refl, sym, ◌∙◌, ap, subst, arith}
+use Rattle.std.proofs.Common.{◌≡◌, ℕ, zero, suc, ◌+◌, ◌-◌, ◌*◌, ◌<◌, ◌≤◌, ◌&&◌, not, ltb, true, false, cond, List, [], ◌∷◌, ◌++◌, length, map, filter, get_or, Some, None, inl, inr, refl, sym, ◌∙◌, ap, subst, arith}
 use Rattle.std.specs.List.{sum_by, All, AllPairs}
 use Rattle.std.specs.Ordering.{nat_cmp}
 use Rattle.std.specs.Cmp.Lexicographic.{slice_cmp}
 use Rattle.std.specs.FinMap.{get, get-empty}
-use Rattle.std.proofs.lemmas.Bool.{cond_both, cond-true, cond-false, cases_Bool, cases_eq, cases_lt, both_ways, eq-eqb, ne_eqb}
+use Rattle.std.proofs.lemmas.Bool.{cond_both, cond-true, cond-false, cases_Bool, cases_eq, cases_lt, both_ways, eqb-true, eq-eqb, ne_eqb}
 use Rattle.std.proofs.lemmas.List.{length-map, length_push}
 use Rattle.std.proofs.lemmas.List.Sums.{sum_by-cons, sum_by-append}
 use Rattle.std.proofs.Math.Nat.{suc-mul, mul-le-mul_left, mul-le-mul_right}
-use Rattle.sc_base.specs.Definitions.{Among, Each, most_clients, most_requests, same_draw, is_member}
+use Rattle.sc_base.specs.Definitions.{Among, Each, most_clients, most_requests, same_draw, is_member, least_of}
 use Rattle.sc_node_table.specs.Values.{Draw, Base, Seat}
 use Rattle.sc_base.proofs.Lemmas.{draw_is, same_name}
 use Rattle.sc_words.proofs.PaxosProofs.PaxosLemmas.{at_least_itself, Each-among, Each-from_All, find_found}
@@ -20,13 +20,17 @@ use Rattle.sc_scenario.specs.declared.scenario.scenarios.Asks.{Asks}
 use Rattle.sc_scenario.specs.declared.scenario.scenarios.Scenario.{Scenario}
 use Rattle.sc_meaning.specs.sound.SoundDefinitions.{Player, node_seat, client_seat, route_of, system_of, as_nodes}
 use Rattle.sc_client_table.specs.table.TableDefinitions.{born_client}
+use Rattle.sc_client_table.specs.lookup.LookupDefinitions.{new_way}
 use Rattle.sc_live_orderly.specs.OrderlyDefinitions.{owed_at_birth}
 use Rattle.sc_paxos_law.proofs.Lemmas.{from_map}
-use Rattle.sc_live_plain.specs.PlainDefinitions.{requests_of, budget_of, Frame, frame_of, replica_owes, player_owes, way_of, IsBegun, IsPlainClient, Requests, AreTaken, IsPlainReplica, IsSettled, IsPlainAt, IsPlainNode, replica_at, next_in, votes_in, IsGroupAt}
+use Rattle.sc_live_steps.specs.calm.CalmDefinitions.{replica_owes}
+use Rattle.sc_live_plain.specs.PlainDefinitions.{requests_of, budget_of, IsCalmClient, IsHome, IsNearer, KnowsBetter, IsCalmNode, Frame, frame_of, player_owes, IsBegun, Requests, AreTaken, IsPlainReplica, IsSettled, IsPlainAt, IsPlainNode, replica_at, next_in, votes_in, IsGroupAt}
 use Rattle.sc_live_plain.proofs.PlainProofs.PlainBeginnings.{frames_of, stage}
 use Rattle.sc_law_groups.proofs.WholeProofs.WholeLemmas.{group_place}
 use Rattle.sc_live_plain.proofs.PlainRowsProofs.Sums.{shares, sum_mapped, none_together}
 use Rattle.sc_live_plain.proofs.PlainProofs.PlainInduction.{owing_of, IsPlainJournal}
+use Rattle.sc_live_plain.proofs.PlainProofs.PlainSetting.{plain_setting, home_leads, is_setting}
+use Rattle.sc_live_plain.proofs.PlainProofs.GroupCircle.{least_leads}
 use Rattle.sc_live_plain.proofs.LeadersProofs.LeadingReplicas.{in_range, range_before, range_behind}
 use Rattle.sc_live_plain.proofs.PlainRowsProofs.SlotCounts.{one_if, one_no}
 use Rattle.sc_live_plain.proofs.PlainRowsProofs.Lists.{map_among}
@@ -90,10 +94,6 @@ born_settled begun me base =
       | inr ne ↦ inr (ne, record { stopped = ne_eqb base.core.first me (λ e. ne (sym e)); backlog = refl; flights = refl; ready = refl })
     ]
 
--- and owes nothing
-born_owes : (me : ℕ) (base : Base) → replica_owes (born_replica slots_ahead me base) ≡ 0
-born_owes me base = cond_both (eqb base.core.first me) (1 - 1) 0 (λ x. 28 * 0 + 10 * (0 + 0) + x ≡ 0) (λ _. omega arith) (λ _. omega arith)
-
 -- ---- a node at birth
 
 -- its replica of a group in which it votes
@@ -110,17 +110,37 @@ born_found me (b ∷ groups) base a m =
     ])
     (λ f. born_found me groups base (elim a [ inl e ↦ absurd (both_ways (is_member b.core.members me) f (ap (λ (x : Base). is_member x.core.members me) e ∙ m)) | inr c ↦ c ]) m)
 
-born_each : (P : ReplicaState → Type 0) (me : ℕ) (groups : List Base) → ((base : Base) → Among base groups → P (born_replica slots_ahead me base)) → Each P (born_replicas slots_ahead me groups)
-born_each P me [] f = tt
-born_each P me (b ∷ groups) f =
+-- the replicas of a node are those of the groups of which it is a member
+born_members : (P : ReplicaState → Type 0) (me : ℕ) (groups : List Base) → ((base : Base) → Among base groups → is_member base.core.members me ≡ true → P (born_replica slots_ahead me base)) → Each P (born_replicas slots_ahead me groups)
+born_members P me [] f = tt
+born_members P me (b ∷ groups) f =
     cond_both (is_member b.core.members me) (b ∷ filter (λ x. is_member x.core.members me) groups) (filter (λ x. is_member x.core.members me) groups) (λ l. Each P (map (λ y. born_replica slots_ahead me y) l))
-    (λ _. (f b (inl refl), born_each P me groups (λ x a. f x (inr a)))) (λ _. born_each P me groups (λ x a. f x (inr a)))
+    (λ t. (f b (inl refl) t, born_members P me groups (λ x a. f x (inr a)))) (λ _. born_members P me groups (λ x a. f x (inr a)))
 
-none_owed : (me : ℕ) (groups : List Base) → sum_by replica_owes (born_replicas slots_ahead me groups) ≡ 0
+-- what a replica at birth is
+pub record IsBornOf (groups : List Base) (group : Draw) (node : ℕ) (r : ReplicaState) : Type 0 where
+  pub base : Base
+  pub among : Among base groups
+  pub member : is_member base.core.members node ≡ true
+  pub named : base.core.id ≡ group
+  pub fact : r ≡ born_replica slots_ahead node base
+
+pub born_is : (groups : List Base) (group : Draw) (node : ℕ) (r : ReplicaState) → replica_of group (born_replicas slots_ahead node groups) ≡ Some r → IsBornOf groups group node r
+born_is groups group node r e =
+    let f = find_found (λ (x : ReplicaState). same_draw (name_of x) group) (born_replicas slots_ahead node groups) r e in
+    let P : ReplicaState → Type 0 = λ x. (base : Base) × Among base groups × (is_member base.core.members node ≡ true) × (x ≡ born_replica slots_ahead node base) in
+    let b = Each-among P (born_replicas slots_ahead node groups) r (born_members P node groups (λ base a m. (base, a, m, refl))) f.0 in
+    record { base = b.0; among = b.1; member = b.2; named = sym (ap name_of b.3) ∙ draw_is (name_of r) group f.1; fact = b.3 }
+
+-- none owes anything
+born_owes : (me : ℕ) (base : Base) → replica_owes 0 (born_replica slots_ahead me base) ≡ 0
+born_owes me base = refl
+
+none_owed : (me : ℕ) (groups : List Base) → sum_by (replica_owes 0) (born_replicas slots_ahead me groups) ≡ 0
 none_owed me [] = refl
 none_owed me (b ∷ groups) =
-    cond_both (is_member b.core.members me) (b ∷ filter (λ x. is_member x.core.members me) groups) (filter (λ x. is_member x.core.members me) groups) (λ l. sum_by replica_owes (map (λ y. born_replica slots_ahead me y) l) ≡ 0)
-    (λ _. (let one = born_owes me b in let rest = none_owed me groups in let sum = sum_by-cons replica_owes (born_replica slots_ahead me b) (born_replicas slots_ahead me groups) in omega (arith, one, rest, sum)))
+    cond_both (is_member b.core.members me) (b ∷ filter (λ x. is_member x.core.members me) groups) (filter (λ x. is_member x.core.members me) groups) (λ l. sum_by (replica_owes 0) (map (λ y. born_replica slots_ahead me y) l) ≡ 0)
+    (λ _. (let one = born_owes me b in let rest = none_owed me groups in let sum = sum_by-cons (replica_owes 0) (born_replica slots_ahead me b) (born_replicas slots_ahead me groups) in omega (arith, one, rest, sum)))
     (λ _. none_owed me groups)
 
 -- ---- what is owed at birth
@@ -130,12 +150,12 @@ times_low : (n m : ℕ) → n * 32 ≤ n * (32 + m)
 times_low zero m = omega arith
 times_low (suc n) m = (let a = suc-mul n 32 in let b = suc-mul n (32 + m) in let rest = times_low n m in omega (arith, a, b, rest))
 
-client_share : (groups requests : ℕ) → 1 ≤ groups → 29 * (requests - (0 + 0)) + cond (ltb 0 requests) (2 * (groups - 1)) 0 ≤ requests * (32 + 4 * groups)
+client_share : (groups requests : ℕ) → 1 ≤ groups → 28 * (requests - (0 + 0)) + cond (ltb 0 requests) ((groups - 1) * (2 + 2 * 0) + 2 * 0) 0 ≤ requests * (32 + 4 * groups)
 client_share groups zero some = omega arith
 client_share groups (suc requests) some =
     let product = suc-mul requests (32 + 4 * groups) in
     let thirty = times_low requests (4 * groups) in
-    let most = cond_both (ltb 0 (suc requests)) (2 * (groups - 1)) 0 (λ x. x ≤ 2 * (groups - 1)) (λ _. omega arith) (λ _. omega arith) in
+    let most = cond_both (ltb 0 (suc requests)) ((groups - 1) * (2 + 2 * 0) + 2 * 0) 0 (λ x. x ≤ 2 * (groups - 1)) (λ _. omega arith) (λ _. omega arith) in
     omega (arith, product, thirty, most, some)
 
 -- ---- few groups and clients
@@ -174,10 +194,6 @@ few_requests (asks ∷ clients) few =
     omega (arith, a, here, rest, product)
 
 module _ (scenario : Scenario) (bounded : IsBounded scenario) where
-  -- a replica of one of the groups, as it was born
-  abbrev IsBornOf : ℕ → ReplicaState → Type 0
-  IsBornOf me r = (base : Base) × Among base scenario.groups × (born_replica slots_ahead me base ≡ r)
-
   -- each group begins with no pairs and no notes
   fresh : (base : Base) → Among base scenario.groups → (base.pairs ≡ []) × (base.clients ≡ [])
   fresh base a = (let k = group_place scenario bounded base a in (ap (λ (b : Base). b.pairs) (sym k.2) ∙ refl, ap (λ (b : Base). b.clients) (sym k.2) ∙ refl))
@@ -185,35 +201,55 @@ module _ (scenario : Scenario) (bounded : IsBounded scenario) where
   -- a replica that is found is one of its group, and plain
   born_at : (begun : Requests) (me : ℕ) (frame : Frame) (r : ReplicaState) → Among frame (frames_of scenario) → replica_of frame.core.id (born_replicas slots_ahead me scenario.groups) ≡ Some r → IsPlainAt begun frame me r
   born_at begun me frame r a e =
-      let there = find_found (λ (x : ReplicaState). same_draw (name_of x) frame.core.id) (born_replicas slots_ahead me scenario.groups) r e in
-      let born = Each-among (IsBornOf me) (born_replicas slots_ahead me scenario.groups) r (born_each (IsBornOf me) me scenario.groups (λ base b. (base, b, refl))) there.0 in
-      let f = fresh born.0 born.1 in
-      let name : born.0.core.id ≡ frame.core.id = ap name_of born.2 ∙ draw_is (name_of r) frame.core.id there.1 in
-      let same : frame_of born.0 ≡ frame = (stage scenario bounded).apart (frame_of born.0) frame (map_among frame_of scenario.groups born.0 born.1) a name in
-      subst (λ (x : ReplicaState). IsPlainAt begun frame me x) born.2 (subst (λ (g : Frame). IsPlainAt begun g me (born_replica slots_ahead me born.0)) same (inl (born_plain begun me born.0 f.0 f.1, born_settled begun me born.0)))
+      let born = born_is scenario.groups frame.core.id me r e in
+      let f = fresh born.base born.among in
+      let same : frame_of born.base ≡ frame = (stage scenario bounded).apart (frame_of born.base) frame (map_among frame_of scenario.groups born.base born.among) a born.named in
+      subst (λ (x : ReplicaState). IsPlainAt begun frame me x) (sym born.fact) (subst (λ (g : Frame). IsPlainAt begun g me (born_replica slots_ahead me born.base)) same (inl (born_plain begun me born.base f.0 f.1, born_settled begun me born.base)))
 
   -- a node is plain
-  pub node_at_birth : (begun : Requests) (me : ℕ) → IsPlainNode begun (frames_of scenario) (born_node slots_ahead me scenario.groups scenario.policy)
-  node_at_birth begun me = record {
+  plain_at_birth : (begun : Requests) (me : ℕ) → IsPlainNode begun (frames_of scenario) (born_node slots_ahead me scenario.groups scenario.policy)
+  plain_at_birth begun me = record {
     replicas = λ frame r a e. born_at begun me frame r a e;
     has = λ frame slot a m. (let b = from_map frame_of scenario.groups frame a in
         let found = born_found me scenario.groups b.0 b.1 (ap (λ (f : Frame). is_member (f.at slot) me) b.2 ∙ m) in
         (born_replica slots_ahead me found.0, ap (λ (f : Frame). replica_of f.core.id (born_replicas slots_ahead me scenario.groups)) (sym b.2) ∙ found.1));
   }
 
-  -- a client is plain, and has not gone
-  pub client_at_birth : (asks : Asks) → IsPlainClient (frames_of scenario) asks false (born_client asks.client asks.ops (route_of (stage scenario bounded).first))
+  -- and calm: its replicas that do not run name the leader
+  node_at_birth : (begun : Requests) (me : ℕ) → IsCalmNode begun (plain_setting scenario) (born_node slots_ahead me scenario.groups scenario.policy)
+  node_at_birth begun me = record {
+    plain = plain_at_birth begun me;
+    own = λ group r e. ap (λ (x : ReplicaState). x.me) (born_is scenario.groups group me r e).fact;
+    has = λ group h. (let l = home_leads scenario group me h in
+        let b = from_map frame_of scenario.groups l.0 l.1 in
+        let leads : is_member b.0.core.members me ≡ true = ap (λ (f : Frame). is_member f.core.members me) b.2 ∙ (ap (is_member l.0.core.members) (sym l.3) ∙ ((stage scenario bounded).are l.0 l.1).leads) in
+        let found = born_found me scenario.groups b.0 b.1 leads in
+        (born_replica slots_ahead me found.0, ap (λ d. replica_of d (born_replicas slots_ahead me scenario.groups)) (sym (ap (λ (f : Frame). f.core.id) b.2 ∙ l.2)) ∙ found.1));
+    runs = λ group r e runs. (let b = born_is scenario.groups group me r e in
+        let first : b.base.core.first ≡ me = eqb-true b.base.core.first me (ap (λ (x : ReplicaState). x.running) (sym b.fact) ∙ runs) in
+        (frame_of b.base, map_among frame_of scenario.groups b.base b.among, b.named, sym first));
+    stops = λ group r e stops. (let b = born_is scenario.groups group me r e in
+        let a = map_among frame_of scenario.groups b.base b.among in
+        let not_first : me ≡ b.base.core.first → ⊥ = λ same. both_ways r.running stops (ap (λ (x : ReplicaState). x.running) b.fact ∙ eq-eqb b.base.core.first me (sym same)) in
+        let set = is_setting scenario (stage scenario bounded) in
+        let near : IsNearer (plain_setting scenario) b.base.core.id me b.base.core.first = record { has = set.leads (frame_of b.base) a; near = set.nearer (frame_of b.base) me a not_first } in
+        subst (λ d. KnowsBetter (plain_setting scenario) d r r.group.core.gone) b.named
+        (subst (λ (x : ReplicaState). KnowsBetter (plain_setting scenario) b.base.core.id x x.group.core.gone) (sym b.fact)
+        (subst (KnowsBetter (plain_setting scenario) b.base.core.id (born_replica slots_ahead me b.base)) (sym ((stage scenario bounded).are (frame_of b.base) a).stands) (b.base.core.first, refl, near))));
+  }
+
+  -- a client is calm, and has not gone
+  client_at_birth : (asks : Asks) → IsCalmClient (plain_setting scenario) asks false (born_client asks.client asks.ops (route_of (stage scenario bounded).first))
   client_at_birth asks =
-      let s = stage scenario bounded in
-      let groups : frames_of scenario ≡ frame_of s.first ∷ map frame_of s.others = ap (map frame_of) s.groups_are in
-      let count = ap length groups in
+      let first = (stage scenario bounded).first in
+      let among : Among (frame_of first) (frames_of scenario) = subst (Among (frame_of first)) (sym (ap (map frame_of) (stage scenario bounded).groups_are)) (inl refl) in
+      let home : IsHome (plain_setting scenario) first.core.id (least_of first.core.members) =
+      subst (IsHome (plain_setting scenario) first.core.id) (least_leads scenario bounded (frame_of first) among) ((is_setting scenario (stage scenario bounded)).leads (frame_of first) among) in
       record {
         me_is = refl;
         requests_are = refl;
-        reached = 1;
-        some = omega arith;
-        low = omega (arith, count);
-        known_are = sym (ap (λ l. take 1 (map way_of l)) groups);
+        knows = λ few. inl (first.core.id, new_way first.core.arc.lo first.core.members, refl);
+        targets = λ few. (home, tt);
         state = inl (record { waits = refl; replies = inl (refl, refl) });
       }
 
@@ -227,7 +263,7 @@ module _ (scenario : Scenario) (bounded : IsBounded scenario) where
   pub birth_within : (words : ℕ → ℕ → ℕ × ℕ) → owed_at_birth (system_of as_nodes words scenario) (owing_of scenario) ≤ budget_of scenario
   birth_within words =
       let s = stage scenario bounded in
-      let owes : Seat Player → ℕ = λ seat. player_owes groups seat.actor in
+      let owes : Seat Player → ℕ = λ seat. player_owes (frames_of scenario) seat.actor in
       let nodes = map (node_seat as_nodes scenario.groups scenario.policy) (numbers_from 1 scenario.nodes) in
       let clients = map (client_seat (route_of s.first)) scenario.clients in
       let all : owed_at_birth (system_of as_nodes words scenario) (owing_of scenario) ≡ sum_by owes (nodes ++ clients) = ap (sum_by owes) s.seats in
@@ -303,9 +339,13 @@ module _ (scenario : Scenario) (bounded : IsBounded scenario) where
 
   pub journal_at_birth : (words : ℕ → ℕ → ℕ × ℕ) → IsPlainJournal words scenario (stage scenario bounded) []
   journal_at_birth words = record {
-    nodes = λ me one most. record { node = born_node slots_ahead me scenario.groups scenario.policy; fact = refl; me_is = refl; plain = node_at_birth (IsBegun scenario []) me };
-    clients = λ asks a. record { client = born_client asks.client asks.ops (route_of (stage scenario bounded).first); fact = refl; plain = client_at_birth asks };
+    asking = record {
+      nodes = λ me one most. record { node = born_node slots_ahead me scenario.groups scenario.policy; fact = refl; me_is = refl; calm = node_at_birth (IsBegun scenario []) me };
+      clients = λ asks a. record { client = born_client asks.client asks.ops (route_of (stage scenario bounded).first); fact = refl; calm = client_at_birth asks };
+      left = λ who born. tt;
+      groups = group_at_birth words;
+    };
     sent = tt;
-    groups = group_at_birth words;
+    slots = λ frame a. (let low = at_low frame.core.id frame.lead in omega (arith, low));
     owes = omega arith;
   }

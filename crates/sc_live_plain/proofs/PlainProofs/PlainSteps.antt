@@ -1,27 +1,25 @@
--- One row of a plain journal: what it leaves as it is, and what it makes of the player that acts.
-use Rattle.std.proofs.Common.{◌≡◌, ℕ, zero, suc, ◌+◌, ◌-◌, ◌<◌, ◌≤◌, eqb, leb, ◌&&◌, ◌||◌, true, false, cond, List, [], ◌∷◌, ◌++◌, length, map, Some, inl, inr, sym, ◌∙◌, ap, subst, arith, sum_by}
+-- One row of a journal: who acts, and what it leaves as it is.
+use Rattle.std.proofs.Common.{◌≡◌, ℕ, zero, suc, ◌+◌, ◌<◌, ◌≤◌, eqb, leb, ◌&&◌, ◌||◌, true, false, cond, List, [], ◌∷◌, ◌++◌, map, Some, ◌⊎◌, inl, inr, sym, ◌∙◌, ap, subst, arith, sum_by}
 use Rattle.std.specs.Prelude.{slice_get}
 use Rattle.std.proofs.Math.Bool.{or-false}
-use Rattle.std.proofs.lemmas.Bool.{cases_eq, cases_lt, ne_eqb, and_from, both_ways, le-leb, lt-leb, and_right, cond-true}
+use Rattle.std.proofs.lemmas.Bool.{cases_eq, cases_lt, ne_eqb, and_from, both_ways, le-leb, lt-leb, and_right}
 use Rattle.std.proofs.lemmas.List.Folds.{list_any-append}
 use Rattle.std.proofs.lemmas.List.Sums.{sum_by-cons}
-use Rattle.sc_base.specs.Definitions.{Among, Each, client_actor, most_nodes, same_draw, is_member}
-use Rattle.sc_node_table.specs.Values.{Base, OrderLine, Mail, Seat, Row, Node}
+use Rattle.sc_base.specs.Definitions.{Among, Each, client_actor, most_nodes}
+use Rattle.sc_node_table.specs.Values.{Base, OrderLine, Mail, Seat, Row}
 use Rattle.sc_actor.specs.Definitions.{mails, numbered, value, acted, input_of, System, has_started, is_go}
-use Rattle.sc_actor.proofs.Lemmas.{value-snoc, mails-snoc}
-use Rattle.sc_words.proofs.PaxosProofs.PaxosLemmas.{Each-append, Each-weaker, find_found}
-use Rattle.sc_node_table.specs.NodeDefinitions.{replica_of, is_node, ReplicaState, name_of, next, last_slot, numbers_from, slots_ahead}
+use Rattle.sc_actor.proofs.Lemmas.{value-snoc}
+use Rattle.sc_words.proofs.PaxosProofs.PaxosLemmas.{find_found}
+use Rattle.sc_node_table.specs.NodeDefinitions.{is_node, numbers_from}
 use Rattle.sc_scenario.specs.declared.scenario.scenarios.Asks.{Asks}
 use Rattle.sc_scenario.specs.declared.scenario.scenarios.Scenario.{Scenario}
 use Rattle.sc_meaning.specs.sound.SoundDefinitions.{Player, player_table, node_seat, client_seat, route_of, births, system_of, as_nodes}
-use Rattle.sc_live_orderly.specs.OrderlyDefinitions.{owed, owed_at_birth}
-use Rattle.sc_paxos_law.proofs.Lemmas.{Among-left}
-use Rattle.sc_live_plain.specs.PlainDefinitions.{replica_at, next_in, Frame, replica_owes, player_owes, begun_of, IsBegun, IsPlainClient, IsPlainMail}
-use Rattle.sc_live_plain.proofs.PlainProofs.PlainInduction.{owing_of, IsNodeAt, IsClientAt, IsPlainJournal}
-use Rattle.sc_live_plain.proofs.PlainProofs.MorePlainRequests.{IsMore, mail_more, node_more}
-use Rattle.sc_live_plain.proofs.PlainProofs.PlainBeginnings.{frames_of, IsStage}
-use Rattle.sc_live_plain.proofs.PlainRowsProofs.RowViews.{Journal, replica_is}
-use Rattle.sc_live_plain.proofs.PlainRowsProofs.ReplicaRows.{leading_at}
+use Rattle.sc_live_orderly.specs.OrderlyDefinitions.{IsOrderly}
+use Rattle.sc_paxos_law.proofs.Lemmas.{Among-either, Among-left, from_map}
+use Rattle.sc_live_plain.specs.PlainDefinitions.{begun_of, IsBegun}
+use Rattle.sc_live_plain.proofs.PlainProofs.MorePlainRequests.{IsMore}
+use Rattle.sc_live_plain.proofs.PlainProofs.PlainBeginnings.{IsStage}
+use Rattle.sc_live_plain.proofs.PlainRowsProofs.RowViews.{Journal}
 use Rattle.sc_live_plain.proofs.PlainRowsProofs.Lists.{map_among}
 pub use Rattle.sc_law_groups.proofs.GroupProofs.RowSteps.{among_numbers as in_numbers}
 
@@ -113,64 +111,33 @@ module _ (words : ℕ → ℕ → ℕ × ℕ) (scenario : Scenario) (stage : IsS
     pub begun_still : ((asks : Asks) → Among asks scenario.clients → client_actor asks.client ≡ row.who → ⊥) → IsMore (IsBegun scenario rows) (IsBegun scenario (rows ++ row ∷ []))
     begun_still away = begun_more (λ asks a. (let same = ap begun_of (value_others (cseat asks) (away asks a)) in omega (arith, same)))
 
-  module _ (rows : Journal) (j : IsPlainJournal words scenario stage rows) where
-    lead_fits : (frame : Frame) → Among frame (frames_of scenario) → (1 ≤ frame.lead) × (frame.lead ≤ scenario.nodes)
-    lead_fits frame a =
-        let fact = stage.are frame a in
-        stage.fit frame a (frame.from + slots_ahead) frame.lead (ap (λ ms. is_member ms frame.lead) (fact.later (frame.from + slots_ahead) (omega arith)) ∙ fact.leads)
+  -- ---- who acts
 
-    -- a leader has executed no more than is owed
-    pub lead_owes : (frame : Frame) (a : Among frame (frames_of scenario)) → next (j.groups frame a).r ≤ owed sys (owing_of scenario) rows + 1
-    lead_owes frame a =
-        let g = j.groups frame a in
-        let fits = lead_fits frame a in
-        let n = j.nodes frame.lead fits.0 fits.1 in
-        let here : replica_of frame.core.id n.node.replicas ≡ Some g.r = sym (replica_is words scenario rows frame.core.id frame.lead (Node n.node) (node_number frame.lead fits.0 fits.1) n.fact) ∙ g.there in
-        let leads = leading_at (IsBegun scenario rows) frame (stage.are frame a) n.node.me g.r n.me_is (n.plain.replicas frame g.r a here) in
-        let runs = leads.1.leader.running in
-        let found = find_found (λ (r : ReplicaState). same_draw (name_of r) frame.core.id) n.node.replicas g.r here in
-        let one = one_of_sum replica_owes n.node.replicas g.r found.0 in
-        let all = one_of_sum (λ (seat : Seat Player). player_owes (length (frames_of scenario)) (value player_table seat rows)) (births as_nodes scenario) (nseat frame.lead) (node_born frame.lead fits.0 fits.1) in
-        let fact = ap (player_owes (length (frames_of scenario))) n.fact in
-        let mine = cond-true g.r.running (next g.r - 1) 0 runs in
-        omega (arith, one, all, fact, mine)
+  -- a row that comes in order is one of a node
+  pub record OfNode (rows : Journal) (row : Row Mail OrderLine) (o : IsOrderly (system_of as_nodes words scenario) rows row) : Type 0 where
+    pub me : ℕ
+    pub one : 1 ≤ me
+    pub most : me ≤ scenario.nodes
+    pub seat_is : o.seat ≡ node_seat as_nodes scenario.groups scenario.policy me
 
-    -- no replica is near the last slot
-    pub has_room_at : owed_at_birth sys (owing_of scenario) + 16 ≤ last_slot → (frame : Frame) → Among frame (frames_of scenario) → (me : ℕ) → next_in (replica_at scenario rows frame.core.id me) + slots_ahead ≤ last_slot
-    has_room_at few frame a me =
-        let g = j.groups frame a in
-        let low = g.between.low me in
-        let lead = lead_owes frame a in
-        let most = g.slots.most in
-        let owes = j.owes in
-        let there = ap next_in g.there in
-        omega (arith, few, low, lead, most, owes, there)
+  -- a row of a client
+  pub record OfClient (rows : Journal) (row : Row Mail OrderLine) (o : IsOrderly (system_of as_nodes words scenario) rows row) : Type 0 where
+    pub asks : Asks
+    pub is_asks : Among asks scenario.clients
+    pub seat_is : o.seat ≡ client_seat (route_of stage.first) asks
 
-    -- ---- of a plain journal
-
-    module _ (row : Row Mail OrderLine) where
-      pub node_stays : IsMore (IsBegun scenario rows) (IsBegun scenario (rows ++ row ∷ [])) → (me : ℕ) → (me ≡ row.who → ⊥) → IsNodeAt words scenario stage rows me → IsNodeAt words scenario stage (rows ++ row ∷ []) me
-      node_stays more me ne n = record {
-        node = n.node;
-        fact = value_others rows row (nseat me) ne ∙ n.fact;
-        me_is = n.me_is;
-        plain = node_more (IsBegun scenario rows) (IsBegun scenario (rows ++ row ∷ [])) more (frames_of scenario) n.node n.plain;
-      }
-
-      pub client_stays : (asks : Asks) → (client_actor asks.client ≡ row.who → ⊥) → IsClientAt words scenario stage rows asks → IsClientAt words scenario stage (rows ++ row ∷ []) asks
-      client_stays asks ne c = record {
-        client = c.client;
-        fact = value_others rows row (cseat asks) ne ∙ c.fact;
-        plain = subst (λ b. IsPlainClient (frames_of scenario) asks b c.client) (sym (gone_others rows row (client_actor asks.client) ne)) c.plain;
-      }
-
-      -- the mail of a row comes behind that of all
-      pub sent_more : IsMore (IsBegun scenario rows) (IsBegun scenario (rows ++ row ∷ [])) → Each (IsPlainMail (IsBegun scenario (rows ++ row ∷ [])) (frames_of scenario)) row.sent → Each (IsPlainMail (IsBegun scenario (rows ++ row ∷ [])) (frames_of scenario)) (mails (rows ++ row ∷ []))
-      sent_more more new =
-          subst (Each (IsPlainMail (IsBegun scenario (rows ++ row ∷ [])) (frames_of scenario))) (sym (mails-snoc rows row))
-          (Each-append (IsPlainMail (IsBegun scenario (rows ++ row ∷ [])) (frames_of scenario)) (mails rows) row.sent
-          (Each-weaker (IsPlainMail (IsBegun scenario rows) (frames_of scenario)) (IsPlainMail (IsBegun scenario (rows ++ row ∷ [])) (frames_of scenario))
-          (mail_more (IsBegun scenario rows) (IsBegun scenario (rows ++ row ∷ [])) more (frames_of scenario)) (mails rows) j.sent) new)
+  pub of_player : (rows : Journal) (row : Row Mail OrderLine) (o : IsOrderly (system_of as_nodes words scenario) rows row) → OfNode rows row o ⊎ OfClient rows row o
+  of_player rows row o =
+      let found = find_found (λ (other : Seat Player). eqb other.who o.seat.who) (births as_nodes scenario) o.seat o.born in
+      let there = subst (Among o.seat) stage.seats found.0 in
+      elim (Among-either o.seat (map nseat (numbers_from 1 scenario.nodes)) (map cseat scenario.clients) there) [
+        | inl a ↦ (let from = from_map nseat (numbers_from 1 scenario.nodes) o.seat a in
+            let bounds = in_numbers 1 scenario.nodes from.0 from.1 in
+            let low = bounds.0 in
+            let high = bounds.1 in
+            inl (record { me = from.0; one = low; most = omega (arith, high); seat_is = sym from.2 }))
+        | inr a ↦ (let from = from_map cseat scenario.clients o.seat a in inr (record { asks = from.0; is_asks = from.1; seat_is = sym from.2 }))
+      ]
 
 -- a node is no client
 pub node_away : (words : ℕ → ℕ → ℕ × ℕ) (scenario : Scenario) (stage : IsStage scenario) (asks : Asks) → is_node (client_actor asks.client) ≡ false → (node : ℕ) → 1 ≤ node → node ≤ scenario.nodes → node ≡ client_actor asks.client → ⊥

@@ -113,8 +113,8 @@ pub record IsHeldOn (flights held : List (Flight Command)) (taken : Mark) : Type
 pub held_same : (flights : List (Flight Command)) → IsHeldOn flights flights Other
 held_same flights = record { kept = λ slot voters e away. e; before = λ slot voters e. (voters, e, (λ node m. m), (λ node same. (let bad : Other ≡ Votes node slot = same in cc))) }
 
-module _ (begun : Requests) (frame : Frame) (first free : ℕ) (flights held : List (Flight Command)) (bound : ℕ) (wanted : ℕ → ℕ → Type 0) (taken : ℕ) (place : Place)
-    (k : Leads begun frame first free held bound wanted taken place) where
+module _ (begun : Requests) (frame : Frame) (first free : ℕ) (flights held : List (Flight Command)) (wanted : ℕ → ℕ → Type 0) (taken : ℕ) (place : Place)
+    (k : Leads begun frame first free held wanted taken place) where
   abbrev name : Draw
   name = frame.core.id
 

@@ -48,7 +48,7 @@ module _ (begun : Requests) (frame : Frame) (fact : IsFrame frame) where
         | inr queued ↦ (
             let first : queued.taken ≡ taken = taken_once r queued.taken taken queued.leader.slots (slots lead) in
             let last : queued.run.taken ≡ after = taken_once place.0 queued.run.taken after queued.run.leads.leader.slots (slots' lead) in
-            let moves = asked_moves begun frame r queued.taken queued.leader.slots r.leader.flights _ _ place queued.run.taken queued.run.leads refl in
+            let moves = asked_moves begun frame r queued.taken queued.leader.slots r.leader.flights _ place queued.run.taken queued.run.leads refl in
             subst (λ m. MovesBy frame m r taken place.0 after Other place.1) (sym lead) (subst (λ t. MovesBy frame frame.lead r t place.0 after Other place.1) first (subst (λ t. MovesBy frame frame.lead r queued.taken place.0 t Other place.1) last moves)))
       ]
   does_moves me r taken from (Accept group ballot slot command) place after b response slots slots' =
@@ -67,7 +67,7 @@ module _ (begun : Requests) (frame : Frame) (fact : IsFrame frame) where
       let first : d.taken ≡ taken = taken_once r d.taken taken d.leader.slots (slots lead) in
       let run = d.counted.run in
       let last : run.taken ≡ after = taken_once place.0 run.taken after run.leads.leader.slots (slots' lead) in
-      let moves = counted_moves begun frame r d.taken d.leader.slots d.counted.held _ _ place run.taken run.leads from slot b.3 d.counted.votes in
+      let moves = counted_moves begun frame r d.taken d.leader.slots d.counted.held _ place run.taken run.leads from slot b.3 d.counted.votes in
       subst (λ m. MovesBy frame me r taken place.0 after m place.1) (sym (marked_here frame.core.id group (Votes from slot) b.0))
       (subst (λ m. MovesBy frame m r taken place.0 after (Votes from slot) place.1) (sym lead) (subst (λ t. MovesBy frame frame.lead r t place.0 after (Votes from slot) place.1) first (subst (λ t. MovesBy frame frame.lead r d.taken place.0 t (Votes from slot) place.1) last moves)))
   does_moves me r taken from (Learn group slot command) place after b response slots slots' =

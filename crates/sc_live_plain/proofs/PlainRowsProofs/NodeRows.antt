@@ -1,13 +1,13 @@
 -- What a plain node does with a plain mail: one of its replicas takes it.
-use Rattle.std.proofs.Common.{◌≡◌, ℕ, ◌+◌, ◌≤◌, true, List, [], sum_by, Option, Some, None, inl, inr, refl, sym, ◌∙◌, ap, subst, arith}
+use Rattle.std.proofs.Common.{◌≡◌, ℕ, ◌+◌, ◌≤◌, true, List, [], Option, Some, None, inl, inr, refl, sym, ◌∙◌, ap, subst, arith}
 use Rattle.std.proofs.lemmas.Bool.{cond-true, cases_Bool, both_ways}
 use Rattle.sc_base.specs.Definitions.{Among, Each, client_actor, same_draw, is_member}
 use Rattle.sc_node_table.specs.Values.{Draw, Op, Got, Base, Mail, MailBody, Request, Answer, Accept, Accepted, Learn}
 use Rattle.sc_base.proofs.Lemmas.{draw_is, same_name}
 use Rattle.sc_words.proofs.PaxosProofs.PaxosLemmas.{Each-weaker}
 use Rattle.sc_node_table.specs.NodeDefinitions.{NodeState, replica_of, with_replica, group_of_mail, is_node, may_come, with_children, taken_by, routed, on_mail, node_table, ReplicaState, Place, name_of, next, last_slot, mailed, slots_ahead}
-use Rattle.sc_live_plain.specs.PlainDefinitions.{Frame, IsFrame, AreNamedApart, mail_owes, node_owes, Requests, IsPlainBody, IsPlainMail, IsPlainAt, IsPlainNode, IsDue}
-use Rattle.sc_live_plain.proofs.PlainRowsProofs.Replicas.{put_owes, put_found, put_others}
+use Rattle.sc_live_plain.specs.PlainDefinitions.{Frame, IsFrame, AreNamedApart, Requests, IsPlainBody, IsPlainMail, IsPlainAt, IsPlainNode, IsDue}
+use Rattle.sc_live_steps.proofs.CalmStepsProofs.CalmStepLemmas.{put_found, put_others}
 use Rattle.sc_live_plain.proofs.PlainRowsProofs.ReplicaRows.{ReplicaRow, replica_row}
 
 module _ (begun : Requests) (frames : List Frame) (are : (frame : Frame) → Among frame frames → IsFrame frame) (apart : AreNamedApart frames) where
@@ -63,6 +63,7 @@ module _ (begun : Requests) (frames : List Frame) (are : (frame : Frame) → Amo
     pub r : ReplicaState
     pub found : replica_of frame.core.id node.replicas ≡ Some r
     pub place : Place
+    pub place_is : place ≡ (mailed mail.from mail.body (r, [])).0
     pub name_is : name_of place.0 ≡ frame.core.id
     pub after_is : after ≡ (record node { replicas = with_replica frame.core.id place.0 node.replicas }, place.1)
     pub row : ReplicaRow begun frame (are frame is_frame) node.me r mail.from mail.body place
@@ -88,6 +89,7 @@ module _ (begun : Requests) (frames : List Frame) (are : (frame : Frame) → Amo
         r = here.0;
         found = here.1;
         place = (mailed mail.from mail.body (here.0, [])).0;
+        place_is = refl;
         name_is = row.0.name_is;
         after_is = mail_is m.frame.core.id mail.from mail.body node here.0 for.may for.group here.1 row.1;
         row = row.0;
@@ -136,11 +138,6 @@ module _ (begun : Requests) (frames : List Frame) (are : (frame : Frame) → Amo
     node_said =
         subst (λ (x : NodeState × List Mail). Each (IsPlainMail begun frames) x.1) (sym k.after_is)
         (Each-weaker (λ (m : Mail). IsPlainBody begun k.frame m.from m.to m.body) (IsPlainMail begun frames) (λ m s. record { frame = k.frame; is_frame = k.is_frame; says = s }) k.place.1 k.row.said)
-
-    pub node_owed : 1 + (node_owes after.0 + sum_by mail_owes after.1) ≤ node_owes node + mail_owes mail
-    node_owed =
-        subst (λ (x : NodeState × List Mail). 1 + (node_owes x.0 + sum_by mail_owes x.1) ≤ node_owes node + mail_owes mail) (sym k.after_is)
-        (let sum = put_owes k.frame.core.id k.place.0 k.r node.replicas k.found in let owed = k.row.owed in omega (arith, sum, owed))
 
     -- the replica of the group, and those of others
     pub found_after : replica_of k.frame.core.id after.0.replicas ≡ Some k.place.0

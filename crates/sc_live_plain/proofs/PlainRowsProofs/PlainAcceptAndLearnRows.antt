@@ -1,5 +1,5 @@
 -- Accept and Learn at the replicas of a plain group.
-use Rattle.std.proofs.Common.{◌≡◌, ℕ, ◌+◌, ◌-◌, ◌≤◌, ◌&&◌, ◌||◌, not, eqb, true, false, cond, List, [], ◌∷◌, length, Some, None, refl, sym, ◌∙◌, ap, arith}
+use Rattle.std.proofs.Common.{◌≡◌, ℕ, ◌+◌, ◌≤◌, ◌&&◌, ◌||◌, not, eqb, true, false, cond, List, [], ◌∷◌, Some, None, refl, sym, ◌∙◌, ap, arith}
 use Rattle.std.specs.Prelude.{nat_le, nat_lt}
 use Rattle.std.specs.Option.{option_map}
 use Rattle.std.proofs.lemmas.Bool.{cond_both, cond-true, cond-false, eq-eqb, lt-leb, le-ltb, and_left, and_from, and_parts}
@@ -11,7 +11,7 @@ use Rattle.sc_words.proofs.PaxosProofs.PaxosLemmas.{at_least_itself}
 use Rattle.sc_group_table.specs.machine.MachineDefinitions.{applied}
 use Rattle.sc_node_table.specs.NodeDefinitions.{stopped, saw, entered, is_among, executed_one, executed_ready, all_ready, executed, install_to, pumped_from, pumped, ReplicaState, Place, Executed, childless, name_of, next, members, settled, flying, forgotten, last_slot, learn_row, without_slot, hinted, accepted_to, took, accept_row}
 use Rattle.sc_law_walks.proofs.WalkLemmas.{cleared, entered_next}
-use Rattle.sc_live_plain.specs.PlainDefinitions.{Frame, IsFrame, replica_owes, Requests, IsPlainCall, AreTaken, IsPlainLeader, IsPlainFollower, IsPlainVoter, IsPlainReplica, HasOffered}
+use Rattle.sc_live_plain.specs.PlainDefinitions.{Frame, IsFrame, Requests, IsPlainCall, AreTaken, IsPlainLeader, IsPlainFollower, IsPlainVoter, IsPlainReplica, HasOffered}
 use Rattle.sc_live_plain.proofs.LeadersProofs.PlainEntries.{entered_plain, learnt_call}
 use Rattle.sc_live_plain.proofs.LeadersProofs.LeadingReplicas.{IsHeld}
 use Rattle.sc_live_plain.proofs.PlainRowsProofs.RepeatedMail.{mail_of}
@@ -77,10 +77,6 @@ module _ (frame : Frame) (fact : IsFrame frame) (me : ℕ) (r : ReplicaState) (v
 
 -- what it has to do stays
 module _ (frame : Frame) (r : ReplicaState) (slot : ℕ) (command : Command) where
-  pub accepted_owes : replica_owes (accepted_state frame r slot command) ≡ replica_owes r
-  unfolding accepted_state
-  accepted_owes = refl
-
   pub accepted_hint : (accepted_state frame r slot command).hint ≡ Some frame.lead
   unfolding accepted_state
   accepted_hint = refl
@@ -244,12 +240,3 @@ module _ (begun : Requests) (frame : Frame) (fact : IsFrame frame) (me : ℕ) (r
     pub learnt_next : next learnt_state ≡ next r + 1
     unfolding learnt_state
     learnt_next = entered_next (Call client seq op) r
-
--- one that does not lead owes nothing
-pub follower_owes : (r : ReplicaState) → IsPlainFollower r → replica_owes r ≡ 0
-follower_owes r f =
-    let backlog = ap length f.backlog in
-    let flights = ap length f.flights in
-    let ready = ap length f.ready in
-    let runs = cond-false r.running (next r - 1) 0 f.stopped in
-    omega (arith, backlog, flights, ready, runs)

@@ -1,18 +1,14 @@
--- What the same mail to several nodes adds: what holds of each mail, what is owed, and which slots are learnt.
-use Rattle.std.proofs.Common.{◌≡◌, ℕ, zero, suc, ◌+◌, ◌*◌, ◌<◌, ◌≤◌, ◌||◌, eqb, true, false, cond, List, [], ◌∷◌, ◌++◌, length, count_by, sum_by, inl, inr, refl, sym, ◌∙◌, ap, subst, arith, append-nil}
+-- What the same mail to several nodes adds: what holds of each mail, and which slots are learnt.
+use Rattle.std.proofs.Common.{◌≡◌, ℕ, zero, suc, ◌+◌, ◌<◌, ◌||◌, eqb, true, false, cond, List, [], ◌∷◌, ◌++◌, inl, inr, refl, sym, ◌∙◌, ap, subst, arith, append-nil}
 use Rattle.std.specs.List.{flat_map, AllPairs}
 use Rattle.std.proofs.lemmas.Bool.{cond_both, cond-true, cond-false, eqb-true, eqb-false, eq-eqb, ne_eqb, or_cases, or_parts, cases_eq}
 use Rattle.std.proofs.lemmas.List.Concat.{flat_map-append}
 use Rattle.std.proofs.lemmas.List.Kept.{AllPairs-from_increasing}
-use Rattle.std.proofs.lemmas.List.Sums.{sum_by_push}
-use Rattle.std.proofs.Math.Nat.{suc-mul}
 use Rattle.sc_base.proofs.Lemmas.{same_name, AllPairs-head, AllPairs-tail}
 use Rattle.sc_base.specs.Definitions.{Among, Each, same_draw, is_member, IsRoster}
 use Rattle.sc_node_table.specs.Values.{Draw, Command, Mail, MailBody, Learn}
 use Rattle.sc_words.proofs.PaxosProofs.PaxosLemmas.{Each-push, Each-from_All}
 use Rattle.sc_node_table.specs.NodeDefinitions.{sent, sent_all, sent_others, numbers_from}
-use Rattle.sc_live_plain.specs.PlainDefinitions.{body_owes, mail_owes}
-use Rattle.sc_live_plain.proofs.PlainRowsProofs.SlotCounts.{one_yes, one_no, count-cons}
 
 -- ---- which slots the Learns among mails name
 
@@ -35,9 +31,6 @@ mail_of from to body = record { from = from; to = to; body = body }
 
 -- ---- one mail more
 
-pub owed_push : (mails : List Mail) (mail : Mail) → sum_by mail_owes (mails ++ mail ∷ []) ≡ sum_by mail_owes mails + mail_owes mail
-owed_push mails mail = sum_by_push mail_owes mails mail
-
 pub learns_push : (name : Draw) (who : ℕ) (mails : List Mail) (mail : Mail) → learns_to name who (mails ++ mail ∷ []) ≡ learns_to name who mails ++ learns_for name who mail
 learns_push name who mails mail = flat_map-append (learns_for name who) mails (mail ∷ []) ∙ ap (λ l. learns_to name who mails ++ l) (append-nil (learns_for name who mail))
 
@@ -57,15 +50,6 @@ module _ (me : ℕ) (body : MailBody) where
   unfolding sent_all
   all_each P [] mails e f = e
   all_each P (node ∷ nodes) mails e f = all_each P nodes (sent me node body mails) (Each-push P mails (mail_of me node body) e (f node (inl refl))) (λ other a. f other (inr a))
-
-  pub all_owed : (nodes : List ℕ) (mails : List Mail) → sum_by mail_owes (sent_all me nodes body mails) ≡ sum_by mail_owes mails + length nodes * body_owes body
-  unfolding sent_all
-  all_owed [] mails = omega arith
-  all_owed (node ∷ nodes) mails =
-      let more = all_owed nodes (sent me node body mails) in
-      let one = owed_push mails (mail_of me node body) in
-      let double : suc (length nodes) * body_owes body ≡ length nodes * body_owes body + body_owes body = suc-mul (length nodes) (body_owes body) in
-      omega (arith, more, one, double)
 
   pub all_learns : (name : Draw) (who : ℕ) (nodes : List ℕ) (mails : List Mail) → learns_of name body ≡ [] → learns_to name who (sent_all me nodes body mails) ≡ learns_to name who mails
   unfolding sent_all
@@ -109,24 +93,7 @@ module _ (me : ℕ) (body : MailBody) where
   others_kept (node ∷ nodes) mails mail a =
       others_by (Among mail) node nodes mails (λ _. others_kept nodes mails mail a) (λ _. others_kept nodes (sent me node body mails) mail (among_push mails (mail_of me node body) mail a))
 
-  pub others_owed : (nodes : List ℕ) (mails : List Mail) → body_owes body ≡ 1 → sum_by mail_owes (sent_others me nodes body mails) + count_by (λ node. eqb node me) nodes ≡ sum_by mail_owes mails + length nodes
-  unfolding sent_others
-  others_owed [] mails one = omega arith
-  others_owed (node ∷ nodes) mails one =
-      let c = count-cons (λ n. eqb n me) node nodes in
-      others_by (λ l. sum_by mail_owes l + count_by (λ n. eqb n me) (node ∷ nodes) ≡ sum_by mail_owes mails + length (node ∷ nodes)) node nodes mails
-      (λ own. (let more = others_owed nodes mails one in let fact = one_yes (eqb node me) (eq-eqb node me own) in omega (arith, more, c, fact)))
-      (λ ne. (let more = others_owed nodes (sent me node body mails) one in
-      let push = owed_push mails (mail_of me node body) in
-      let fact = one_no (eqb node me) (ne_eqb node me ne) in omega (arith, more, push, one, c, fact)))
-
 -- ---- members, each once
-
-pub member_counts : (x : ℕ) (xs : List ℕ) → is_member xs x ≡ true → 1 ≤ count_by (λ y. eqb y x) xs
-member_counts x [] e = cc
-member_counts x (y ∷ xs) e =
-    let c = count-cons (λ z. eqb z x) y xs in
-    elim (or_cases (eqb y x) (is_member xs x) e) [ inl t ↦ (let one = one_yes (eqb y x) t in omega (arith, c, one)) | inr m ↦ (let more = member_counts x xs m in omega (arith, c, more)) ]
 
 none_below : (x : ℕ) (xs : List ℕ) → Each (λ y. x < y) xs → is_member xs x ≡ false
 none_below x [] e = refl

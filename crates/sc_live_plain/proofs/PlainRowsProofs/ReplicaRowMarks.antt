@@ -117,12 +117,12 @@ module _ (from slot : ℕ) (flights held : List (Flight Command)) (v : IsVoted f
 
 -- ---- rows of a leader
 
-module _ (begun : Requests) (frame : Frame) (r : ReplicaState) (taken : ℕ) (slots : AreTaken r taken) (held : List (Flight Command)) (bound : ℕ) (wanted : ℕ → ℕ → Type 0) (place : Place) (after : ℕ)
-    (k : Leads begun frame (next r) (next r + taken) held bound wanted after place) where
+module _ (begun : Requests) (frame : Frame) (r : ReplicaState) (taken : ℕ) (slots : AreTaken r taken) (held : List (Flight Command)) (wanted : ℕ → ℕ → Type 0) (place : Place) (after : ℕ)
+    (k : Leads begun frame (next r) (next r + taken) held wanted after place) where
   -- a run of a leader that takes such a mail
   pub run_moves : (mark : Mark) → IsCount frame mark → IsHeldOn r.leader.flights held mark → ((slot : ℕ) → next r + taken ≤ slot → flight_at slot held ≡ None) → MovesBy frame frame.lead r taken place.0 after mark place.1
   run_moves mark counts on past = λ one two v w own. inr (inr (inr
-      (leads_moves begun frame (next r) (next r + taken) r.leader.flights held bound wanted after place k one two mark v.next (v.bound refl) (λ slot. v.voters refl slot) w.next (w.bound refl) (λ slot. w.voters refl slot) counts on past)))
+      (leads_moves begun frame (next r) (next r + taken) r.leader.flights held wanted after place k one two mark v.next (v.bound refl) (λ slot. v.voters refl slot) w.next (w.bound refl) (λ slot. w.voters refl slot) counts on past)))
 
   -- the leader counts the vote of a member
   pub counted_moves : (from slot : ℕ) → is_member (frame.at slot) from ≡ true → IsVoted from slot r.leader.flights held → MovesBy frame frame.lead r taken place.0 after (Votes from slot) place.1

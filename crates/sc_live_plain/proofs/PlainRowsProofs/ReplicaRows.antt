@@ -1,5 +1,5 @@
--- What a replica of a plain group does with each mail, that it stays plain, and that less is owed after it.
-use Rattle.std.proofs.Common.{◌≡◌, ℕ, ◌+◌, ◌≤◌, ◌&&◌, true, false, List, [], ◌∷◌, sum_by, Some, ◌⊎◌, inl, inr, refl, sym, ◌∙◌, ap, subst, arith}
+-- What a replica of a plain group does with each mail, and that it stays plain.
+use Rattle.std.proofs.Common.{◌≡◌, ℕ, ◌+◌, ◌≤◌, ◌&&◌, true, false, List, [], ◌∷◌, Some, ◌⊎◌, inl, inr, refl, sym, ◌∙◌, ap, subst, arith}
 use Rattle.std.proofs.lemmas.Bool.{cases_Bool, both_ways, and_left, and_right}
 use Rattle.sc_base.specs.Definitions.{Each, client_actor, is_member}
 use Rattle.sc_node_table.specs.Values.{Ballot, Draw, Op, Command, Call, Core, Mail, MailBody, Request, Answer, Accept, Accepted, Learn}
@@ -8,13 +8,13 @@ use Rattle.sc_mail.specs.declared.bodies.AnswerBody.TheVariants as Says
 use Rattle.sc_words.specs.paxos.PaxosDefinitions.{below}
 use Rattle.sc_words.proofs.PaxosProofs.PaxosLemmas.{at_least_itself, Each-weaker}
 use Rattle.sc_node_table.specs.NodeDefinitions.{ReplicaState, Place, name_of, next, last_slot, mailed, slots_ahead}
-use Rattle.sc_live_plain.specs.PlainDefinitions.{Frame, IsFrame, body_owes, mail_owes, replica_owes, Requests, IsPlainCall, IsPlainCommand, IsPlainBody, AreTaken, IsPlainLeader, IsPlainFollower, IsPlainVoter, IsPlainReplica, HasOffered, IsLeading, IsSettled, IsPlainAt, IsDue}
+use Rattle.sc_live_plain.specs.PlainDefinitions.{Frame, IsFrame, Requests, IsPlainCall, IsPlainCommand, IsPlainBody, AreTaken, IsPlainLeader, IsPlainFollower, IsPlainVoter, IsPlainReplica, HasOffered, IsLeading, IsSettled, IsPlainAt, IsDue}
 use Rattle.sc_live_plain.proofs.LeadersProofs.LeaderRequests.{request_refused, request_run}
 use Rattle.sc_live_plain.proofs.LeadersProofs.LeadingReplicas.{IsHeld, IsSaid}
 use Rattle.sc_live_plain.proofs.LeadersProofs.PlainPumps.{call_is}
 use Rattle.sc_live_plain.proofs.LeadersProofs.LeaderExecutions.{IsRun}
 use Rattle.sc_live_plain.proofs.PlainRowsProofs.RepeatedMail.{mail_of}
-use Rattle.sc_live_plain.proofs.PlainRowsProofs.PlainAcceptAndLearnRows.{accepted_state, accept_is, accepted_voter, as_voter, accepted_plain, accepted_owes, accepted_hint, accepted_me, accepted_group, accepted_next, accepted_flights, accepted_held, accepted_slots, accepted_follower, accepted_leader, accepted_done, learnt_state, learn_is, learnt_none, learnt_plain, learnt_follower, learnt_next, follower_owes}
+use Rattle.sc_live_plain.proofs.PlainRowsProofs.PlainAcceptAndLearnRows.{accepted_state, accept_is, accepted_voter, as_voter, accepted_plain, accepted_hint, accepted_me, accepted_group, accepted_next, accepted_flights, accepted_held, accepted_slots, accepted_follower, accepted_leader, accepted_done, learn_is, learnt_none, learnt_plain, learnt_follower, learnt_next}
 use Rattle.sc_live_plain.proofs.LeadersProofs.CountedVotes.{IsCounted, accepted_counted, accepted_none}
 
 module _ (begun : Requests) (frame : Frame) (fact : IsFrame frame) where
@@ -49,7 +49,7 @@ module _ (begun : Requests) (frame : Frame) (fact : IsFrame frame) where
     pub plain : IsPlainReplica begun frame frame.lead r
     pub leader : IsPlainLeader begun frame taken r
     pub done : HasOffered taken r
-    pub run : IsRun begun frame fact (next r) (next r + taken) r.leader.flights (replica_owes r + 28) (λ c n. IsHeld r c n ⊎ ((c ≡ client) × (n ≤ seq))) place
+    pub run : IsRun begun frame fact (next r) (next r + taken) r.leader.flights (λ c n. IsHeld r c n ⊎ ((c ≡ client) × (n ≤ seq))) place
 
   -- a vote is counted, and what it decides is executed
   pub record DidCount (r : ReplicaState) (from slot : ℕ) (place : Place) : Type 0 where
@@ -86,12 +86,11 @@ module _ (begun : Requests) (frame : Frame) (fact : IsFrame frame) where
   Does me r from (Learn group slot command) place = DidLearn me slot r place
   Does me r from _ place = ⊥
 
-  -- the replica stays plain, sends plain mail, makes no child, and owes less than before together with the mail
+  -- the replica stays plain, sends plain mail, and makes no child
   pub record ReplicaRow (me : ℕ) (r : ReplicaState) (from : ℕ) (body : MailBody) (place : Place) : Type 0 where
     pub after : IsPlainAt begun frame me place.0
     pub name_is : name_of place.0 ≡ frame.core.id
     pub said : Each (λ mail. IsPlainBody begun frame mail.from mail.to mail.body) place.1
-    pub owed : 1 + (replica_owes place.0 + sum_by mail_owes place.1) ≤ replica_owes r + body_owes body
     pub response : Does me r from body place
 
   abbrev Row : ℕ → ReplicaState → ℕ → MailBody → Type 0
@@ -111,13 +110,11 @@ module _ (begun : Requests) (frame : Frame) (fact : IsFrame frame) where
     request_leading group client seq op p k b =
         elim (cases_Bool (holds_key frame.core.arc (key_of op))) [
           | inl h ↦ (
-              let run = request_run begun frame fact k.taken r p k.leader k.done (open_room k.taken k.leader) client seq op (record { is_begun = b; held = h }) in
-              let owed = run.leads.owed in (
+              let run = request_run begun frame fact k.taken r p k.leader k.done (open_room k.taken k.leader) client seq op (record { is_begun = b; held = h }) in (
                 record {
                   after = inl (run.leads.plain, inl (refl, record { taken = run.taken; leader = run.leads.leader; done = run.done }));
                   name_is = ap (λ (core : Core). core.id) run.leads.plain.group.core_is;
                   said = said_plain _ _ _ _ _ run.leads.said;
-                  owed = omega (arith, owed);
                   response = (refl, inr (record { taken = k.taken; plain = p; leader = k.leader; done = k.done; run = run }));
                 },
                 refl,
@@ -129,7 +126,6 @@ module _ (begun : Requests) (frame : Frame) (fact : IsFrame frame) where
                   after = inl (p, inl (refl, k));
                   name_is = ap (λ (core : Core). core.id) p.group.core_is;
                   said = ((refl, record { client = client; op = op; from_is = refl; to_is = refl; is_begun = b; says = (f, refl, refl) }), tt);
-                  owed = omega arith;
                   response = (refl, inl (record { lacks = f; place_is = refl }));
                 }),
                 refl,
@@ -142,13 +138,11 @@ module _ (begun : Requests) (frame : Frame) (fact : IsFrame frame) where
     unfolding mailed
     vote_leading group slot p k m =
         let counted = accepted_counted begun frame fact k.taken r p k.leader k.done (open_room k.taken k.leader) from slot m in
-        let run = counted.run in
-        let owed = run.leads.owed in (
+        let run = counted.run in (
           record {
             after = inl (run.leads.plain, inl (refl, record { taken = run.taken; leader = run.leads.leader; done = run.done }));
             name_is = ap (λ (core : Core). core.id) run.leads.plain.group.core_is;
             said = said_plain _ _ _ _ _ run.leads.said;
-            owed = omega (arith, owed);
             response = (refl, record { taken = k.taken; plain = p; leader = k.leader; done = k.done; room = open_room k.taken k.leader; counted = counted });
           },
           accepted_none begun frame fact k.taken r p k.leader k.done (open_room k.taken k.leader) from slot m,
@@ -177,13 +171,11 @@ module _ (begun : Requests) (frame : Frame) (fact : IsFrame frame) where
         → Row me r from (Accept group frame.ballot slot command)
     unfolding mailed
     accept_row_is me group slot command v k after f m low =
-        let place_is = accept_is frame fact me r v from slot command low (none_stops me r k) in
-        let owes = accepted_owes frame r slot command in (
+        let place_is = accept_is frame fact me r v from slot command low (none_stops me r k) in (
           subst (ReplicaRow me r from (Accept group frame.ballot slot command)) (sym place_is) (record {
             after = after;
             name_is = (accepted_voter frame fact me r v slot command).name_is;
             said = ((refl, refl, f, m), tt);
-            owed = omega (arith, owes);
             response = did_accept me slot command;
           }),
           refl,
@@ -204,13 +196,11 @@ module _ (begun : Requests) (frame : Frame) (fact : IsFrame frame) where
     learn_follower me group slot client seq op p f ne c at =
         let low : next r ≤ last_slot = omega (arith, room) in
         let place_is = learn_is begun frame fact me r p f fact.leads client seq op c low from slot at in
-        let after = learnt_follower begun frame fact me r p f fact.leads client seq op c low in
-        let owes = follower_owes (learnt_state begun frame fact me r p f fact.leads client seq op c low) after in (
+        let after = learnt_follower begun frame fact me r p f fact.leads client seq op c low in (
           subst (ReplicaRow me r from (Learn group slot (Call client seq op))) (sym place_is) (record {
             after = inl (learnt_plain begun frame fact me r p f fact.leads client seq op c low, inr (ne, after));
             name_is = ap (λ (core : Core). core.id) (learnt_plain begun frame fact me r p f fact.leads client seq op c low).group.core_is;
             said = tt;
-            owed = omega (arith, owes);
             response = record { follows = ne; follower = f; sends = refl; next_is = learnt_next begun frame fact me r p f fact.leads client seq op c low; flights_are = after.flights };
           }),
           learnt_none begun frame fact me r p f fact.leads client seq op c low from slot at,
@@ -229,7 +219,7 @@ module _ (begun : Requests) (frame : Frame) (fact : IsFrame frame) where
         subst (λ (x : Ballot). Row me r from (Accepted group x slot)) (sym b.1) (subst (λ m. Row m r from (Accepted group frame.ballot slot)) (sym e) (vote_leading group slot leads.0 leads.1 b.3))
     replica_row me (Accept group ballot slot command) k b due not_client = subst (λ (x : Ballot). Row me r from (Accept group x slot command)) (sym b.1) (accept_any me group slot command k b.2.from_is b.2.to_in due)
     replica_row me (Learn group slot command) k b due not_client =
-        let c = call_is begun frame fact 0 0 [] 0 (λ x y. ⊥) command b.1.is_call in
+        let c = call_is begun frame fact 0 0 [] (λ x y. ⊥) command b.1.is_call in
         let plain : IsPlainCall begun frame c.0 c.1 c.2 = subst (IsPlainCommand begun frame) c.3 b.1.is_call in
         let follows = following_at me r b.1.to_in b.1.other k in
         subst (λ (x : Command). Row me r from (Learn group slot x)) (sym c.3) (learn_follower me group slot c.0 c.1 c.2 follows.0 follows.1 b.1.other plain due)

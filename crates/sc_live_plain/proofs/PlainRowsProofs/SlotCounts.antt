@@ -156,13 +156,6 @@ module _ {V : Type 0} (slot : ℕ) (v : V) where
       cond_both (eqb x.0 slot) ((slot, v) ∷ es) (cond (ltb slot x.0) ((slot, v) ∷ x ∷ es) (x ∷ with_slot es slot v)) P here
       (λ f. cond_both (ltb slot x.0) ((slot, v) ∷ x ∷ es) (x ∷ with_slot es slot v) P (λ _. first) (λ _. later))
 
-  pub with_length : (es : List (ℕ × V)) → entries_at slot es ≡ 0 → length (with_slot es slot v) ≡ length es + 1
-  with_length [] e = omega arith
-  with_length (x ∷ es) e =
-      let c = count-cons (λ (y : ℕ × V). eqb y.0 slot) x es in
-      with_by (λ l. length l ≡ length (x ∷ es) + 1) x es (λ t. (let one = one_yes (eqb x.0 slot) t in absurd (omega (arith, c, e, one)))) (omega arith)
-      (let more = with_length es (omega (arith, c, e)) in omega (arith, more))
-
   pub with_count : (es : List (ℕ × V)) (other : ℕ) → entries_at slot es ≡ 0 → entries_at other (with_slot es slot v) ≡ one_if (eqb slot other) + entries_at other es
   with_count [] other e = count-cons (λ (y : ℕ × V). eqb y.0 other) (slot, v) []
   with_count (x ∷ es) other e =
