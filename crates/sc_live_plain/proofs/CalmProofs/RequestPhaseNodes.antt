@@ -1,5 +1,5 @@
 -- Between two orders each row of a node leaves a journal in which clients ask alone.
-use Rattle.std.proofs.Common.{◌≡◌, ℕ, ◌≤◌, eqb, true, false, List, [], ◌∷◌, ◌++◌, map, drop, find, Some, inl, inr, refl, sym, ◌∙◌, ap, subst, arith}
+use Rattle.std.proofs.Common.{◌≡◌, ℕ, ◌≤◌, eqb, true, false, cond, List, [], ◌∷◌, ◌++◌, map, drop, find, Some, inl, inr, refl, sym, ◌∙◌, ap, subst, arith, zero, suc}
 use Rattle.sc_live_plain.proofs.PlainRowsProofs.Lists.{at_zero}
 use Rattle.std.specs.Option.{option_map}
 use Rattle.std.proofs.lemmas.Bool.{cases_eq}

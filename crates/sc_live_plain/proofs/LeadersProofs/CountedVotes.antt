@@ -11,7 +11,7 @@ use Rattle.sc_node_table.specs.NodeDefinitions.{has_room, executed, ReplicaState
 use Rattle.sc_live_plain.specs.PlainDefinitions.{Frame, IsFrame, replica_owes, Requests, IsPlainCommand, takers, IsPlainFlight, IsPlainLeader, IsPlainReplica, HasOffered}
 use Rattle.sc_live_plain.proofs.LeadersProofs.LeaderRequests.{begins}
 use Rattle.sc_live_plain.proofs.PlainRowsProofs.SlotCounts.{found_one, one_if, one_if_most, one_yes, one_no, entries_at, with_length, with_count, with_each, with_among, with_it, with_at, out_length, out_here, out_other, out_each, out_among}
-use Rattle.sc_live_plain.proofs.LeadersProofs.Flights.{others_out, voted_length, voted_count, voted_each, voted_value, voted_others, voted_here, only_flight, no_flight_at, numbered_get, closed_set}
+use Rattle.sc_live_plain.proofs.LeadersProofs.Flights.{others_out, voted_length, voted_count, voted_each, voted_value, voted_others, voted_here, only_flight, no_flight_at, numbered_get, numbered_past, closed_set}
 use Rattle.sc_live_steps.proofs.FollowingProofs.KeptVotes.{HasVoted, vote_kept}
 use Rattle.sc_live_plain.proofs.LeadersProofs.LeadingReplicas.{in_range, range_before, range_behind, early_taken, flights_at, IsHeld, Leads}
 use Rattle.sc_live_plain.proofs.LeadersProofs.PlainPumps.{call_is}

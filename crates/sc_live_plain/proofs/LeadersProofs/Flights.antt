@@ -1,11 +1,13 @@
 -- What a vote makes of the flights, and of those that voted.
-use Rattle.std.proofs.Common.{◌≡◌, ℕ, zero, suc, ◌+◌, ◌<◌, ◌≤◌, eqb, true, false, cond, List, [], ◌∷◌, length, map, Option, Some, None, inl, inr, refl, sym, ◌∙◌, ap, arith, ◌-◌, ◌⊎◌}
+use Rattle.std.proofs.Common.{◌≡◌, ℕ, zero, suc, ◌+◌, ◌<◌, ◌≤◌, eqb, true, false, cond, List, [], ◌∷◌, length, map, Option, Some, None, inl, inr, refl, sym, ◌∙◌, ap, arith, ◌-◌, ◌*◌, ◌||◌, ◌⊎◌, Bool, ◌++◌, count_by, subst}
 use Rattle.std.specs.Prelude.{slice_get, nat_lt}
-use Rattle.std.proofs.lemmas.Bool.{cond_both, cond-true, cond-false, eqb-true, eq-eqb, ne_eqb, both_ways, lt-ltb, le-ltb}
-use Rattle.sc_base.specs.Definitions.{Among, Each}
+use Rattle.std.proofs.lemmas.Bool.{cond_both, cond-true, cond-false, eqb-true, eq-eqb, ne_eqb, both_ways, cases_Bool, lt-ltb, le-ltb, or_cases, or_parts, or_left}
+use Rattle.sc_base.specs.Definitions.{Among, Each, votes_of, is_majority, is_member, with_member, IsRoster}
 use Rattle.sc_node_table.specs.Values.{Command, Flight}
-use Rattle.sc_words.specs.paxos.PaxosDefinitions.{flight_at, without_flight, with_voters}
+use Rattle.sc_words.specs.paxos.PaxosDefinitions.{flight_at, without_flight, with_voters, kept_voters, add_voter, voters_after}
 use Rattle.sc_node_table.specs.NodeDefinitions.{numbers_from, ReplicaState, next, set_at, slots_ahead}
+use Rattle.sc_base.proofs.Lemmas.{length_with as with_one}
+use Rattle.sc_paxos_law.proofs.Lemmas.{member-among}
 use Rattle.sc_live_plain.proofs.PlainRowsProofs.SlotCounts.{one_yes, one_no, count-cons}
 use Rattle.sc_live_plain.proofs.LeadersProofs.LeadingReplicas.{flights_at}
 use Rattle.sc_live_plain.proofs.PlainRowsProofs.Lists.{some_is}
