@@ -6,6 +6,7 @@ pub mod Ordered
 pub mod Machine
 pub mod Sent
 pub mod EachFound
+pub mod HeldCommands
 pub mod HeldNames
 pub mod ExecutedNames
 pub mod Voted

@@ -11,14 +11,12 @@ pub mod Saying
 pub mod Sending
 pub mod Offering
 pub mod Entering
-pub mod Welcoming
 pub mod ChosenEntries
 pub mod MajorityVotes
 pub mod Counting
-pub mod Offspring
-pub mod Transacting
-pub mod LearningRows
 pub mod Installs
+pub mod HeldEntries
+pub mod GroupRows
 pub mod AcceptorRows
 pub mod Frames
 pub mod Holding

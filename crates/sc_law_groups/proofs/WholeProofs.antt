@@ -2,6 +2,7 @@ pub mod Apart
 pub mod Asking
 pub mod FreshChildren
 pub mod Coming
+pub mod StoryWalks
 pub mod Distinct
 pub mod Examples
 pub mod Fitting

@@ -1,4 +1,3 @@
-pub mod HeldCommands
 pub mod QueueProofs
 pub mod RefusalProofs
 pub mod PatienceProofs

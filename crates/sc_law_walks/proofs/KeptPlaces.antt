@@ -73,27 +73,27 @@ module _ (w : PlaceWalk) where
     elected = λ r mails k. (elected_kept w.facts.me r k.0, w.states.elected r mails k.0 k.1);
     seen = λ ballot r mails good t on k. (k.0, w.states.seen ballot r mails good t on k.1);
     polled = λ from group ballot reports r mails on h k. (flying_on w.facts.me r (promise_counted from ballot reports r.leader).1 on k.0, w.states.polled from ballot reports r mails on h k.1);
-    counts = λ from ballot slot set count r mails on e k. (flying_on w.facts.me r (counted from ballot slot set r.leader).1 on k.0, w.states.counts from ballot slot set count r mails on e k.1);
-    chosen = λ from group ballot slot set command r mails on e h k. (let so = w.states.chosen from ballot slot set command r mails on e h k.1 in (so.0, (flying_on w.facts.me r (counted from ballot slot set r.leader).1 on k.0, so.1)));
+    counts = λ from ballot slot set count r mails vote e k. (flying_on w.facts.me r (counted from ballot slot set r.leader).1 vote.runs k.0, w.states.counts from ballot slot set count r mails vote.runs e k.1);
+    chosen = λ from group ballot slot set command r mails vote e h k. (let so = w.states.chosen from ballot slot set command r mails vote.runs e h k.1 in (so.0, (flying_on w.facts.me r (counted from ballot slot set r.leader).1 vote.runs k.0, so.1)));
     promised = λ from group ballot from_slot r mails h top t k. (k.0, w.states.promised from ballot from_slot r mails k.0.0 h.0 h.1 top t k.1);
     accepted = λ from group report r mails h top t k. (k.0, w.states.accepted from report r mails k.0.0 h top t k.1);
     filed = λ act r mails on q e brought k. (waiting w.facts.me r (r.acts ++ act ∷ []) r.backlog on (one_filed r.acts act (mail_files act q) k.0.2.1) k.0.2.2 k.0, w.states.filed act r mails on q e k.1);
     ordered = λ order r mails on q may k. (waiting w.facts.me r r.acts (r.backlog ++ order ∷ []) on k.0.2.1 (one_asked r.backlog order (order_is_asked order q) k.0.2.2) k.0, w.states.ordered order r mails on q k.1);
-    requested = λ client seq op r mails on e k. (waiting w.facts.me r r.acts (r.backlog ++ Call client seq op ∷ []) on k.0.2.1 (one_asked r.backlog (Call client seq op) tt k.0.2.2) k.0, w.states.requested client seq op r mails on e k.1);
-    requested_again = λ client seq other op r mails on e g k. (
-      waiting w.facts.me r r.acts (without_request r.backlog client ++ Call client seq op ∷ []) on k.0.2.1 (one_asked (without_request r.backlog client) (Call client seq op) tt (without_asked r.backlog client k.0.2.2)) k.0,
-      w.states.requested_again client seq other op r mails on e g k.1,
+    requested = λ client seq op r mails request e k. (waiting w.facts.me r r.acts (r.backlog ++ Call client seq op ∷ []) request.runs k.0.2.1 (one_asked r.backlog (Call client seq op) tt k.0.2.2) k.0, w.states.requested client seq op r mails request.runs e k.1);
+    requested_again = λ client seq other op r mails request e g k. (
+      waiting w.facts.me r r.acts (without_request r.backlog client ++ Call client seq op ∷ []) request.runs k.0.2.1 (one_asked (without_request r.backlog client) (Call client seq op) tt (without_asked r.backlog client k.0.2.2)) k.0,
+      w.states.requested_again client seq other op r mails request.runs e g k.1,
     );
     turned = λ command answer backlog r mails on e no k. (calls_kept w.facts.me command backlog r on e k.0, w.states.turned command answer backlog r mails k.0.0 on e no k.1);
-    offers_value = λ slot set command r mails on near free e k. (offered_kept w.facts.me slot set command r mails on k.0, w.states.offers_value slot set command r mails k.0.0 on (near_kept w.facts.me slot r k.0 near) free e k.1);
-    offers_noop = λ slot set r mails on near free k. (offered_kept w.facts.me slot set _ r mails on k.0, w.states.offers_noop slot set r mails k.0.0 on (near_kept w.facts.me slot r k.0 near) free k.1);
-    offers_act = λ slot set act acts r mails on near free e k. (
+    offers_value = λ slot set command r mails on at free e k. (offered_kept w.facts.me slot set command r mails on k.0, w.states.offers_value slot set command r mails k.0.0 on (near_kept w.facts.me slot r k.0 at.near) free e k.1);
+    offers_noop = λ slot set r mails on at free k. (offered_kept w.facts.me slot set _ r mails on k.0, w.states.offers_noop slot set r mails k.0.0 on (near_kept w.facts.me slot r k.0 at.near) free k.1);
+    offers_act = λ slot set act acts r mails on at free e k. (
       offered_kept w.facts.me slot set act (record r { acts = acts }) mails on (acts_kept w.facts.me act acts r on e k.0),
-      w.states.offers_act slot set act acts r mails k.0.0 on (near_kept w.facts.me slot r k.0 near) free e k.1,
+      w.states.offers_act slot set act acts r mails k.0.0 on (near_kept w.facts.me slot r k.0 at.near) free e k.1,
     );
-    offers_call = λ slot set command backlog r mails on near free e k. (
+    offers_call = λ slot set command backlog r mails on at free e k. (
       offered_kept w.facts.me slot set command (record r { backlog = backlog }) mails on (calls_kept w.facts.me command backlog r on e k.0),
-      w.states.offers_call slot set command backlog r mails k.0.0 on (near_kept w.facts.me slot r k.0 near) free e k.1,
+      w.states.offers_call slot set command backlog r mails k.0.0 on (near_kept w.facts.me slot r k.0 at.near) free e k.1,
     );
   }
 

@@ -5,7 +5,7 @@ use Rattle.std.proofs.lemmas.Bool.{cond_both, and_parts}
 use Rattle.sc_node_table.specs.NodeDefinitions.{at_slot, has_act, with_act, act_queued, elected, ended, stopped, saw, left_gone, left, is_among, looked_for, looked, executed_one, child_at, next_child, has_room, next_ready, ending, executed_ready, all_ready, executed, pumped, ReplicaState, Place, Executed, next, members, childless}
 use Rattle.sc_node_table.specs.Values.{Ballot, Command, Base, Route, Mail}
 use Rattle.sc_group_table.specs.machine.MachineDefinitions.{child_by}
-use Rattle.sc_words.proofs.PaxosProofs.PaxosLemmas.{at_least_itself, Each-append, Each-from}
+use Rattle.sc_words.proofs.PaxosProofs.PaxosLemmas.{at_least_itself, Each-append}
 use Rattle.sc_words.specs.paxos.PaxosDefinitions.{IsAtLeast, below}
 use Rattle.sc_law_walks.proofs.Ways.{either_way}
 use Rattle.sc_law_walks.specs.WalkDefinitions.{IsFiledOnMail}
@@ -50,17 +50,17 @@ module _ (w : TableWalk) where
 
   -- ---- the pump
 
-  offers_kept : TableOffers (λ set. Unit {0}) After
+  offers_kept : TableOffers After
   offers_kept = record {
-    turned = λ command answer backlog r mails on e turn k. w.states.turned command answer backlog r mails on e turn k;
-    offers_value = λ slot set command r mails on low near none e of k. w.states.offers_value slot set command r mails on near none e k;
-    offers_noop = λ slot set r mails on low near none gap of k. w.states.offers_noop slot set r mails on near none k;
-    offers_act = λ slot set act acts r mails on low near none e of k. w.states.offers_act slot set act acts r mails on near none e k;
-    offers_call = λ slot set command backlog r mails on low near none e of k. w.states.offers_call slot set command backlog r mails on near none e k;
+    turned = w.states.turned;
+    offers_value = w.states.offers_value;
+    offers_noop = λ slot set r mails on at none gap k. w.states.offers_noop slot set r mails on at none k;
+    offers_act = w.states.offers_act;
+    offers_call = w.states.offers_call;
   }
 
   pub pumps : (place : Place) → After place → After (pumped place)
-  pumps place k = (pump_keeps (λ set. Unit {0}) After offers_kept place (Each-from (λ set. Unit {0}) place.0.sets (λ set a. tt)) k).0
+  pumps place k = (pump_keeps After offers_kept place k).0
 
   -- a command of a transaction waits last, unless there is one of its kind
   pub act_waits : (act : Command) (r : ReplicaState) (mails : List Mail) → IsFiledOnMail act → r.running ≡ true → w.facts.Files act → After (r, mails) → After (with_act act r, mails)
@@ -118,7 +118,8 @@ module _ (w : TableWalk) where
 
   child_by_entry : (counted : Bool) (command : Command) (r : ReplicaState) (mails : List Mail) → MayEnter w.facts counted command r → Before (r, mails) → (o : Option Base) → child_by r.group command ≡ o → Each w.facts.Child (child_at r.me o)
   child_by_entry counted command r mails may k None e = tt
-  child_by_entry counted command r mails may k (Some child) e = either_way (Each w.facts.Child) (is_member child.core.members r.me) (child ∷ []) [] (w.states.children counted command r mails child may e k, tt) tt
+  child_by_entry counted command r mails may k (Some child) e =
+      cond_both (is_member child.core.members r.me) (child ∷ []) [] (Each w.facts.Child) (λ member. (w.states.children counted command r mails child may (record { made = e; member = member }) k, tt)) (λ _. tt)
 
   -- the child of an entry, before those of what follows it
   children_by : (counted : Bool) (command : Command) (r : ReplicaState) (mails : List Mail) (rest : List Base) → MayEnter w.facts counted command r → Before (r, mails) → Each w.facts.Child rest → Each w.facts.Child (next_child command r ++ rest)

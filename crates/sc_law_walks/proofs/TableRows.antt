@@ -18,7 +18,7 @@ use Rattle.sc_law_walks.proofs.Places.{asked_place}
 use Rattle.sc_law_walks.proofs.Ways.{either_way}
 use Rattle.sc_law_walks.specs.WalkDefinitions.{IsFiledOnMail, IsOrder}
 use Rattle.sc_law_walks.proofs.TableParts.{Before, After, AfterAll, seen_top, seen_acceptor, pumps, acts_pump, sees_ballot, looks, execution}
-use Rattle.sc_law_walks.proofs.TableWalks.{TableWalk, AsFound}
+use Rattle.sc_law_walks.proofs.TableWalks.{TableWalk, AsFound, IsBroughtRequest, IsBroughtVote}
 
 -- an order is that of a command
 pub order_asked : (name : Draw) (number : ℕ) (order : Order) → IsOrder (ordered_command name number order)
@@ -79,7 +79,7 @@ module _ (w : TableWalk) where
 
   -- ---- Request
 
-  queues : (o : Option ℕ) (client seq : ℕ) (op : Op) (place : Place) → queued_number place.0.backlog client ≡ o → place.0.running ≡ true → Before w place → After w (queued o client seq op place)
+  queues : (o : Option ℕ) (client seq : ℕ) (op : Op) (place : Place) → queued_number place.0.backlog client ≡ o → IsBroughtRequest w.facts client seq op place.0 → Before w place → After w (queued o client seq op place)
   unfolding queued
   queues None client seq op (r, mails) e on k = pumps w (record r { backlog = r.backlog ++ Call client seq op ∷ [] }, mails) (w.states.requested client seq op r mails on e (w.states.late (r, mails) k))
   queues (Some other) client seq op (r, mails) e on k =
@@ -89,7 +89,7 @@ module _ (w : TableWalk) where
   requests_by : (o : Option AnswerBody) (from : ℕ) (group : Draw) (client seq : ℕ) (op : Op) (place : Place) → refused_at place.0.group.core.gone op place.0 ≡ o → Hears from (Request group client seq op) → Before w place → After w (requested o client seq op place)
   unfolding requested
   requests_by (Some answer) from group client seq op (r, mails) e h k = w.states.late (r, _) (w.says.refuses from group client seq op answer r mails h e k)
-  requests_by None from group client seq op (r, mails) e h k = queues (queued_number r.backlog client) client seq op (r, mails) refl (taken_runs r.group.core.gone r.group.core r.running r.hint op e) k
+  requests_by None from group client seq op (r, mails) e h k = queues (queued_number r.backlog client) client seq op (r, mails) refl (record { runs = taken_runs r.group.core.gone r.group.core r.running r.hint op e; from = from; group = group; brought = h }) k
 
   requests : (from : ℕ) (group : Draw) (client seq : ℕ) (op : Op) (place : Place) → Hears from (Request group client seq op) → Before w place → After w (request_row client seq op place)
   unfolding request_row
@@ -160,15 +160,16 @@ module _ (w : TableWalk) where
   tallies slot (Chosen command, leader) (r, mails) on decides counts = (let so = decides command refl in readies slot command (record r { leader = leader }, mails) on so.0 so.1)
   tallies slot (NotYet count, leader) (r, mails) on decides counts = (w.states.late (record r { leader = leader }, mails) (counts count refl), tt)
 
-  votes_by : (from : ℕ) (group : Draw) (ballot : Ballot) (slot : ℕ) (set : Option (List ℕ)) (place : Place) → place.0.running ≡ true → Hears from (Accepted group ballot slot) → Before w place → AfterAll w (voted from ballot slot set place)
-  votes_by from group ballot slot None place on h k = (w.states.late place k, tt)
-  votes_by from group ballot slot (Some set) (r, mails) on h k =
-      tallies slot (counted from ballot slot set r.leader) (r, mails) on (λ command e. w.states.chosen from group ballot slot set command r mails on e h k) (λ count e. w.states.counts from ballot slot set count r mails on e k)
+  votes_by : (from : ℕ) (group : Draw) (ballot : Ballot) (slot : ℕ) (o : Option (List ℕ)) (place : Place) → set_at slot place.0 ≡ o → place.0.running ≡ true → Hears from (Accepted group ballot slot) → w.facts.First place.0 → Before w place → AfterAll w (voted from ballot slot o place)
+  votes_by from group ballot slot None place e on h first k = (w.states.late place k, tt)
+  votes_by from group ballot slot (Some set) (r, mails) e on h first k =
+      let vote : IsBroughtVote w.facts from ballot slot set r = record { first = first; runs = on; group = group; brought = h; members_are = e } in
+      tallies slot (counted from ballot slot set r.leader) (r, mails) on (λ command e_. w.states.chosen from group ballot slot set command r mails vote e_ h k) (λ count e_. w.states.counts from ballot slot set count r mails vote e_ k)
 
-  votes_count : (from : ℕ) (group : Draw) (ballot : Ballot) (slot : ℕ) (place : Place) → Hears from (Accepted group ballot slot) → Before w place → AfterAll w (accepted_row from ballot slot place)
+  votes_count : (from : ℕ) (group : Draw) (ballot : Ballot) (slot : ℕ) (place : Place) → Hears from (Accepted group ballot slot) → w.facts.First place.0 → Before w place → AfterAll w (accepted_row from ballot slot place)
   unfolding accepted_row
-  votes_count from group ballot slot (r, mails) h k =
-      cond_both (leads ballot r) (voted from ballot slot (set_at slot r) (r, mails)) (childless (r, mails)) (AfterAll w) (λ t. votes_by from group ballot slot (set_at slot r) (r, mails) (leads_on ballot r t) h k) (λ _. (w.states.late (r, mails) k, tt))
+  votes_count from group ballot slot (r, mails) h first k =
+      cond_both (leads ballot r) (voted from ballot slot (set_at slot r) (r, mails)) (childless (r, mails)) (AfterAll w) (λ t. votes_by from group ballot slot (set_at slot r) (r, mails) refl (leads_on ballot r t) h first k) (λ _. (w.states.late (r, mails) k, tt))
 
   nacks : (from : ℕ) (group : Draw) (ballot : Ballot) (place : Place) → Hears from (Nack group ballot) → Before w place → Before w (nack_row ballot place)
   unfolding nack_row
@@ -312,7 +313,7 @@ module _ (w : TableWalk) where
   takes_mail from (Prepare group ballot from_slot) place h first k = (w.states.late (prepare_row from ballot from_slot place) (prepares from group ballot from_slot place h first k), tt)
   takes_mail from (Promise group ballot reports) place h first k = (polls_pump from group ballot reports place h k, tt)
   takes_mail from (Accept group ballot slot command) place h first k = (w.states.late (accept_row from ballot slot command place) (accepts from group ballot slot command place h first k), tt)
-  takes_mail from (Accepted group ballot slot) place h first k = votes_count from group ballot slot place h k
+  takes_mail from (Accepted group ballot slot) place h first k = votes_count from group ballot slot place h first k
   takes_mail from (Nack group ballot) place h first k = (w.states.late (nack_row ballot place) (nacks from group ballot place h k), tt)
   takes_mail from (Learn group slot command) place h first k = learns from group slot command place h first k
   takes_mail from (Ask group from_slot) place h first k = (w.states.late (ask_row from from_slot place) (answers_ask from group from_slot place h k), tt)

@@ -1,14 +1,15 @@
 -- What an invariant of any replica together with the mails of its row needs: what holds before a row and after it, that each part of a row keeps it, and that it holds with each mail put behind. Nothing else is asked of the replica. The theorems of the walk carry it through all rows of a replica's table.
 use Rattle.std.proofs.Common.{◌≡◌, ℕ, ◌+◌, ◌-◌, ◌<◌, ◌≤◌, nat_le, cond, Bool, true, false, List, [], ◌∷◌, ◌++◌, length, Option, Some, None}
-use Rattle.sc_base.specs.Definitions.{Drawer}
-use Rattle.sc_node_table.specs.Values.{Ballot, Draw, Op, Offer, Watch, Command, Noop, Prepared, RecordVote, GiveUp, Finish, Watched, RecordWatch, Base, Body, Coordinating, Heard, Route, OrderLine, OrderRefusal, Refused, Outcome, Past, Vote, AnswerBody, Mail, MailBody, Request, Prepare, Promise, Accept, Accepted, Nack, Learn, Ask, Install, TxPrepare, TxVote, TxOutcome, TxElsewhere, TxWatch, TxWatched, Chosen, Report}
+use Rattle.sc_base.specs.Definitions.{Drawer, is_member}
+use Rattle.sc_node_table.specs.Values.{Ballot, Draw, Op, Offer, Watch, Command, Noop, Call, Prepared, RecordVote, GiveUp, Finish, Watched, RecordWatch, Base, Body, Coordinating, Heard, Route, OrderLine, OrderRefusal, Refused, Outcome, Past, Vote, AnswerBody, Mail, MailBody, Request, Prepare, Promise, Accept, Accepted, Nack, Learn, Ask, Install, TxPrepare, TxVote, TxOutcome, TxElsewhere, TxWatch, TxWatched, Chosen, NotYet, Report}
 use Rattle.sc_mail.specs.declared.bodies.AnswerBody.TheVariants as Says
 use Rattle.sc_words.specs.declared.paxos.answers.Must.TheVariants.{Value}
 use Rattle.sc_group_table.specs.machine.MachineDefinitions.{base_of, child_by}
 use Rattle.sc_words.specs.paxos.PaxosDefinitions.{IsAtLeast, reports_from, after_promise, after_accept, may_promise, may_accept, promise_counted, entry_at, counted, must, below}
-use Rattle.sc_node_table.specs.NodeDefinitions.{jumped, ReplicaState, Place, name_of, next, at_slot, with_slot, taken_at, flying, has_act, sent, stopped, ended, answered, answer_to, turned_down, refused_at, offered, result_sent, untaken, standing_vote, noted_outcome, voted_to, watched_to, outcome_sent, asked_next, reminders}
+use Rattle.sc_node_table.specs.NodeDefinitions.{jumped, ReplicaState, Place, name_of, next, at_slot, with_slot, set_at, taken_at, flying, queued_number, without_request, has_act, sent, stopped, ended, answered, answer_to, turned_down, refused_at, offered, result_sent, untaken, standing_vote, noted_outcome, voted_to, watched_to, outcome_sent, asked_next, reminders}
 use Rattle.sc_law_walks.specs.WalkDefinitions.{IsFiledOnMail, IsOrder}
-use Rattle.sc_law_walks.proofs.PlaceWalks.{Talk, Parties, parties, elected_place, entered_place, EndsRow, ExecutesNext, Follows, SeesBallot, CountsVote, QueuesFirst, QueuesLater, WaitsOn}
+use Rattle.sc_law_walks.proofs.PlaceWalks.{Talk, Parties, parties, elected_place, entered_place, EndsRow, ExecutesNext, Follows, SeesBallot, WaitsOn}
+use Rattle.sc_law_walks.proofs.TablePumps.{IsOpenOffer}
 use Rattle.sc_law_walks.proofs.Talks.{client_reported, vote_reported, watch_reported, outcome_said, next_one_asked}
 
 -- What holds of the replica that a row finds; of a replica with the mails of its row, before it elects itself in a row and after; of the mail that it takes, by its sender; of a ballot that it sees there; of the command that was counted at a slot; of the commands of transactions and of orders that it queues; of an order that it is given; and of the children that it makes.
@@ -28,6 +29,26 @@ pub record TableFacts : Type 1 where
 abbrev pub MayEnter : TableFacts → Bool → Command → ReplicaState → Type 0
 MayEnter f true command r = (r.running ≡ true) × (at_slot r.ready (next r) ≡ Some command) × f.Entry (next r) command
 MayEnter f false command r = (from : ℕ) × (group : Draw) × f.Hears from (Learn group (next r) command) × f.First r
+
+-- What is known of a child: the command makes it, and the replica's node is one of its members.
+pub record IsOwnChild (command : Command) (r : ReplicaState) (child : Base) : Type 0 where
+  pub made : child_by r.group command ≡ Some child
+  pub member : is_member child.core.members r.me ≡ true
+
+-- What is known of a request that is queued: the replica runs, and a mail brought it.
+pub record IsBroughtRequest (f : TableFacts) (client seq : ℕ) (op : Op) (r : ReplicaState) : Type 0 where
+  pub runs : r.running ≡ true
+  pub from : ℕ
+  pub group : Draw
+  pub brought : f.Hears from (Request group client seq op)
+
+-- What is known of a vote that is counted: the replica is as the row found it, it runs, a mail brought the vote, and these are the members of its slot.
+pub record IsBroughtVote (f : TableFacts) (from : ℕ) (ballot : Ballot) (slot : ℕ) (set : List ℕ) (r : ReplicaState) : Type 0 where
+  pub first : f.First r
+  pub runs : r.running ≡ true
+  pub group : Draw
+  pub brought : f.Hears from (Accepted group ballot slot)
+  pub members_are : set_at slot r ≡ Some set
 
 -- A replica has the acceptor of the one that the row found.
 abbrev pub AsFound : TableFacts → ReplicaState → Type 0
@@ -51,7 +72,7 @@ pub record TableStates (f : TableFacts) : Type 0 where
   pub again : ExecutesNext f.Early f.Late f.Entry
   pub counted_entry : (command : Command) (r : ReplicaState) (mails : List Mail) → r.running ≡ true → at_slot r.ready (next r) ≡ Some command → f.Entry (next r) command → f.Early (r, mails) → f.Early (entered_place true command (r, mails))
   pub learnt_entry : (from : ℕ) (group : Draw) (command : Command) (r : ReplicaState) (mails : List Mail) → f.Hears from (Learn group (next r) command) → f.First r → f.Early (r, mails) → f.Early (entered_place false command (r, mails))
-  pub children : (counted : Bool) (command : Command) (r : ReplicaState) (mails : List Mail) (child : Base) → MayEnter f counted command r → child_by r.group command ≡ Some child → f.Early (r, mails) → f.Child child
+  pub children : (counted : Bool) (command : Command) (r : ReplicaState) (mails : List Mail) (child : Base) → MayEnter f counted command r → IsOwnChild command r child → f.Early (r, mails) → f.Child child
   pub jumped : (from : ℕ) (group : Draw) (slot : ℕ) (base : Base) (sets : List (List ℕ)) (r : ReplicaState) (mails : List Mail) → f.Hears from (Install group slot base sets) → length sets ≡ length r.sets → next r ≤ slot → r.running ≡ false → f.Early (r, mails) → f.Early (jumped slot base sets r, mails)
   -- leaders
   pub hinted : Follows f.Early
@@ -62,8 +83,8 @@ pub record TableStates (f : TableFacts) : Type 0 where
   pub seen : SeesBallot f.Early f.Round
   pub polled : (from : ℕ) (group : Draw) (ballot : Ballot) (reports : List (Report Command)) (r : ReplicaState) (mails : List Mail) → r.running ≡ true → f.Hears from (Promise group ballot reports) → f.Early (r, mails) → f.Early (record r { leader = (promise_counted from ballot reports r.leader).1 }, mails)
   -- a vote that leaves its slot undecided, and one that decides it
-  pub counts : CountsVote f.Early
-  pub chosen : (from : ℕ) (group : Draw) (ballot : Ballot) (slot : ℕ) (set : List ℕ) (command : Command) (r : ReplicaState) (mails : List Mail) → r.running ≡ true → (counted from ballot slot set r.leader).0 ≡ Chosen command → f.Hears from (Accepted group ballot slot) → f.Early (r, mails)
+  pub counts : (from : ℕ) (ballot : Ballot) (slot : ℕ) (set : List ℕ) (count : ℕ) (r : ReplicaState) (mails : List Mail) → IsBroughtVote f from ballot slot set r → (counted from ballot slot set r.leader).0 ≡ NotYet count → f.Early (r, mails) → f.Early (record r { leader = (counted from ballot slot set r.leader).1 }, mails)
+  pub chosen : (from : ℕ) (group : Draw) (ballot : Ballot) (slot : ℕ) (set : List ℕ) (command : Command) (r : ReplicaState) (mails : List Mail) → IsBroughtVote f from ballot slot set r → (counted from ballot slot set r.leader).0 ≡ Chosen command → f.Hears from (Accepted group ballot slot) → f.Early (r, mails)
       → f.Entry slot command × f.Early (record r { leader = (counted from ballot slot set r.leader).1; ready = with_slot r.ready slot command }, mails)
   -- acceptors
   pub promised : (from : ℕ) (group : Draw) (ballot : Ballot) (from_slot : ℕ) (r : ReplicaState) (mails : List Mail) → f.Hears from (Prepare group ballot from_slot) → IsAtLeast r.top ballot → may_promise r.acceptor ballot ≡ true → f.Early (r, mails)
@@ -73,17 +94,18 @@ pub record TableStates (f : TableFacts) : Type 0 where
   -- queues
   pub filed : (act : Command) (r : ReplicaState) (mails : List Mail) → r.running ≡ true → IsFiledOnMail act → has_act act r ≡ false → f.Files act → f.Late (r, mails) → f.Late (record r { acts = r.acts ++ act ∷ [] }, mails)
   pub ordered : (order : Command) (r : ReplicaState) (mails : List Mail) → r.running ≡ true → IsOrder order → f.Orders order → f.Late (r, mails) → f.Late (record r { backlog = r.backlog ++ order ∷ [] }, mails)
-  pub requested : QueuesFirst f.Late
-  pub requested_again : QueuesLater f.Late
+  pub requested : (client seq : ℕ) (op : Op) (r : ReplicaState) (mails : List Mail) → IsBroughtRequest f client seq op r → queued_number r.backlog client ≡ None → f.Late (r, mails) → f.Late (record r { backlog = r.backlog ++ Call client seq op ∷ [] }, mails)
+  pub requested_again : (client seq other : ℕ) (op : Op) (r : ReplicaState) (mails : List Mail) → IsBroughtRequest f client seq op r → queued_number r.backlog client ≡ Some other → nat_le seq other ≡ false → f.Late (r, mails)
+      → f.Late (record r { backlog = without_request r.backlog client ++ Call client seq op ∷ [] }, mails)
   -- a request that gets no slot is answered
   pub turned : (command : Command) (answer : AnswerBody) (backlog : List Command) (r : ReplicaState) (mails : List Mail) → r.running ≡ true → r.backlog ≡ command ∷ backlog → turned_down r.group.core command ≡ Some answer → f.Late (r, mails)
       → f.Late (record r { backlog = backlog }, answered r.me r.group.core.id answer command mails)
   -- what is offered at an open slot: what was reported there, nothing new below what was reported, and the head of either queue
-  pub offers_value : (slot : ℕ) (set : List ℕ) (command : Command) (r : ReplicaState) (mails : List Mail) → r.running ≡ true → slot < next r + length r.sets → taken_at r slot ≡ None → must slot r.leader ≡ Value command → f.Late (r, mails) → f.Late (offered slot set command (r, mails))
-  pub offers_noop : (slot : ℕ) (set : List ℕ) (r : ReplicaState) (mails : List Mail) → r.running ≡ true → slot < next r + length r.sets → taken_at r slot ≡ None → f.Late (r, mails) → f.Late (offered slot set Noop (r, mails))
-  pub offers_act : (slot : ℕ) (set : List ℕ) (act : Command) (rest : List Command) (r : ReplicaState) (mails : List Mail) → r.running ≡ true → slot < next r + length r.sets → taken_at r slot ≡ None → r.acts ≡ act ∷ rest → f.Late (r, mails)
+  pub offers_value : (slot : ℕ) (set : List ℕ) (command : Command) (r : ReplicaState) (mails : List Mail) → r.running ≡ true → IsOpenOffer slot set command r → taken_at r slot ≡ None → must slot r.leader ≡ Value command → f.Late (r, mails) → f.Late (offered slot set command (r, mails))
+  pub offers_noop : (slot : ℕ) (set : List ℕ) (r : ReplicaState) (mails : List Mail) → r.running ≡ true → IsOpenOffer slot set Noop r → taken_at r slot ≡ None → f.Late (r, mails) → f.Late (offered slot set Noop (r, mails))
+  pub offers_act : (slot : ℕ) (set : List ℕ) (act : Command) (rest : List Command) (r : ReplicaState) (mails : List Mail) → r.running ≡ true → IsOpenOffer slot set act r → taken_at r slot ≡ None → r.acts ≡ act ∷ rest → f.Late (r, mails)
       → f.Late (offered slot set act (record r { acts = rest }, mails))
-  pub offers_call : (slot : ℕ) (set : List ℕ) (command : Command) (rest : List Command) (r : ReplicaState) (mails : List Mail) → r.running ≡ true → slot < next r + length r.sets → taken_at r slot ≡ None → r.backlog ≡ command ∷ rest → f.Late (r, mails)
+  pub offers_call : (slot : ℕ) (set : List ℕ) (command : Command) (rest : List Command) (r : ReplicaState) (mails : List Mail) → r.running ≡ true → IsOpenOffer slot set command r → taken_at r slot ≡ None → r.backlog ≡ command ∷ rest → f.Late (r, mails)
       → f.Late (offered slot set command (record r { backlog = rest }, mails))
 
 -- That it is kept by each mail that goes with no change of the replica: refusals, votes and outcomes, questions of a transaction, states, entries and what asks for them.

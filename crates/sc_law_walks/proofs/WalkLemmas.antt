@@ -11,13 +11,13 @@ pub use Rattle.sc_law_walks.proofs.WalkRows.{creation}
 pub use Rattle.sc_law_walks.proofs.WalkNodes.{GivenAny, any_step}
 pub use Rattle.sc_law_walks.proofs.StateWalks.{StateParts, state_walk, state_births, state_ticks, state_hears, StateBirths}
 pub use Rattle.sc_law_walks.proofs.PlaceWalks.{Talk, Parties, parties, grows, beside_talk, elected_place, entered_place}
-pub use Rattle.sc_law_walks.proofs.TableWalks.{TableFacts, TableStates, TableSays, TableWalk, TableAgains, TableTicks, MayEnter, all_heard, talk_said}
+pub use Rattle.sc_law_walks.proofs.TableWalks.{TableFacts, TableStates, TableSays, TableWalk, TableAgains, TableTicks, MayEnter, IsOwnChild, IsBroughtRequest, IsBroughtVote, all_heard, talk_said}
 pub use Rattle.sc_law_walks.proofs.TableEntries.{TableEntry, entry_holds, joined}
 pub use Rattle.sc_law_walks.proofs.MachineWalks.{Names, EndsIt, ChangesNothing, voting_group, IsAccepted, VotesOn, MachineWalk}
 pub use Rattle.sc_law_walks.proofs.MachineSteps.{machine_step}
 pub use Rattle.sc_law_walks.proofs.CoreWalks.{none_locked, free_by, unrefused_free, yes_free, called_core, CoreParts, core_walk, core_step, LockParts, lock_step, name_step}
 pub use Rattle.sc_law_walks.proofs.EnteredReplicas.{entered_me, entered_group, entered_name, entered_running, entered_ready}
-pub use Rattle.sc_law_walks.proofs.TablePumps.{TableOffers, pump_keeps}
+pub use Rattle.sc_law_walks.proofs.TablePumps.{IsOpenOffer, offer_still, TableOffers, pump_keeps}
 pub use Rattle.sc_law_walks.proofs.TableParts.{seen_top, ready_so}
 pub use Rattle.sc_law_walks.proofs.TableRows.{put_there, taken_runs, leads_on, ended_off, ended_next, jumped_runs}
 pub use Rattle.sc_law_walks.proofs.CommandWalks.{VoteWalk, vote_step, decided_walk, WatchWalk, watch_step, FinishWalk, finish_step}

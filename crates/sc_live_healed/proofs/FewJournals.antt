@@ -13,7 +13,7 @@ use Rattle.sc_actor.proofs.Lemmas.{lawful-induction, value-snoc, mails-snoc}
 use Rattle.sc_words.proofs.PaxosProofs.PaxosLemmas.{Each-among, Each-append, find_found}
 use Rattle.sc_group_table.specs.machine.MachineDefinitions.{group_of}
 use Rattle.sc_node_table.specs.NodeDefinitions.{NodeState, ReplicaState, Place, next, name_of, flying, open_nodes, with_replica, mailed, ticked, tick_row, names_after_tick, node_table, slots_ahead, born_replica, born_replicas}
-use Rattle.sc_law_refusal.proofs.HeldCommands as held
+use Rattle.sc_law_entries.proofs.NamesProofs.HeldCommands as held
 use Rattle.sc_law_walks.proofs.Talks.{all_sent}
 use Rattle.sc_law_walks.proofs.WalkLemmas.{either_way}
 use Rattle.sc_client_table.specs.table.TableDefinitions.{Client as ClientState, table}

@@ -1,12 +1,12 @@
 -- An invariant of a replica of a group that is not reshaped is kept while the replica offers and executes entries.
-use Rattle.std.proofs.Common.{◌≡◌, ℕ, Bool, true, List, [], ◌∷◌, ◌++◌, replicate, Option, Some, None, refl, sym, ◌∙◌, ap, subst, inl, inr}
+use Rattle.std.proofs.Common.{◌≡◌, ℕ, ◌-◌, Bool, true, List, [], ◌∷◌, ◌++◌, replicate, Option, Some, None, refl, sym, ◌∙◌, ap, subst, inl, inr}
 use Rattle.sc_base.specs.Definitions.{Each, is_member}
 use Rattle.std.proofs.lemmas.Bool.{cond_both, cond-true}
-use Rattle.sc_words.proofs.PaxosProofs.PaxosLemmas.{Each-from}
+use Rattle.sc_words.proofs.PaxosProofs.PaxosLemmas.{Each-among, Each-from}
 use Rattle.sc_node_table.specs.NodeDefinitions.{left_gone, left, is_among, looked_for, looked, executed_one, next_child, next_ready, ending, executed_ready, all_ready, executed, pumped, ReplicaState, Place, Executed, next, members, childless, slots_ahead}
-use Rattle.sc_node_table.specs.Values.{Command, Noop, Call, Base, Core, Route}
-use Rattle.sc_law_walks.proofs.WalkLemmas.{ready_so, TableOffers, pump_keeps, entered_place}
-use Rattle.sc_paxos_law.proofs.Lemmas.{among-member}
+use Rattle.sc_node_table.specs.Values.{Command, Noop, Call, Base, Core, Route, Mail}
+use Rattle.sc_law_walks.proofs.WalkLemmas.{ready_so, IsOpenOffer, TableOffers, pump_keeps, entered_place}
+use Rattle.sc_paxos_law.proofs.Lemmas.{among-member, place_among}
 use Rattle.sc_live_healed.proofs.FixedWalks.{FixedWalk, IsMember}
 use Rattle.sc_live_healed.proofs.FixedParts.{ready_fixed}
 use Rattle.sc_live_healed.specs.HealedDefinitions.{IsFixedCommand}
@@ -37,24 +37,27 @@ module _ (base : Base) (me : ℕ) (w : FixedWalk base me) where
 
   -- ---- the pump, where no command of a transaction waits
 
-  offers_kept : TableOffers (Each (IsMember base)) P
+  set_of_members : (slot : ℕ) (set : List ℕ) (command : Command) (r : ReplicaState) (mails : List Mail) → IsOpenOffer slot set command r → P (r, mails) → Each (IsMember base) set
+  set_of_members slot set command r mails at k = Each-among (λ (nodes : List ℕ). Each (IsMember base) nodes) r.sets set (open_members (r, mails) k) (place_among r.sets (slot - next r) set at.members_are)
+
+  offers_kept : TableOffers P
   offers_kept = record {
     turned = w.turned;
-    offers_value = w.offers_value;
-    offers_noop = w.offers_noop;
-    offers_act = λ slot set act acts r mails on low near none e of k. absurd (no_act act acts r (w.frame (r, mails) k).fixed.acts e);
-    offers_call = w.offers_call;
+    offers_value = λ slot set command r mails on at none e k. w.offers_value slot set command r mails on at.low at.near none e (set_of_members slot set command r mails at k) k;
+    offers_noop = λ slot set r mails on at none e k. w.offers_noop slot set r mails on at.low at.near none e (set_of_members slot set Noop r mails at k) k;
+    offers_act = λ slot set act acts r mails on at none e k. absurd (no_act act acts r (w.frame (r, mails) k).fixed.acts e);
+    offers_call = λ slot set command backlog r mails on at none e k. w.offers_call slot set command backlog r mails on at.low at.near none e (set_of_members slot set command r mails at k) k;
   }
     where
       no_act : (act : Command) (acts : List Command) (r : ReplicaState) → r.acts ≡ [] → r.acts ≡ act ∷ acts → ⊥
       no_act act acts r none e = cc
 
   pub pumps : (place : Place) → P place → P (pumped place)
-  pumps place k = (pump_keeps (Each (IsMember base)) P offers_kept place (open_members place k) k).0
+  pumps place k = (pump_keeps P offers_kept place k).0
 
   -- the pump executes nothing
   pub pumps_next : (place : Place) → P place → next (pumped place).0 ≡ next place.0
-  pumps_next place k = (pump_keeps (Each (IsMember base)) P offers_kept place (open_members place k) k).1
+  pumps_next place k = (pump_keeps P offers_kept place k).1
 
   -- ---- an entry, and what was ready after it
 

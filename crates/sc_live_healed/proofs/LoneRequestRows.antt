@@ -13,7 +13,7 @@ use Rattle.sc_group_table.specs.machine.MachineDefinitions.{Group, base_of, done
 use Rattle.sc_node_table.specs.NodeDefinitions.{ReplicaState, Place, next, name_of, flying, sent, stopped, entered, forgotten, floor_of, with_entry, jumped, hinted, at_slot, with_slot, put_back, without_request, answer_of, answered_or_put_back, answered}
 use Rattle.sc_law_entries.specs.names.NameDefinitions.{Opt}
 use Rattle.sc_law_entries.proofs.NamesProofs.EachFound.{Each-drop, opt_get, opt_slot, slot_with, slot_without, flight_without, voters_with}
-use Rattle.sc_law_refusal.proofs.HeldCommands as held
+use Rattle.sc_law_entries.proofs.NamesProofs.HeldCommands as held
 use Rattle.sc_law_walks.proofs.Places.{cleared}
 use Rattle.sc_law_walks.proofs.WalkLemmas.{either_way, back_any, entered_group, entered_running, TableEntry, entry_holds, entered_place, entered_next, entry_is}
 use Rattle.sc_live_plain.proofs.PlainRowsProofs.RepeatedMail.{mail_of, among_push, last_among, others_kept}

@@ -10,7 +10,7 @@ use Rattle.sc_words.specs.paxos.PaxosDefinitions.{LeaderState, LogState, must, m
 use Rattle.sc_node_table.specs.NodeDefinitions.{ReplicaState, Place, next, name_of, flying, at_slot, sent, sent_all, stopped, ended, offered, answered, taken_at, taken_from, listed, open_slots, under_way, answered_all, dismissed, dismissed_all, put_back}
 use Rattle.sc_law_entries.specs.names.NameDefinitions.{Opt}
 use Rattle.sc_law_entries.proofs.NamesProofs.EachFound.{opt_either, opt_slot}
-use Rattle.sc_law_refusal.proofs.HeldCommands as held
+use Rattle.sc_law_entries.proofs.NamesProofs.HeldCommands as held
 use Rattle.sc_law_walks.proofs.Talks.{all_sent}
 use Rattle.sc_live_plain.proofs.PlainRowsProofs.RepeatedMail.{mail_of, among_push}
 use Rattle.sc_live_healed.proofs.TakenRequests.{is_call}

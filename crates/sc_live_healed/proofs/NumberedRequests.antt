@@ -14,7 +14,7 @@ use Rattle.sc_node_table.specs.NodeDefinitions.{ReplicaState, Place, next, name_
 use Rattle.sc_law_entries.specs.names.NameDefinitions.{Opt}
 use Rattle.sc_law_entries.proofs.NamesProofs.EachFound.{Each-drop, opt_get, opt_slot, slot_with, slot_without, flight_without, report_with}
 use Rattle.sc_group_table.proofs.MachineProofs.Parts.{group_again}
-use Rattle.sc_law_refusal.proofs.HeldCommands as held
+use Rattle.sc_law_entries.proofs.NamesProofs.HeldCommands as held
 use Rattle.sc_law_walks.proofs.Talks.{all_sent, one_answered, all_answered, all_dismissed}
 use Rattle.sc_law_walks.proofs.WalkLemmas.{Talk, either_way, back_any, entered_group, TableEntry, entry_holds, entered_place, entry_is}
 use Rattle.sc_live_healed.specs.HealedDefinitions.{IsFixedCommand}

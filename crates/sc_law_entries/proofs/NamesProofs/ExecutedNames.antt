@@ -12,7 +12,8 @@ use Rattle.sc_law_entries.proofs.NamesProofs.EachFound.{slot_without, flight_wit
 use Rattle.sc_law_entries.proofs.NamesProofs.Machine.{applied_names}
 use Rattle.sc_law_walks.proofs.WalkLemmas.{either_way, entered_place, TableEntry, entry_holds}
 use Rattle.sc_law_entries.proofs.NamesProofs.Sent.{sent_names, reported_names, before_names, spoken_names}
-use Rattle.sc_law_entries.proofs.NamesProofs.HeldNames.{Fine, Cmds, Cmd, R, back_names, flying_names, forgotten_names}
+use Rattle.sc_law_entries.proofs.NamesProofs.HeldNames.{Fine, Cmds, Cmd, R, held_of, back_names, forgotten_names}
+use Rattle.sc_law_entries.proofs.NamesProofs.HeldCommands.{flying_held}
 
 module _ (K : Draw → Type 0) where
   abbrev Logs : LogState Command → Type 0
@@ -73,7 +74,7 @@ module _ (K : Draw → Type 0) where
         teaches = λ to r mails t a f. (f.0, sent_names K r.me to (Learn (name_of r) (next start) command) mails (f.0.core.id, c) f.1);
         installs = λ to r mails t new f. (f.0, sent_names K r.me to (Install (name_of r) (next r - 1) (base_of r.group) r.sets) mails (f.0.core.id, f.0.core) f.1);
         repolls = λ to r mails t new f. (f.0, sent_names K r.me to (Prepare (name_of r) r.leader.ballot (next r)) mails f.0.core.id f.1);
-        flies = λ other r mails fly f. subst (λ (o : Option Command). Cmd K o) fly (flying_names K r (next start) f.0);
+        flies = λ other r mails fly f. subst (λ (o : Option Command). Cmd K o) fly (flying_held (CommandNames K) r (next start) (held_of K r f.0));
         landed = λ place f. (cleared_names (next start) place.0 f.0, f.1);
         back = λ other r mails l f. (back_names K other r l f.0, f.1);
       }

@@ -1,15 +1,14 @@
 -- Parts of a replica's table: what goes back, elections, what a leader offers, and what is installed.
-use Rattle.std.proofs.Common.{ℕ, ◌-◌, nat_lt, eqb, Bool, List, [], ◌∷◌, Option, Some, None}
+use Rattle.std.proofs.Common.{ℕ, ◌-◌, nat_lt, List, [], ◌∷◌, Option, Some, None}
 use Rattle.sc_base.specs.Definitions.{Each}
-use Rattle.sc_node_table.specs.Values.{Draw, Op, Command, Noop, Call, Join, Leave, Split, Begin, Prepared, RecordVote, GiveUp, Finish, Watched, RecordWatch, Base, Core, Route, AnswerBody, Accept, Must, Gap, Flight, Report}
+use Rattle.sc_node_table.specs.Values.{Draw, Op, Command, Call, Base, Core, Route, AnswerBody, Accept, Flight, Report}
 use Rattle.sc_words.specs.ideal.IdealDefinitions.{key_of, holds_key}
 use Rattle.sc_words.proofs.PaxosProofs.PaxosLemmas.{Each-append, Each-filter}
-use Rattle.sc_words.specs.declared.paxos.answers.Must.TheVariants.{Value, Free as Open}
-use Rattle.sc_words.specs.paxos.PaxosDefinitions.{choice, chosen_value, names_above, flight_at, must, must_without}
-use Rattle.sc_node_table.specs.NodeDefinitions.{ReplicaState, Place, name_of, flying, under_way, born_replica, installed_replica, floor_of, forgotten, answered_all, queued_number, is_request_of, without_request, request_before, put_back, ended, named, jumped, refused_by, turned_down, offered}
+use Rattle.sc_node_table.specs.NodeDefinitions.{ReplicaState, Place, name_of, under_way, born_replica, installed_replica, floor_of, forgotten, answered_all, put_back, ended, named, jumped, refused_by, turned_down, offered}
 use Rattle.sc_law_entries.specs.names.NameDefinitions.{Opt, CoreNames, CommandNames, AnswerNames, ReplicaNames}
-use Rattle.sc_law_entries.proofs.NamesProofs.EachFound.{opt_find, opt_map, opt_choice, Each-drop}
-use Rattle.sc_law_walks.proofs.WalkLemmas.{either_way}
+use Rattle.sc_law_entries.proofs.NamesProofs.EachFound.{Each-drop}
+use Rattle.sc_law_walks.proofs.WalkLemmas.{either_way, back_any}
+use Rattle.sc_law_entries.proofs.NamesProofs.HeldCommands.{Held, back_held}
 use Rattle.sc_law_entries.proofs.NamesProofs.Sent.{Sent, sent_all_names, answered_all_names, dismissed_all_names}
 
 module _ (K : Draw → Type 0) where
@@ -25,42 +24,21 @@ module _ (K : Draw → Type 0) where
   abbrev pub R : ReplicaState → Type 0
   R r = ReplicaNames K r
 
-  -- ---- queues
-
-  pub without_names : (backlog : List Command) (client : ℕ) → Cmds backlog → Cmds (without_request backlog client)
-  without_names [] client c = tt
-  without_names (command ∷ backlog) client c = either_way Cmds (is_request_of client command) _ _ c.1 (c.0, without_names backlog client c.1)
-
-  before_call : (o : Option ℕ) (client seq : ℕ) (command : Command) (backlog : List Command) → CommandNames K command → Cmds backlog → Cmds (request_before o client seq command backlog)
-  before_call None client seq command backlog n c = (n, c)
-  before_call (Some other) client seq command backlog n c = either_way Cmds (nat_lt other seq) _ _ (n, without_names backlog client c) c
-
   pub with_calls : (r : ReplicaState) (commands : List Command) → Cmds commands → R r → R (record r { backlog = commands })
   with_calls r commands c k = record { core = k.core; log = k.log; accepted = k.accepted; reports = k.reports; flights = k.flights; ready = k.ready; acts = k.acts; backlog = c }
 
   pub with_acts : (r : ReplicaState) (commands : List Command) → Cmds commands → R r → R (record r { acts = commands })
   with_acts r commands c k = record { core = k.core; log = k.log; accepted = k.accepted; reports = k.reports; flights = k.flights; ready = k.ready; acts = c; backlog = k.backlog }
 
-  pub back_names : (command : Command) (r : ReplicaState) → CommandNames K command → R r → R (put_back command r)
-  unfolding put_back
-  back_names Noop r c k = k
-  back_names (Call client seq op) r c k = with_calls r (request_before (queued_number r.backlog client) client seq (Call client seq op) r.backlog) (before_call (queued_number r.backlog client) client seq (Call client seq op) r.backlog tt k.backlog) k
-  back_names (Join node order) r c k = with_calls r (Join node order ∷ r.backlog) (c, k.backlog) k
-  back_names (Leave node order) r c k = with_calls r (Leave node order ∷ r.backlog) (c, k.backlog) k
-  back_names (Split at child order) r c k = with_calls r (Split at child order ∷ r.backlog) (c, k.backlog) k
-  back_names (Begin tx body order) r c k = with_calls r (Begin tx body order ∷ r.backlog) (c, k.backlog) k
-  back_names (Prepared tx offer) r c k = with_acts r (Prepared tx offer ∷ r.acts) (c, k.acts) k
-  back_names (RecordVote tx vote by) r c k = with_acts r (RecordVote tx vote by ∷ r.acts) (c, k.acts) k
-  back_names (GiveUp tx) r c k = with_acts r (GiveUp tx ∷ r.acts) (c, k.acts) k
-  back_names (Finish tx outcome) r c k = with_acts r (Finish tx outcome ∷ r.acts) (c, k.acts) k
-  back_names (Watched tx watch) r c k = with_acts r (Watched tx watch ∷ r.acts) (c, k.acts) k
-  back_names (RecordWatch tx vote by) r c k = with_acts r (RecordWatch tx vote by ∷ r.acts) (c, k.acts) k
+  -- its commands in the queues, with its leader, and ready
+  pub held_of : (r : ReplicaState) → R r → Held (CommandNames K) r
+  held_of r k = (k.backlog, k.acts, k.flights, k.reports, k.ready)
 
-  -- what is in flight, and what is taken
-  pub flying_names : (r : ReplicaState) (slot : ℕ) → R r → Cmd (flying r slot)
-  flying_names r slot k =
-      opt_map (λ (flight : Flight Command). CommandNames K flight.value) (CommandNames K) (λ (flight : Flight Command). flight.value) (λ flight c. c) (flight_at slot r.leader.flights)
-      (opt_find (λ (flight : Flight Command). CommandNames K flight.value) (λ (flight : Flight Command). eqb flight.slot slot) r.leader.flights k.flights)
+  pub back_names : (command : Command) (r : ReplicaState) → CommandNames K command → R r → R (put_back command r)
+  back_names command r c k =
+      let put = back_held (CommandNames K) command r c (held_of r k) in
+      let rest = back_any (λ (s : ReplicaState). CoreNames K s.group.core × Cmds s.log.entries × Each (λ (report : Report Command). CommandNames K report.value) s.acceptor.accepted) (λ s acts backlog q. q) command r (k.core, k.log, k.accepted) in
+      record { core = rest.0; log = rest.1; accepted = rest.2; reports = put.3; flights = put.2; ready = put.4; acts = put.1; backlog = put.0 }
 
   -- ---- one that runs no longer
 
@@ -107,22 +85,6 @@ module _ (K : Draw → Type 0) where
   pub turned_names : (core : Core) (command : Command) → CoreNames K core → Opt (AnswerNames K) (turned_down core command)
   turned_names core (Call client seq op) k = refused_names core.gone core op k.gone k
   turned_names core _ k = tt
-
-  -- of what a leader must propose
-  abbrev pub MustNames : Must Command → Type 0
-  MustNames (Value command) = CommandNames K command
-  MustNames Gap = Unit {0}
-  MustNames Open = Unit {0}
-
-  must_by : (above : Bool) (o : Option Command) → Cmd o → MustNames (must_without above o)
-  must_by above (Some command) c = c
-  must_by above None c = either_way MustNames above Gap Open tt tt
-
-  pub must_names : (slot : ℕ) (r : ReplicaState) → R r → MustNames (must slot r.leader)
-  must_names slot r k =
-      must_by (names_above slot r.leader.reports) (chosen_value slot r.leader.reports)
-      (opt_map (λ (report : Report Command). CommandNames K report.value) (CommandNames K) (λ (report : Report Command). report.value) (λ report c. c) (choice slot r.leader.reports)
-      (opt_choice (CommandNames K) slot r.leader.reports k.reports))
 
   pub offered_names : (slot : ℕ) (set : List ℕ) (command : Command) (place : Place) → CommandNames K command → Fine place → Fine (offered slot set command place)
   unfolding offered

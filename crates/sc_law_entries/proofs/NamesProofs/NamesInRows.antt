@@ -22,9 +22,10 @@ use Rattle.sc_law_walks.proofs.WalkLemmas.{either_way, TableFacts, TableStates, 
 use Rattle.sc_law_walks.proofs.TableRows as rows
 use Rattle.sc_law_walks.proofs.TableTicks as tick
 use Rattle.sc_law_entries.proofs.NamesProofs.Sent.{Sent, sent_names, sent_all_names, answered_names, question_names, voted_to_names, watched_to_names, outcome_names}
-use Rattle.sc_law_entries.proofs.NamesProofs.HeldNames.{Fine, Cmd, Cmds, R, MustNames, with_calls, with_acts, without_names, flying_names, ended_names, turned_names, must_names, offered_names, named_names, jumped_names, installed_names}
+use Rattle.sc_law_entries.proofs.NamesProofs.HeldNames.{Fine, Cmd, Cmds, R, held_of, with_calls, with_acts, ended_names, turned_names, offered_names, named_names, jumped_names, installed_names}
+use Rattle.sc_law_entries.proofs.NamesProofs.HeldCommands.{without_held, flying_held, polled_held, counted_held, chosen_held, must_held}
 use Rattle.sc_law_entries.proofs.NamesProofs.ExecutedNames.{entry_fine}
-use Rattle.sc_law_entries.proofs.NamesProofs.Voted.{CountOf, Counts, with_acceptor, with_leader, counted_names, count_names, with_ready, held_names}
+use Rattle.sc_law_entries.proofs.NamesProofs.Voted.{with_acceptor, with_leader, with_ready, held_names}
 
 module _ (K : Draw → Type 0) where
   abbrev F : Place → Type 0
@@ -152,7 +153,7 @@ module _ (K : Draw → Type 0) where
     again = λ command r mails on e f. (f, subst (λ (o : Option Command). Cmd K o) e (opt_slot (CommandNames K) r.ready (next r) f.0.ready));
     counted_entry = λ command r mails on e c f. entry_fine K true command r mails c f;
     learnt_entry = λ from group command r mails h first f. entry_fine K false command r mails h.1 f;
-    children = λ counted command r mails child may e f. subst (λ (o : Option Base). Opt (λ (base : Base). CoreNames K base.core) o) e (child_by_names K r.group command f.0.core (may_names counted command r may));
+    children = λ counted command r mails child may e f. subst (λ (o : Option Base). Opt (λ (base : Base). CoreNames K base.core) o) e.made (child_by_names K r.group command f.0.core (may_names counted command r may));
     jumped = λ from group slot base sets r mails h many later off f. (jumped_names K slot base sets r h.1 f.0, f.1);
     hinted = λ hint r mails off f. f;
     stops = λ hint r mails on f. ended_names K hint (Answers.NotLeader hint) (r, mails) tt f;
@@ -163,12 +164,12 @@ module _ (K : Draw → Type 0) where
       sent_all_names K r.me (open_nodes r.sets) (Prepare (name_of r) (record { round = r.top.round + 1; node = r.me }) (next r)) mails f.0.core.id f.1,
     );
     seen = λ ballot r mails good t on f. f;
-    polled = λ from group ballot reports r mails on h f. (with_leader K r (promise_counted from ballot reports r.leader).1 (counted_names K from ballot reports r.leader h.1 (f.0.reports, f.0.flights)) f.0, f.1);
-    counts = λ from ballot slot set count r mails on e f. (with_leader K r (counted from ballot slot set r.leader).1 (count_names K from ballot slot set r.leader (f.0.reports, f.0.flights)).1 f.0, f.1);
+    polled = λ from group ballot reports r mails on h f. (with_leader K r (promise_counted from ballot reports r.leader).1 (polled_held (CommandNames K) from ballot reports r.leader h.1 (f.0.flights, f.0.reports)) f.0, f.1);
+    counts = λ from ballot slot set count r mails on e f. (with_leader K r (counted from ballot slot set r.leader).1 (counted_held (CommandNames K) from ballot slot set r.leader (f.0.flights, f.0.reports)) f.0, f.1);
     chosen = λ from group ballot slot set command r mails on e h f. (
-        let counts : Counts K (counted from ballot slot set r.leader) = count_names K from ballot slot set r.leader (f.0.reports, f.0.flights) in
-        let c : CommandNames K command = subst (λ (o : Counted Command). CountOf K o) e counts.0 in
-        (c, (with_ready K (record r { leader = (counted from ballot slot set r.leader).1 }) slot command c (with_leader K r (counted from ballot slot set r.leader).1 counts.1 f.0), f.1)));
+        let c : CommandNames K command = chosen_held (CommandNames K) from ballot slot set r.leader (f.0.flights, f.0.reports) command e in
+        let led = with_leader K r (counted from ballot slot set r.leader).1 (counted_held (CommandNames K) from ballot slot set r.leader (f.0.flights, f.0.reports)) f.0 in
+        (c, (with_ready K (record r { leader = (counted from ballot slot set r.leader).1 }) slot command c led, f.1)));
     promised = λ from group ballot from_slot r mails h top t f. (
       with_acceptor K r (after_promise ballot r.acceptor) f.0.accepted f.0,
       sent_names K r.me from (Promise (name_of r) ballot (reports_from from_slot r.acceptor.accepted)) mails
@@ -181,12 +182,12 @@ module _ (K : Draw → Type 0) where
     filed = λ act r mails on q e brought f. (with_act r act brought f.0, f.1);
     ordered = λ order r mails on q may f. (with_order_queued r r.backlog order f.0.backlog may f.0, f.1);
     requested = λ client seq op r mails on e f. (with_order_queued r r.backlog (Call client seq op) f.0.backlog tt f.0, f.1);
-    requested_again = λ client seq other op r mails on e g f. (with_order_queued r (without_request r.backlog client) (Call client seq op) (without_names K r.backlog client f.0.backlog) tt f.0, f.1);
+    requested_again = λ client seq other op r mails on e g f. (with_order_queued r (without_request r.backlog client) (Call client seq op) (without_held (CommandNames K) r.backlog client f.0.backlog) tt f.0, f.1);
     turned = λ command answer backlog r mails on e no f. (
       with_calls K r backlog (subst (λ (cs : List Command). Cmds K cs) e f.0.backlog).1 f.0,
       answered_names K r.me r.group.core.id answer command mails f.0.core.id (subst (λ (o : Option AnswerBody). Ans o) no (turned_names K r.group.core command f.0.core)) f.1,
     );
-    offers_value = λ slot set command r mails on near free e f. offered_names K slot set command (r, mails) (subst (λ (m : Must Command). MustNames K m) e (must_names K slot r f.0)) f;
+    offers_value = λ slot set command r mails on near free e f. offered_names K slot set command (r, mails) (must_held (CommandNames K) slot r.leader command e (f.0.flights, f.0.reports)) f;
     offers_noop = λ slot set r mails on near free f. offered_names K slot set Noop (r, mails) tt f;
     offers_act = λ slot set act acts r mails on near free e f. (let cs = subst (λ (cs : List Command). Cmds K cs) e f.0.acts in offered_names K slot set act (record r { acts = acts }, mails) cs.0 (with_acts K r acts cs.1 f.0, f.1));
     offers_call = λ slot set command backlog r mails on near free e f. (let cs = subst (λ (cs : List Command). Cmds K cs) e f.0.backlog in offered_names K slot set command (record r { backlog = backlog }, mails) cs.0 (with_calls K r backlog cs.1 f.0, f.1));
@@ -235,7 +236,7 @@ module _ (K : Draw → Type 0) where
     gives_up = λ tx body order heard r mails e on no f. (with_act r (GiveUp tx) (subst (λ (lock : Lock). LockNames K lock) e f.0.core.lock).0 f.0, f.1);
     agains = record {
       reminds = λ r mails on f. (f.0, reminder_names r.group.core.lock r.me r.group mails f.0.core.lock f.0.core f.1);
-      reasks = λ to slot command r mails on e f. sent_fine r to (Accept (name_of r) r.leader.ballot slot command) mails (f.0.core.id, subst (λ (o : Option Command). Cmd K o) e (flying_names K r slot f.0)) f;
+      reasks = λ to slot command r mails on e f. sent_fine r to (Accept (name_of r) r.leader.ballot slot command) mails (f.0.core.id, subst (λ (o : Option Command). Cmd K o) e (flying_held (CommandNames K) r slot (held_of K r f.0))) f;
       relearns = λ to command r mails e f. sent_fine r to (Learn (name_of r) (next r - 1) command) mails (f.0.core.id, subst (λ (o : Option Command). Cmd K o) e (held_names K (next r - 1) r f.0)) f;
     };
   }

@@ -14,12 +14,11 @@ use Rattle.sc_meaning.specs.sound.SoundDefinitions.{is_accepted, Ahead}
 use Rattle.sc_law_groups.specs.group.GroupDefinitions.{asked_in, promised_by}
 use Rattle.sc_law_groups.proofs.GroupProofs.Growth.{By, later_learnt}
 use Rattle.sc_law_groups.proofs.GroupProofs.ForgottenEntries.{Mirrors, promise_mirrors, accept_mirrors}
-use Rattle.sc_law_groups.proofs.GroupProofs.Invariant.{Steps, rule, first, later_has, IsReplica, IsOwn, IsTrue, later_flying, grown_true, OffersMade}
+use Rattle.sc_law_groups.proofs.GroupProofs.Invariant.{Steps, rule, first, later_has, IsReplica, queued_replica, IsOwn, IsTrue, later_flying, grown_true, OffersMade}
 use Rattle.sc_law_groups.proofs.GroupProofs.Speech.{Speaks}
 use Rattle.sc_law_groups.proofs.GroupProofs.Midway.{Fine, asked_push, says}
-use Rattle.sc_law_groups.proofs.GroupProofs.Sending.{name_is, fine_saw}
-use Rattle.sc_law_groups.proofs.GroupProofs.ChosenEntries.{hint_replica}
-use Rattle.sc_law_groups.proofs.GroupProofs.Welcoming.{installed_place}
+use Rattle.sc_law_groups.proofs.GroupProofs.Sending.{name_is, state_sent}
+use Rattle.sc_law_groups.proofs.GroupProofs.GroupRows.{fine_saw}
 use Rattle.sc_base.proofs.Lemmas.{same_name, ballot_itself}
 
 -- ---- mails that are no step
@@ -80,24 +79,12 @@ abbrev pub accepted_in : Draw → ℕ → Ballot → ℕ → Command → List Ma
 accepted_in group who b slot c mails = cond (same_draw group group && list_any (λ mail. is_accepted group b slot mail.body) mails) (Accepted who b slot c ∷ []) []
 
 none_promised : (group : Draw) (who : ℕ) (b : Ballot) (from_slot : ℕ) (body : MailBody) → IsPlain body → promised_by group who b from_slot body ≡ []
-none_promised group who b from_slot (Request g client seq op) e = refl
-none_promised group who b from_slot (Answer g seq answer) e = refl
-none_promised group who b from_slot (Nack g promised) e = refl
-none_promised group who b from_slot (Ask g start) e = refl
-none_promised group who b from_slot (Install g slot record_of sets) e = refl
-none_promised group who b from_slot (Told number result) e = refl
-none_promised group who b from_slot (TxElsewhere tx coord hint) e = refl
-none_promised group who b from_slot _ e = absurd e
+none_promised group who b from_slot (Promise g other reports) e = absurd e
+none_promised group who b from_slot _ e = refl
 
 none_accepted : (group : Draw) (b : Ballot) (slot : ℕ) (body : MailBody) → IsPlain body → is_accepted group b slot body ≡ false
-none_accepted group b slot (Request g client seq op) e = refl
-none_accepted group b slot (Answer g seq answer) e = refl
-none_accepted group b slot (Nack g promised) e = refl
-none_accepted group b slot (Ask g start) e = refl
-none_accepted group b slot (Install g at record_of sets) e = refl
-none_accepted group b slot (Told number result) e = refl
-none_accepted group b slot (TxElsewhere tx coord hint) e = refl
-none_accepted group b slot _ e = absurd e
+none_accepted group b slot (AcceptedMail g other at) e = absurd e
+none_accepted group b slot _ e = refl
 
 -- plain mails promise nothing
 pub no_promises : (group : Draw) (who : ℕ) (b : Ballot) (from_slot : ℕ) (mails : List Mail) → ArePlain mails → promised_in group who b from_slot mails ≡ []
@@ -199,7 +186,7 @@ module _ (ahead : Ahead) (base : Base) (made : Command → Type 0) (heard : Mail
   }
 
   hinted_replica : (h : Steps) (b : Ballot) (r : ReplicaState) → Replica h r → Replica h (hinted b r)
-  hinted_replica h b r k = cond_both r.running r (record r { hint = Some b.node }) (Replica h) (λ _. k) (λ _. hint_replica ahead base made heard me [] before speaks some h r (Some b.node) k)
+  hinted_replica h b r k = cond_both r.running r (record r { hint = Some b.node }) (Replica h) (λ _. k) (λ _. queued_replica ahead base made h me r (Some b.node) r.waits r.acts r.backlog k.acts k.backlog k)
 
   -- a row of one acceptor's step
   acceptor_ended : (s : Step Command) (b : Ballot) (r : ReplicaState) (mails : List Mail) (mail : Mail) (acceptor : AcceptorState Command) (after : Steps) → (f : Ok (r, mails)) → after ≡ s ∷ f.newer ++ before → By me s
@@ -267,7 +254,7 @@ module _ (ahead : Ahead) (base : Base) (made : Command → Type 0) (heard : Mail
     unfolding promised install_to
     promised_ended =
         cond_both (nat_le from_slot r.acceptor.floor) _ _ After
-        (λ _. quiet (install_to from (r, mails)) (installed_place ahead base made heard me [] before from r mails f) (Each-append _ mails _ replies (tt, tt)))
+        (λ _. quiet (install_to from (r, mails)) (state_sent ahead base made heard me [] before from r mails f) (Each-append _ mails _ replies (tt, tt)))
         (λ low. cond_both (may_promise r.acceptor ballot) _ _ (λ (x : PrepareAnswer Command × AcceptorState Command). After (promise_to from ballot x (r, mails)))
         (λ may. promise_made low may)
         (λ _. (let nack : Mail = record { from = r.me; to = from; body = Nack (name_of r) r.acceptor.promised } in
@@ -311,7 +298,7 @@ module _ (ahead : Ahead) (base : Base) (made : Command → Type 0) (heard : Mail
     unfolding took install_to
     took_ended =
         cond_both (nat_le slot r.acceptor.floor) _ _ Then
-        (λ _. still (install_to from (r, mails)) (installed_place ahead base made heard me [] before from r mails f) (Each-append _ mails _ replies (tt, tt)))
+        (λ _. still (install_to from (r, mails)) (state_sent ahead base made heard me [] before from r mails f) (Each-append _ mails _ replies (tt, tt)))
         (λ low. cond_both (may_accept r.acceptor ballot) _ _ (λ (x : AcceptAnswer × AcceptorState Command). Then (accepted_to from ballot slot x (r, mails)))
         (λ may. acceptance may)
         (λ _. (let nack : Mail = record { from = r.me; to = from; body = Nack (name_of r) r.acceptor.promised } in
@@ -324,7 +311,7 @@ module _ (ahead : Ahead) (base : Base) (made : Command → Type 0) (heard : Mail
       → Ended ahead base made heard me before (promised_in group me ballot from_slot (prepare_row from ballot from_slot (r, [])).1 ++ asked_in group (prepare_row from ballot from_slot (r, [])).1 before) (prepare_row from ballot from_slot (r, []))
   unfolding prepare_row
   prepare_ended from ballot from_slot r f asked =
-      let seen = fine_saw ahead base made heard me [] before ballot r [] f in
+      let seen = fine_saw ahead base made heard me [] before speaks some ballot (r, []) f in
       let place = saw ballot (r, []) in
       promised_ended from ballot from_slot place.0 place.1 seen (saw_replies ballot r [] tt) (Among-right (Prepared ballot from_slot) seen.newer before asked)
 
@@ -333,6 +320,6 @@ module _ (ahead : Ahead) (base : Base) (made : Command → Type 0) (heard : Mail
       → Ended ahead base made heard me before (accepted_in group me ballot slot c (accept_row from ballot slot c (r, [])).1 ++ asked_in group (accept_row from ballot slot c (r, [])).1 before) (accept_row from ballot slot c (r, []))
   unfolding accept_row
   accept_ended from ballot slot c r f offer =
-      let seen = fine_saw ahead base made heard me [] before ballot r [] f in
+      let seen = fine_saw ahead base made heard me [] before speaks some ballot (r, []) f in
       let place = saw ballot (r, []) in
       took_ended from ballot slot c place.0 place.1 seen (saw_replies ballot r [] tt) (Among-right (Offered ballot slot c) seen.newer before offer)

@@ -1,25 +1,22 @@
 -- Promises and votes that are counted.
-use Rattle.std.proofs.Common.{◌≡◌, ℕ, ◌+◌, ◌-◌, ◌<◌, ◌≤◌, ◌&&◌, not, nat_lt, Bool, true, eqb, List, [], ◌∷◌, ◌++◌, length, Option, Some, None, ◌⊎◌, inl, inr, refl, sym, ◌∙◌, ap, subst, append-nil, append_assoc, arith}
-use Rattle.std.specs.Prelude.{slice_get}
+use Rattle.std.proofs.Common.{◌≡◌, ℕ, ◌+◌, ◌-◌, ◌<◌, ◌≤◌, ◌&&◌, not, nat_lt, Bool, true, eqb, List, [], ◌∷◌, ◌++◌, length, Option, Some, None, ◌⊎◌, inl, inr, refl, sym, ◌∙◌, ap, subst, append-nil, append_assoc}
 use Rattle.std.specs.List.{flat_map}
-use Rattle.std.proofs.lemmas.Bool.{cases_Bool, eqb-true, eqb-false, ltb-false, and_parts, cond_both}
+use Rattle.std.proofs.lemmas.Bool.{cases_Bool, eqb-true, eqb-false, and_parts, cond_both}
 use Rattle.sc_node_table.specs.Values.{Ballot, Command, Base, Mail, MailBody, Counted, Chosen, NotYet, Flight, Report}
 use Rattle.sc_base.specs.Definitions.{same_ballot, is_member, is_majority, Among, Each}
 use Rattle.sc_words.specs.paxos.PaxosDefinitions.{LeaderState, flight_at, without_flight_at, promise_counted, kept_voters, voters_after, with_voters, vote_at, counted}
 use Rattle.sc_words.proofs.PaxosProofs.PaxosLemmas.{Each-among, Each-weaker, Each-append, find_found}
-use Rattle.sc_paxos_law.specs.PaxosLawDefinitions.{Prepared, Promised, Accepted, needed, members_of, CountedPromise}
-use Rattle.sc_node_table.specs.NodeDefinitions.{with_slot, ReplicaState, Place, Executed, next, set_at, has_room, leads, promise_row, readied, vote_tallied, voted, accepted_row}
+use Rattle.sc_paxos_law.specs.PaxosLawDefinitions.{Prepared, Promised, Accepted, CountedPromise}
+use Rattle.sc_paxos_law.proofs.Lemmas.{Among-right}
+use Rattle.sc_node_table.specs.NodeDefinitions.{with_slot, ReplicaState, Place, next, set_at}
 use Rattle.sc_meaning.specs.sound.SoundDefinitions.{Ahead}
 use Rattle.sc_law_groups.proofs.GroupProofs.Growth.{IsLearnt}
-use Rattle.sc_law_groups.proofs.GroupProofs.Invariant.{Steps, rule, IsFlying, IsTaken, IsReplica, next_after}
-use Rattle.sc_law_groups.proofs.GroupProofs.Speech.{Speaks}
+use Rattle.sc_law_groups.proofs.GroupProofs.Invariant.{Steps, rule, IsFlying, IsTaken, IsReplica}
 use Rattle.sc_law_groups.proofs.GroupProofs.Midway.{Fine, turn}
 use Rattle.sc_law_groups.proofs.GroupProofs.WithoutOne.{among_without_flight, Each-without_flight}
-use Rattle.sc_law_groups.proofs.GroupProofs.ChosenEntries.{fine_executed}
 use Rattle.std.proofs.lemmas.List.{map-append}
-use Rattle.sc_law_groups.proofs.GroupProofs.Offering.{fine_pumped}
 use Rattle.sc_base.proofs.Lemmas.{ballot_is}
-use Rattle.sc_law_groups.proofs.GroupProofs.MajorityVotes.{same_value, accepted_by, learnt_here}
+use Rattle.sc_law_groups.proofs.GroupProofs.MajorityVotes.{AreMembersAt, set_is, same_value, accepted_by, learnt_here}
 
 reports_push : (votes : List (CountedPromise Command)) (vote : CountedPromise Command) → flat_map (λ (v : CountedPromise Command). v.reports) (votes ++ vote ∷ []) ≡ flat_map (λ (v : CountedPromise Command). v.reports) votes ++ vote.reports
 reports_push [] vote = append-nil vote.reports
@@ -62,8 +59,7 @@ still_ready (y ∷ es) slot c x (inl same) ne =
 still_ready (y ∷ es) slot c x (inr a) ne =
     cond_both (eqb y.0 slot) _ _ (Among x) (λ _. inr a) (λ _. cond_both (nat_lt slot y.0) _ _ (Among x) (λ _. inr (inr a)) (λ _. inr (still_ready es slot c x a ne)))
 
-module _ (ahead : Ahead) (base : Base) (made : Command → Type 0) (heard : MailBody → Type 0) (me : ℕ) (older : List Mail) (before : Steps) (speaks : Speaks ahead base made heard before)
-    (some : (log : List Command) → Each made log → (node : ℕ) × (rest : List ℕ) × ((rule ahead base).members log ≡ node ∷ rest)) where
+module _ (ahead : Ahead) (base : Base) (made : Command → Type 0) (heard : MailBody → Type 0) (me : ℕ) (older : List Mail) (before : Steps) where
   abbrev Ok : Place → Type 0
   Ok = Fine ahead base made heard me older before
 
@@ -104,19 +100,16 @@ module _ (ahead : Ahead) (base : Base) (made : Command → Type 0) (heard : Mail
         };
       }
 
-  -- the row of a Promise keeps what holds
-  pub fine_promise_row : (from : ℕ) (ballot : Ballot) (reports : List (Report Command)) (start : ℕ) (r : ReplicaState) (mails : List Mail) → (f : Ok (r, mails))
-      → Among (Promised from ballot start reports) (f.newer ++ before) → Among (Prepared ballot start) (f.newer ++ before) → Ok (promise_row from ballot reports (r, mails))
-  unfolding promise_row
-  fine_promise_row from ballot reports start r mails f promised asked =
-      cond_both (leads ballot r) _ _ Ok
-      (λ t. (
-      let parts = and_parts r.running (same_ballot ballot r.leader.ballot) t in
-      let after = cond_both (same_ballot ballot r.leader.ballot && not (is_member r.leader.promisers from)) _ _
-      (λ (x : Bool × LeaderState Command). Replica (f.newer ++ before) (record r { leader = x.1 }))
-      (λ _. voter_replica (f.newer ++ before) from ballot reports start r f.replica parts.0 (ballot_is ballot r.leader.ballot parts.1) promised asked) (λ _. f.replica) in
-      fine_pumped ahead base made heard me older before speaks some _ (turn ahead base made heard me older before r (record r { leader = (promise_counted from ballot reports r.leader).1 }) mails f after)))
-      (λ _. f)
+  -- a promise that is counted keeps what holds
+  pub fine_polled : (from : ℕ) (ballot : Ballot) (reports : List (Report Command)) (start : ℕ) (r : ReplicaState) (mails : List Mail) → r.running ≡ true → Among (Promised from ballot start reports) before → Among (Prepared ballot start) before
+      → Ok (r, mails) → Ok (record r { leader = (promise_counted from ballot reports r.leader).1 }, mails)
+  fine_polled from ballot reports start r mails runs promised asked f =
+      let h = f.newer ++ before in
+      turn ahead base made heard me older before r (record r { leader = (promise_counted from ballot reports r.leader).1 }) mails f
+      (cond_both (same_ballot ballot r.leader.ballot && not (is_member r.leader.promisers from)) _ _ (λ (x : Bool × LeaderState Command). Replica h (record r { leader = x.1 }))
+      (λ t. (let own = and_parts (same_ballot ballot r.leader.ballot) (not (is_member r.leader.promisers from)) t in
+      voter_replica h from ballot reports start r f.replica runs (ballot_is ballot r.leader.ballot own.0) (Among-right _ f.newer before promised) (Among-right _ f.newer before asked)))
+      (λ _. f.replica))
 
   -- ---- a vote
 
@@ -179,93 +172,51 @@ module _ (ahead : Ahead) (base : Base) (made : Command → Type 0) (heard : Mail
       stays at (inr (inl (g, a, e))) = inr (inl (still_flying slot voters r.leader.flights at g a e))
       stays at (inr (inr t)) = inr (inr t)
 
-  -- what holds of a replica with its mail and the children that a row made
-  abbrev OkAfter : Executed → Type 0
-  OkAfter step = Ok step.0
-
-  -- a command became ready
-  unfoldable pub ready_place : (slot : ℕ) (c : Command) (r : ReplicaState) (mails : List Mail) → (f : Ok (r, mails)) → IsLearnt (rule ahead base) (f.newer ++ before) slot c
-      → Ok (record r { leader = without_flight_at slot r.leader; ready = with_slot r.ready slot c }, mails)
-  ready_place slot c r mails f t =
-      turn ahead base made heard me older before r (record r { leader = without_flight_at slot r.leader; ready = with_slot r.ready slot c }) mails f (ready_replica (f.newer ++ before) slot c r f.replica t)
-
-  readied_place : (slot : ℕ) (c : Command) (r : ReplicaState) (mails : List Mail) → (f : Ok (r, mails)) → IsLearnt (rule ahead base) (f.newer ++ before) slot c → r.running ≡ true → Ok (readied slot c (record r { leader = without_flight_at slot r.leader }, mails)).0
-  unfolding readied ready_place turn
-  readied_place slot c r mails f t runs =
-      let after : ReplicaState = record r { leader = without_flight_at slot r.leader; ready = with_slot r.ready slot c } in
-      let place = ready_place slot c r mails f t in
-      cond_both (eqb slot (next r) && has_room (record r { leader = without_flight_at slot r.leader })) _ _ OkAfter
-      (λ e. (
-      let parts = and_parts (eqb slot (next r)) (has_room (record r { leader = without_flight_at slot r.leader })) e in
-      fine_executed ahead base made heard me older before speaks some true c after mails place
-      (subst (λ n. IsLearnt (rule ahead base) (f.newer ++ before) n c) (eqb-true slot (next r) parts.0) t) (λ _. runs)))
-      (λ _. place)
-
-  module _ (from : ℕ) (slot : ℕ) (set : List ℕ) (r : ReplicaState) (mails : List Mail) (f : Ok (r, mails)) (runs : r.running ≡ true)
-      (d : Command) (did : Among (Accepted from r.leader.ballot slot d) (f.newer ++ before))
-      (fact : set ≡ members_of (rule ahead base) f.replica.whole slot) (known : needed (rule ahead base) slot ≤ length f.replica.whole) where
+  -- a vote that a mail of a node that accepted brings, with the members of its slot
+  module _ (from : ℕ) (ballot : Ballot) (slot : ℕ) (set : List ℕ) (r : ReplicaState) (mails : List Mail) (d : Command) (did : Among (Accepted from ballot slot d) before) (open_is : set_at slot r ≡ Some set) (f : Ok (r, mails)) where
     abbrev h : Steps
     h = f.newer ++ before
 
-    abbrev b : Ballot
-    b = r.leader.ballot
+    -- what is chosen is ready, and what is not counts one vote more
+    abbrev AfterVote : Counted Command × LeaderState Command → Type 0
+    AfterVote (Chosen c, leader) = Ok (record r { leader = leader; ready = with_slot r.ready slot c }, mails)
+    AfterVote (NotYet count, leader) = Ok (record r { leader = leader }, mails)
 
-    voted_at : (o : Option (Flight Command)) → flight_at slot r.leader.flights ≡ o → Ok (vote_tallied slot (vote_at from slot set o r.leader) (r, mails)).0
-    voted_at None e = f
-    voted_at (Some flight) e =
+    here : AreMembersAt ahead base f.replica.whole slot set
+    here = set_is ahead base made h me slot set r f.replica open_is
+
+    voted_at : Among (Accepted from r.leader.ballot slot d) h → (o : Option (Flight Command)) → flight_at slot r.leader.flights ≡ o → AfterVote (vote_at from slot set o r.leader)
+    voted_at own None e = f
+    voted_at own (Some flight) e =
         let there = find_found (λ (g : Flight Command). eqb g.slot slot) r.leader.flights flight e in
         let at = eqb-true flight.slot slot there.1 in
         let voters = voters_after set from flight.voters in
-        cond_both (is_majority set (kept_voters voters)) _ _ (λ (x : Counted Command × LeaderState Command). Ok (vote_tallied slot x (r, mails)).0)
-        (λ most. readied_place slot flight.value r mails f (learnt_here ahead base made me h f.lawful from slot set r f.replica d did fact known flight there.0 at most) runs)
+        cond_both (is_majority set (kept_voters voters)) _ _ AfterVote
+        (λ most. turn ahead base made heard me older before r (record r { leader = without_flight_at slot r.leader; ready = with_slot r.ready slot flight.value }) mails f
+        (ready_replica h slot flight.value r f.replica (learnt_here ahead base made me h f.lawful from slot set r f.replica d own here.0 here.1 flight there.0 at most)))
         (λ _. turn ahead base made heard me older before r (record r { leader = record r.leader { flights = with_voters slot voters r.leader.flights } }) mails f
         (voters_replica h slot voters r f.replica (λ g a same. (
         let flies = Each-among _ r.leader.flights g f.replica.flights a in
-        (flies.0, Each-weaker _ _ (λ n x. subst (λ v. Among (Accepted n b g.slot v) h) (same_value ahead base made me h f.lawful from slot set r f.replica d did fact known g a same) (subst (λ m. Among (Accepted n b m d) h) (sym same) x)) (kept_voters voters) (accepted_by ahead base made me h f.lawful from slot set r f.replica d did fact known flight there.0 at))))))
+        let b = r.leader.ballot in
+        (flies.0, Each-weaker _ _ (λ n x. subst (λ v. Among (Accepted n b g.slot v) h) (same_value ahead base made me h f.lawful from slot set r f.replica d own here.0 here.1 g a same) (subst (λ m. Among (Accepted n b m d) h) (sym same) x)) (kept_voters voters) (accepted_by ahead base made me h f.lawful from slot set r f.replica d own here.0 here.1 flight there.0 at))))))
 
-    counted_place : Ok (vote_tallied slot (counted from b slot set r.leader) (r, mails)).0
-    counted_place =
-        cond_both (same_ballot b r.leader.ballot) _ _ (λ (x : Counted Command × LeaderState Command). Ok (vote_tallied slot x (r, mails)).0) (λ _. voted_at (flight_at slot r.leader.flights) refl) (λ _. f)
+    counts_one : AfterVote (counted from ballot slot set r.leader)
+    counts_one =
+        cond_both (same_ballot ballot r.leader.ballot) _ _ AfterVote
+        (λ t. voted_at (Among-right _ f.newer before (subst (λ b. Among (Accepted from b slot d) before) (ballot_is ballot r.leader.ballot t) did)) (flight_at slot r.leader.flights) refl) (λ _. f)
 
-    -- a count comes to a command that is chosen, or to none yet
-    module _ (Q : Counted Command × LeaderState Command → Type 0) (chosen : (c : Command) → IsLearnt (rule ahead base) h slot c → Q (Chosen c, without_flight_at slot r.leader))
-        (other : (count : ℕ) (leader : LeaderState Command) → Q (NotYet count, leader)) where
-      count_at : (o : Option (Flight Command)) → flight_at slot r.leader.flights ≡ o → Q (vote_at from slot set o r.leader)
-      count_at None e = other 0 r.leader
-      count_at (Some flight) e =
-          let there = find_found (λ (g : Flight Command). eqb g.slot slot) r.leader.flights flight e in
-          let at = eqb-true flight.slot slot there.1 in
-          cond_both (is_majority set (kept_voters (voters_after set from flight.voters))) _ _ Q (λ most. chosen flight.value (learnt_here ahead base made me h f.lawful from slot set r f.replica d did fact known flight there.0 at most)) (λ _. other _ _)
+    counts_so : (p : Counted Command × LeaderState Command) (count : ℕ) → p.0 ≡ NotYet count → AfterVote p → Ok (record r { leader = p.1 }, mails)
+    counts_so (Chosen c, leader) count e k = cc
+    counts_so (NotYet other, leader) count e k = k
 
-      pub count_is : Q (counted from b slot set r.leader)
-      count_is = cond_both (same_ballot b r.leader.ballot) _ _ Q (λ _. count_at (flight_at slot r.leader.flights) refl) (λ _. other 0 r.leader)
+    chooses_so : (p : Counted Command × LeaderState Command) (c : Command) → p.0 ≡ Chosen c → AfterVote p → Ok (record r { leader = p.1; ready = with_slot r.ready slot c }, mails)
+    chooses_so (Chosen other, leader) c e k = (let same : other ≡ c = cc in subst (λ v. Ok (record r { leader = leader; ready = with_slot r.ready slot v }, mails)) same k)
+    chooses_so (NotYet count, leader) c e k = cc
 
-  -- the members of an open slot are those that the log gives
-  pub set_is : (h : Steps) (slot : ℕ) (set : List ℕ) (r : ReplicaState) (k : Replica h r) → set_at slot r ≡ Some set → (set ≡ members_of (rule ahead base) k.whole slot) × (needed (rule ahead base) slot ≤ length k.whole)
-  set_is h slot set r k e =
-      cond_both (nat_lt slot (next r)) None (slice_get r.sets (slot - next r))
-      (λ (o : Option (List ℕ)). o ≡ Some set → (set ≡ members_of (rule ahead base) k.whole slot) × (needed (rule ahead base) slot ≤ length k.whole))
-      (λ _ x. cc)
-      (λ n x. (
-      let up = ltb-false slot (next r) n in
-      let at = next_after ahead base made h me r k in
-      let same : length k.whole + 1 + (slot - next r) ≡ slot = omega (arith, up, at) in
-      subst (λ m. (set ≡ members_of (rule ahead base) k.whole m) × (needed (rule ahead base) m ≤ length k.whole)) same (k.sets (slot - next r) set x))) e
+    -- a vote that decides nothing keeps what holds
+    pub fine_counted : (count : ℕ) → (counted from ballot slot set r.leader).0 ≡ NotYet count → Ok (record r { leader = (counted from ballot slot set r.leader).1 }, mails)
+    fine_counted count e = counts_so (counted from ballot slot set r.leader) count e counts_one
 
-  -- the row of an Accepted keeps what holds
-  pub fine_accepted_row : (from : ℕ) (ballot : Ballot) (slot : ℕ) (d : Command) (r : ReplicaState) (mails : List Mail) → (f : Ok (r, mails)) → Among (Accepted from ballot slot d) (f.newer ++ before)
-      → Ok (accepted_row from ballot slot (r, mails)).0
-  unfolding accepted_row
-  fine_accepted_row from ballot slot d r mails f did =
-      cond_both (leads ballot r) _ _ OkAfter
-      (λ t. (
-      let parts = and_parts r.running (same_ballot ballot r.leader.ballot) t in
-      by_set parts.0 (ballot_is ballot r.leader.ballot parts.1) (set_at slot r) refl))
-      (λ _. f)
-    where
-      by_set : r.running ≡ true → ballot ≡ r.leader.ballot → (o : Option (List ℕ)) → set_at slot r ≡ o → Ok (voted from ballot slot o (r, mails)).0
-      by_set runs same None e = f
-      by_set runs same (Some set) e =
-          let here = set_is (f.newer ++ before) slot set r f.replica e in
-          subst (λ b. Ok (vote_tallied slot (counted from b slot set r.leader) (r, mails)).0) (sym same)
-          (counted_place from slot set r mails f runs d (subst (λ b. Among (Accepted from b slot d) (f.newer ++ before)) same did) here.0 here.1)
+    -- and so does one that decides its slot
+    pub fine_chosen : (c : Command) → (counted from ballot slot set r.leader).0 ≡ Chosen c → Ok (record r { leader = (counted from ballot slot set r.leader).1; ready = with_slot r.ready slot c }, mails)
+    fine_chosen c e = chooses_so (counted from ballot slot set r.leader) c e counts_one

@@ -7,7 +7,8 @@ pub use Rattle.sc_law_groups.proofs.GroupProofs.Invariant.{Steps, rule, first, I
 pub use Rattle.sc_law_groups.proofs.GroupProofs.Speech.{Speaks, IsSaid, AreSaid, Meets}
 pub use Rattle.sc_law_groups.proofs.GroupProofs.Midway.{Fine}
 pub use Rattle.sc_law_groups.proofs.GroupProofs.MajorityVotes.{each_voter, each_after, learnt_here}
-pub use Rattle.sc_law_groups.proofs.GroupProofs.Offspring.{IsChildOf, learnt_are, accepted_are}
+pub use Rattle.sc_law_groups.proofs.GroupProofs.ChosenEntries.{IsChildOf}
+pub use Rattle.sc_law_groups.proofs.GroupProofs.PartsOfNodes.{mailed_kids}
 pub use Rattle.sc_law_groups.proofs.GroupProofs.Holding.{held, Holds, IsOther, holds_none}
 pub use Rattle.sc_law_groups.proofs.GroupProofs.Names.{IsOneOf, IsNamedAnswer, IsNamedIn}
 pub use Rattle.sc_law_groups.proofs.GroupProofs.GroupNodes.{IsNode}

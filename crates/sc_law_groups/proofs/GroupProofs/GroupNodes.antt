@@ -11,12 +11,13 @@ use Rattle.sc_meaning.specs.sound.SoundDefinitions.{Ahead}
 use Rattle.sc_law_groups.specs.group.GroupDefinitions.{asked_in}
 use Rattle.sc_law_groups.proofs.GroupProofs.Invariant.{Steps, rule, first, IsReplica, IsTrue, OffersMade}
 use Rattle.sc_law_groups.proofs.GroupProofs.Speech.{AnyoneHears, Speaks}
-use Rattle.sc_law_groups.proofs.GroupProofs.Installs.{made_place, fine_ordered_row}
+use Rattle.sc_law_groups.proofs.GroupProofs.Installs.{fine_installed}
+use Rattle.sc_law_groups.proofs.GroupProofs.GroupRows.{fine_made, fine_ordered_row}
 use Rattle.sc_law_groups.proofs.GroupProofs.Sending.{name_is}
 use Rattle.sc_law_groups.proofs.GroupProofs.Names.{quiet_steps, absent_replies, IsOneOf, IsNamedIn, own_named, absent_named, absent_true}
 use Rattle.sc_law_groups.proofs.GroupProofs.AcceptorRows.{ArePlain, Ended, ended_by}
 use Rattle.sc_law_groups.proofs.GroupProofs.Frames.{steps_of, AreFar, own_far, far_true, far_all, far_steps}
-use Rattle.sc_law_groups.proofs.GroupProofs.Offspring.{IsChildOf}
+use Rattle.sc_law_groups.proofs.GroupProofs.ChosenEntries.{IsChildOf}
 use Rattle.sc_law_groups.proofs.GroupProofs.Newborn.{born_replica_is}
 use Rattle.sc_law_groups.proofs.GroupProofs.Holding.{each_with, each_new, Holds, held, none_held, with_held, with_far, new_held, new_far}
 use Rattle.sc_base.proofs.Lemmas.{same_name, draw_is}
@@ -194,7 +195,8 @@ module _ (ahead : Ahead) (bases : List Base) (made : Base → Command → Type 0
         let ends = λ (base : Base) (a : Among base bases) (fact : g ≡ base.core.id). (
         let fresh = none_held ahead base (made base) me (h base) g fact node.replicas (k.holds base a) none in
         by_fine ahead base (made base) heard me (h base) (speaks base a) (some base a) (lawful base a) (requested base a) event body place
-        (made_place ahead base (made base) heard me [] (h base) (speaks base a) (some base a) refl node.me mail.from g slot state sets k.me_is fact fresh.1 (lawful base a) (requested base a) (t base a (same_name g base.core.id fact))) refl) in
+        (fine_made ahead base (made base) heard me [] (h base) (speaks base a) (some base a) node.me mail.from g slot state sets
+        (fine_installed ahead base (made base) heard me [] (h base) refl node.me g slot state sets k.me_is fact fresh.1 (lawful base a) (requested base a) (t base a (same_name g base.core.id fact)))) refl) in
         let e = ends one.0 one.1 one.2 in
         let new_name = ended_name one.0 one.1 (h one.0) _ place e in
         record {

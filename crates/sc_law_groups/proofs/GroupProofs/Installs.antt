@@ -1,27 +1,22 @@
--- The rows in which a state is taken over, and in which a node gets an order.
-use Rattle.std.proofs.Common.{◌≡◌, ℕ, ◌+◌, ◌≤◌, ◌||◌, not, nat_lt, true, false, eqb, List, [], ◌∷◌, ◌++◌, length, Option, Some, None, refl, sym, ◌∙◌, ap, subst, arith}
-use Rattle.std.proofs.lemmas.Bool.{eqb-true, ltb-false, or_parts, not-false, cond_both}
+-- A state that is sent: a replica that takes it over, and one that is made of it.
+use Rattle.std.proofs.Common.{◌≡◌, ℕ, ◌+◌, ◌≤◌, true, false, List, [], ◌∷◌, ◌++◌, length, Some, refl, sym, ◌∙◌, ap, subst, arith}
 use Rattle.std.proofs.lemmas.List.{drop_all}
-use Rattle.sc_node_table.specs.Values.{Ballot, Draw, Command, Base, OrderLine, OrderRefusal, OrderResult, Refused, Mail, MailBody, Told}
+use Rattle.sc_node_table.specs.Values.{Ballot, Draw, Command, Base, Mail, MailBody}
 use Rattle.sc_group_table.specs.machine.MachineDefinitions.{Group, group_of}
-use Rattle.sc_base.specs.Definitions.{is_member, Among, Each, Drawer, next_name}
+use Rattle.sc_base.specs.Definitions.{Among}
 use Rattle.sc_words.specs.paxos.PaxosDefinitions.{born_acceptor, installed, first_leader}
-use Rattle.sc_words.proofs.PaxosProofs.PaxosLemmas.{Each-among, Each-append}
+use Rattle.sc_words.proofs.PaxosProofs.PaxosLemmas.{Each-among}
 use Rattle.sc_paxos_law.specs.PaxosLawDefinitions.{Offered, IsLawfulHistory}
-use Rattle.sc_node_table.specs.NodeDefinitions.{ReplicaState, Place, first_ballot, name_of, next, members, last_slot, forgotten, waits_in, installed_replica, result_sent, ended, stopped, named, jumped, looked_up, took_over, install_row, made_by, ordered_command, untaken, queued_or_refused, ordered_row}
+use Rattle.sc_node_table.specs.NodeDefinitions.{ReplicaState, Place, first_ballot, name_of, next, forgotten, waits_in, installed_replica, named, jumped}
 use Rattle.sc_law_entries.proofs.HistoryProofs.HistoryLemmas.{state_same}
 use Rattle.sc_meaning.specs.sound.SoundDefinitions.{Ahead}
 use Rattle.sc_law_groups.proofs.GroupProofs.Growth.{IsFresh, fresh_state}
 use Rattle.sc_law_groups.proofs.GroupProofs.ForgottenEntries.{Mirrors, mirrors_itself, floor_low}
 use Rattle.sc_law_groups.proofs.GroupProofs.Invariant.{Steps, rule, first, birth, AreSets, HasLog, IsReplica, next_after, forgotten_replica, IsState, grown_state}
-use Rattle.sc_law_groups.proofs.GroupProofs.Speech.{Speaks}
-use Rattle.sc_law_groups.proofs.GroupProofs.Midway.{Fine, turn, says}
-use Rattle.sc_law_groups.proofs.GroupProofs.Sending.{name_is, fine_stopped}
-use Rattle.sc_law_groups.proofs.GroupProofs.Offering.{with_calls, fine_pumped}
-use Rattle.sc_law_groups.proofs.GroupProofs.ChosenEntries.{hinted_place, looked_place}
+use Rattle.sc_law_groups.proofs.GroupProofs.Midway.{Fine, turn}
+use Rattle.sc_law_groups.proofs.GroupProofs.Sending.{name_is}
 
-module _ (ahead : Ahead) (base : Base) (made : Command → Type 0) (heard : MailBody → Type 0) (me : ℕ) (older : List Mail) (before : Steps) (speaks : Speaks ahead base made heard before)
-    (some : (log : List Command) → Each made log → (node : ℕ) × (rest : List ℕ) × ((rule ahead base).members log ≡ node ∷ rest)) where
+module _ (ahead : Ahead) (base : Base) (made : Command → Type 0) (heard : MailBody → Type 0) (me : ℕ) (older : List Mail) (before : Steps) where
   abbrev Ok : Place → Type 0
   Ok = Fine ahead base made heard me older before
 
@@ -74,43 +69,16 @@ module _ (ahead : Ahead) (base : Base) (made : Command → Type 0) (heard : Mail
       } in
       forgotten_replica ahead base made h me slot _ here (omega (arith, low, count))
 
-  looked_up_place : (from : ℕ) (r : ReplicaState) (mails : List Mail) → Ok (r, mails) → Ok (looked_up from (r, mails))
-  unfolding looked_up
-  looked_up_place from r mails f =
-      cond_both (is_member (members r) from) _ _ Ok
-      (λ _. hinted_place ahead base made heard me older before speaks some r (Some from) mails f)
-      (λ _. looked_place ahead base made heard me older before speaks some (r, mails) f)
-
-  jumped_place : (from slot : ℕ) (state : Base) (sets : List (List ℕ)) (place : Place) → Ok place → place.0.running ≡ false → length sets ≡ length place.0.sets → next place.0 ≤ slot → IsState ahead base made before slot state sets
-      → Ok (looked_up from (jumped slot state sets place.0, place.1))
+  -- a state that is taken over keeps what holds
+  pub fine_jumped : (slot : ℕ) (state : Base) (sets : List (List ℕ)) (r : ReplicaState) (mails : List Mail) → r.running ≡ false → length sets ≡ length r.sets → next r ≤ slot → IsState ahead base made before slot state sets → Ok (r, mails) → Ok (jumped slot state sets r, mails)
   unfolding jumped
-  jumped_place from slot state sets (r, mails) f still many up t =
+  fine_jumped slot state sets r mails still many up t f =
       let h = f.newer ++ before in
       let now = grown_state ahead base made made (λ c m. m) f.newer before slot state sets t in
-      looked_up_place from (jumped slot state sets r) mails
-      (turn ahead base made heard me older before r (jumped slot state sets r) mails f
+      turn ahead base made heard me older before r (jumped slot state sets r) mails f
       (subst (λ (s : Base). Replica h (forgotten slot (record r { group = group_of s; log = installed slot; sets = sets; waits = waits_in state.core.lock r.waits })))
       (sym (state_named (name_of r) h slot state sets (name_is ahead base made heard me older before h r f.replica) now))
-      (jumped_to h slot state sets (waits_in state.core.lock r.waits) r f.replica still many up now)))
-
-  took_over_place : (from slot : ℕ) (state : Base) (sets : List (List ℕ)) (r : ReplicaState) (mails : List Mail) → Ok (r, mails) → length sets ≡ length r.sets → next r ≤ slot → IsState ahead base made before slot state sets
-      → Ok (took_over from slot state sets (r, mails))
-  unfolding took_over ended
-  took_over_place from slot state sets r mails f many up t =
-      cond_both r.running (stopped (Some from) (r, mails)) (r, mails) (λ (p : Place). Ok (looked_up from (jumped slot state sets p.0, p.1)))
-      (λ _. jumped_place from slot state sets (stopped (Some from) (r, mails)) (fine_stopped ahead base made heard me older before (Some from) r mails f) refl many up t)
-      (λ still. jumped_place from slot state sets (r, mails) f still many up t)
-
-  -- Install
-  pub fine_install_row : (from slot : ℕ) (state : Base) (sets : List (List ℕ)) (r : ReplicaState) (mails : List Mail) → Ok (r, mails) → IsState ahead base made before slot state sets → Ok (install_row from slot state sets (r, mails))
-  unfolding install_row
-  fine_install_row from slot state sets r mails f t =
-      cond_both (not (eqb (length sets) (length r.sets)) || (nat_lt last_slot slot || nat_lt slot (next r))) _ _ Ok (λ _. f)
-      (λ e. (
-      let parts = or_parts (not (eqb (length sets) (length r.sets))) (nat_lt last_slot slot || nat_lt slot (next r)) e in
-      let low = or_parts (nat_lt last_slot slot) (nat_lt slot (next r)) parts.1 in
-      let ge = ltb-false slot (next r) low.1 in
-      took_over_place from slot state sets r mails f (eqb-true (length sets) (length r.sets) (not-false (eqb (length sets) (length r.sets)) parts.0)) (omega (arith, ge)) t))
+      (jumped_to h slot state sets (waits_in state.core.lock r.waits) r f.replica still many up now))
 
   -- ---- a replica is made of it
 
@@ -157,27 +125,8 @@ module _ (ahead : Ahead) (base : Base) (made : Command → Type 0) (heard : Mail
       forgotten_replica ahead base made before me slot _ here (omega (arith, low, count))
 
   -- a replica that is made of a true state is as the steps say
-  pub made_place : [] ≡ older ++ [] → (own from : ℕ) (g : Draw) (slot : ℕ) (state : Base) (sets : List (List ℕ)) → own ≡ me → g ≡ base.core.id → IsFresh me before → IsLawfulHistory (rule ahead base) (first ahead base) before
-      → ((b : Ballot) (at : ℕ) (c : Command) → Among (Offered b at c) before → made c) → IsState ahead base made before slot state sets → Ok (made_by own from g slot state sets)
-  unfolding made_by
-  made_place none own from g slot state sets mine e fresh lawful requested t =
-      subst (λ (s : Base). Ok (looked_up from (installed_replica own slot s sets, []))) (sym (state_named g before slot state sets e t))
-      (looked_up_place from (installed_replica own slot state sets) []
-      (record { sent = []; sent_is = none; newer = []; are = refl; by = tt; lawful = lawful; requested = requested; replica = installed_is own slot state sets mine fresh t.many t; mails = λ m a. absurd a; own = λ m a. absurd a }))
-
-  -- ---- an order
-
-  told_place : (number : ℕ) (result : OrderResult) (r : ReplicaState) (mails : List Mail) → Ok (r, mails) → Ok (r, result_sent r.me number result mails)
-  told_place number result r mails f = says ahead base made heard me older before r mails (record { from = r.me; to = 0; body = Told number result }) f refl tt tt
-
-  queued_place : (o : Option OrderRefusal) (number : ℕ) (c : Command) (r : ReplicaState) (mails : List Mail) → Ok (r, mails) → (o ≡ None → made c) → Ok (queued_or_refused o number c (r, mails))
-  queued_place (Some why) number c r mails f m = told_place number (Refused why) r mails f
-  queued_place None number c r mails f m =
-      fine_pumped ahead base made heard me older before speaks some _
-      (turn ahead base made heard me older before r (record r { backlog = r.backlog ++ c ∷ [] }) mails f
-      (with_calls ahead base made heard me older before speaks some (f.newer ++ before) r (r.backlog ++ c ∷ []) f.replica (Each-append made r.backlog (c ∷ []) f.replica.backlog (m refl, tt))))
-
-  -- Told: an order whose command may be queued where it is taken
-  pub fine_ordered_row : (drawer : Drawer) (line : OrderLine) (r : ReplicaState) → (untaken drawer line r ≡ None → made (ordered_command (next_name drawer) line.number line.order)) → (mails : List Mail) → Ok (r, mails) → Ok (ordered_row drawer line (r, mails))
-  unfolding ordered_row
-  fine_ordered_row drawer line r m mails f = queued_place (untaken drawer line r) line.number (ordered_command (next_name drawer) line.number line.order) r mails f m
+  pub fine_installed : [] ≡ older ++ [] → (own : ℕ) (g : Draw) (slot : ℕ) (state : Base) (sets : List (List ℕ)) → own ≡ me → g ≡ base.core.id → IsFresh me before → IsLawfulHistory (rule ahead base) (first ahead base) before
+      → ((b : Ballot) (at : ℕ) (c : Command) → Among (Offered b at c) before → made c) → IsState ahead base made before slot state sets → Ok (installed_replica own slot (named g state) sets, [])
+  fine_installed none own g slot state sets mine e fresh lawful requested t =
+      subst (λ (s : Base). Ok (installed_replica own slot s sets, [])) (sym (state_named g before slot state sets e t))
+      (record { sent = []; sent_is = none; newer = []; are = refl; by = tt; lawful = lawful; requested = requested; replica = installed_is own slot state sets mine fresh t.many t; mails = λ m a. absurd a; own = λ m a. absurd a })

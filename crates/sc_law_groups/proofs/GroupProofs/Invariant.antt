@@ -1,5 +1,5 @@
 -- What holds of each replica and of each mail after the steps so far, its parts named.
-use Rattle.std.proofs.Common.{◌≡◌, ℕ, ◌+◌, ◌-◌, ◌<◌, ◌≤◌, true, List, [], ◌∷◌, ◌++◌, length, map, drop, Some, ◌⊎◌, inl, inr, sym, ◌∙◌, ap, subst, arith}
+use Rattle.std.proofs.Common.{◌≡◌, ℕ, ◌+◌, ◌-◌, ◌<◌, ◌≤◌, true, List, [], ◌∷◌, ◌++◌, length, map, drop, Option, Some, ◌⊎◌, inl, inr, sym, ◌∙◌, ap, subst, arith}
 use Rattle.std.specs.Prelude.{slice_get}
 use Rattle.std.specs.List.{flat_map}
 use Rattle.std.proofs.Math.Nat.{max-le}
@@ -169,6 +169,26 @@ module _ (ahead : Ahead) (base : Base) where
         record { own = l.own; low = l.low; first_is = l.first_is; votes = l.votes; promisers = l.promisers; reports = l.reports; made = l.made; offers = l.offers });
   }
 
+  -- whom it follows, how long it has waited and what waits at it are nothing to the steps, where what waits was made
+  pub queued_replica : (made : Command → Type 0) (h : Steps) (me : ℕ) (r : ReplicaState) (hint : Option ℕ) (waits : ℕ) (acts backlog : List Command) → Each made acts → Each made backlog → IsReplica made h me r
+      → IsReplica made h me (record r { hint = hint; waits = waits; acts = acts; backlog = backlog })
+  queued_replica made h me r hint waits acts backlog a b k = record {
+    me_is = k.me_is;
+    whole = k.whole;
+    log_is = k.log_is;
+    acceptor_is = k.acceptor_is;
+    tops = k.tops;
+    prepares = k.prepares;
+    count = k.count;
+    sets = k.sets;
+    backlog = b;
+    acts = a;
+    flights = k.flights;
+    ready = k.ready;
+    leads = λ runs. (let l = k.leads runs in
+        record { own = l.own; low = l.low; first_is = l.first_is; votes = l.votes; promisers = l.promisers; reports = l.reports; made = l.made; offers = l.offers });
+  }
+
   -- ---- what holds of mail
 
   -- the log begins so, and the call that comes next in it has this reply, be it new or again
@@ -260,12 +280,7 @@ module _ (ahead : Ahead) (base : Base) where
   grown_true made more f heard further g newer h mail (Nack group promised) t = tt
   grown_true made more f heard further g newer h mail (Ask group from_slot) t = tt
   grown_true made more f heard further g newer h mail (Told number result) t = tt
-  grown_true made more f heard further g newer h mail (TxPrepare tx offer) t = g (TxPrepare tx offer) t
-  grown_true made more f heard further g newer h mail (TxVote tx coord part vote) t = g (TxVote tx coord part vote) t
-  grown_true made more f heard further g newer h mail (TxOutcome tx part outcome) t = g (TxOutcome tx part outcome) t
-  grown_true made more f heard further g newer h mail (TxElsewhere tx coord hint) t = g (TxElsewhere tx coord hint) t
-  grown_true made more f heard further g newer h mail (TxWatch tx watch) t = g (TxWatch tx watch) t
-  grown_true made more f heard further g newer h mail (TxWatched tx coord part vote) t = g (TxWatched tx coord part vote) t
+  grown_true made more f heard further g newer h mail body t = g body t
 
   -- ---- more steps
 

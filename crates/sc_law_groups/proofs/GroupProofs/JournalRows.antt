@@ -23,7 +23,7 @@ use Rattle.sc_law_groups.proofs.GroupProofs.RowSteps.{number_among, among_number
 use Rattle.sc_law_groups.proofs.GroupProofs.Frames.{node_row, steps_of}
 use Rattle.sc_law_groups.proofs.GroupProofs.Holding.{Holds, still_holds}
 use Rattle.sc_law_groups.proofs.GroupProofs.Names.{IsNamedIn, named_later}
-use Rattle.sc_law_groups.proofs.GroupProofs.Offspring.{IsChildOf}
+use Rattle.sc_law_groups.proofs.GroupProofs.ChosenEntries.{IsChildOf}
 use Rattle.sc_law_groups.proofs.GroupProofs.GroupNodes.{IsNewborn, NodeEnded, unchanged, ends_as, mail_ended, order_ended}
 use Rattle.sc_law_groups.proofs.GroupProofs.Ticks.{MayTick, tick_ended}
 use Rattle.sc_law_groups.proofs.GroupProofs.Projected.{steps-push}

@@ -3,13 +3,15 @@ use Rattle.std.proofs.Common.{◌≡◌, ℕ, ◌&&◌, List, [], ◌∷◌, ◌
 use Rattle.std.specs.List.{list_any}
 use Rattle.std.proofs.lemmas.Bool.{and_right, cond-false}
 use Rattle.sc_node_table.specs.Values.{Draw, Command, Base, OrderLine, AnswerBody, Mail, MailBody, Request, Answer, Prepare, Promise, Accept, Accepted as AcceptedMail, Nack, Learn, Ask, Install, TxPrepare, TxVote, TxOutcome, TxElsewhere, TxWatch, TxWatched, Told, Event}
-use Rattle.sc_base.specs.Definitions.{same_draw, Among}
+use Rattle.sc_base.specs.Definitions.{same_draw, Among, Each}
+use Rattle.sc_words.proofs.PaxosProofs.PaxosLemmas.{Each-among}
 use Rattle.sc_mail.specs.declared.bodies.AnswerBody.TheVariants as Says
 use Rattle.sc_paxos_law.specs.PaxosLawDefinitions.{Accepted}
 use Rattle.sc_node_table.specs.NodeDefinitions.{absent}
 use Rattle.sc_meaning.specs.sound.SoundDefinitions.{accepts_of, is_accepted, Ahead}
 use Rattle.sc_law_groups.specs.group.GroupDefinitions.{proposer_steps, asked_in, promises_of}
 use Rattle.sc_law_groups.proofs.GroupProofs.Invariant.{Steps, IsOwn, IsTrue}
+use Rattle.sc_law_groups.proofs.GroupProofs.Speech.{AnyoneHears}
 use Rattle.sc_law_groups.proofs.GroupProofs.AcceptorRows.{IsPlain, ArePlain, no_promises, any_accepted}
 use Rattle.sc_law_groups.proofs.GroupProofs.Frames.{node_row, steps_of}
 
@@ -110,35 +112,27 @@ own_named ahead heard bases base a (Told number result) own = tt
 own_named ahead heard bases base a _ own = (base, a, own)
 
 -- what is sent where there is no replica is of the group of the mail that came
-pub absent_named : (heard : MailBody → Type 0) → ((body : MailBody) → heard body → (tx coord : Draw) (hint : Option ℕ) → heard (TxElsewhere tx coord hint)) → (bases : List Base) (me from : ℕ) (body : MailBody) → IsNamedIn heard bases body
-    → (mail : Mail) → Among mail (absent me from body) → IsNamedIn heard bases mail.body
-absent_named heard elsewhere bases me from (Request group client seq op) one mail (inl e) = subst (λ (m : Mail). IsNamedIn heard bases m.body) e tt
-absent_named heard elsewhere bases me from (Request group client seq op) one mail (inr n) = absurd n
-absent_named heard elsewhere bases me from (Prepare group b start) one mail (inl e) = subst (λ (m : Mail). IsNamedIn heard bases m.body) e one
-absent_named heard elsewhere bases me from (Prepare group b start) one mail (inr n) = absurd n
-absent_named heard elsewhere bases me from (Accept group b slot c) one mail (inl e) = subst (λ (m : Mail). IsNamedIn heard bases m.body) e one
-absent_named heard elsewhere bases me from (Accept group b slot c) one mail (inr n) = absurd n
-absent_named heard elsewhere bases me from (Learn group slot c) one mail (inl e) = subst (λ (m : Mail). IsNamedIn heard bases m.body) e one
-absent_named heard elsewhere bases me from (Learn group slot c) one mail (inr n) = absurd n
-absent_named heard elsewhere bases me from (TxPrepare tx offer) one mail (inl e) = subst (λ (m : Mail). IsNamedIn heard bases m.body) e (elsewhere (TxPrepare tx offer) one tx offer.coord None)
-absent_named heard elsewhere bases me from (TxPrepare tx offer) one mail (inr n) = absurd n
-absent_named heard elsewhere bases me from (TxWatch tx watch) one mail (inl e) = subst (λ (m : Mail). IsNamedIn heard bases m.body) e (elsewhere (TxWatch tx watch) one tx watch.coord None)
-absent_named heard elsewhere bases me from (TxWatch tx watch) one mail (inr n) = absurd n
-absent_named heard elsewhere bases me from _ one mail a = absurd a
+all_named : (heard : MailBody → Type 0) → AnyoneHears heard → (bases : List Base) (me from : ℕ) (body : MailBody) → IsNamedIn heard bases body → Each (λ (m : Mail). IsNamedIn heard bases m.body) (absent me from body)
+all_named heard elsewhere bases me from (Request group client seq op) one = (tt, tt)
+all_named heard elsewhere bases me from (Prepare group b start) one = (one, tt)
+all_named heard elsewhere bases me from (Accept group b slot c) one = (one, tt)
+all_named heard elsewhere bases me from (Learn group slot c) one = (one, tt)
+all_named heard elsewhere bases me from (TxPrepare tx offer) one = (elsewhere (TxPrepare tx offer) one tx offer.coord None, tt)
+all_named heard elsewhere bases me from (TxWatch tx watch) one = (elsewhere (TxWatch tx watch) one tx watch.coord None, tt)
+all_named heard elsewhere bases me from _ one = tt
+
+pub absent_named : (heard : MailBody → Type 0) → AnyoneHears heard → (bases : List Base) (me from : ℕ) (body : MailBody) → IsNamedIn heard bases body → (mail : Mail) → Among mail (absent me from body) → IsNamedIn heard bases mail.body
+absent_named heard elsewhere bases me from body one mail a = Each-among (λ (m : Mail). IsNamedIn heard bases m.body) (absent me from body) mail (all_named heard elsewhere bases me from body one) a
 
 -- what is sent where there is no replica is true
-pub absent_true : (heard : MailBody → Type 0) → ((body : MailBody) → heard body → (tx coord : Draw) (hint : Option ℕ) → heard (TxElsewhere tx coord hint)) → (bases : List Base) (ahead : Ahead) (base : Base) (made : Command → Type 0) (h : Steps) (me from : ℕ) (body : MailBody)
-    → IsNamedIn heard bases body → (mail : Mail) → Among mail (absent me from body) → IsTrue ahead base made heard h mail mail.body
-absent_true heard elsewhere bases ahead base made h me from (Request group client seq op) one mail (inl e) = subst (λ (m : Mail). IsTrue ahead base made heard h m m.body) e (λ _. tt)
-absent_true heard elsewhere bases ahead base made h me from (Request group client seq op) one mail (inr n) = absurd n
-absent_true heard elsewhere bases ahead base made h me from (Prepare group b start) one mail (inl e) = subst (λ (m : Mail). IsTrue ahead base made heard h m m.body) e tt
-absent_true heard elsewhere bases ahead base made h me from (Prepare group b start) one mail (inr n) = absurd n
-absent_true heard elsewhere bases ahead base made h me from (Accept group b slot c) one mail (inl e) = subst (λ (m : Mail). IsTrue ahead base made heard h m m.body) e tt
-absent_true heard elsewhere bases ahead base made h me from (Accept group b slot c) one mail (inr n) = absurd n
-absent_true heard elsewhere bases ahead base made h me from (Learn group slot c) one mail (inl e) = subst (λ (m : Mail). IsTrue ahead base made heard h m m.body) e tt
-absent_true heard elsewhere bases ahead base made h me from (Learn group slot c) one mail (inr n) = absurd n
-absent_true heard elsewhere bases ahead base made h me from (TxPrepare tx offer) one mail (inl e) = subst (λ (m : Mail). IsTrue ahead base made heard h m m.body) e (elsewhere (TxPrepare tx offer) one tx offer.coord None)
-absent_true heard elsewhere bases ahead base made h me from (TxPrepare tx offer) one mail (inr n) = absurd n
-absent_true heard elsewhere bases ahead base made h me from (TxWatch tx watch) one mail (inl e) = subst (λ (m : Mail). IsTrue ahead base made heard h m m.body) e (elsewhere (TxWatch tx watch) one tx watch.coord None)
-absent_true heard elsewhere bases ahead base made h me from (TxWatch tx watch) one mail (inr n) = absurd n
-absent_true heard elsewhere bases ahead base made h me from _ one mail a = absurd a
+all_true : (heard : MailBody → Type 0) → AnyoneHears heard → (bases : List Base) (ahead : Ahead) (base : Base) (made : Command → Type 0) (h : Steps) (me from : ℕ) (body : MailBody) → IsNamedIn heard bases body → Each (λ (m : Mail). IsTrue ahead base made heard h m m.body) (absent me from body)
+all_true heard elsewhere bases ahead base made h me from (Request group client seq op) one = (λ _. tt, tt)
+all_true heard elsewhere bases ahead base made h me from (Prepare group b start) one = (tt, tt)
+all_true heard elsewhere bases ahead base made h me from (Accept group b slot c) one = (tt, tt)
+all_true heard elsewhere bases ahead base made h me from (Learn group slot c) one = (tt, tt)
+all_true heard elsewhere bases ahead base made h me from (TxPrepare tx offer) one = (elsewhere (TxPrepare tx offer) one tx offer.coord None, tt)
+all_true heard elsewhere bases ahead base made h me from (TxWatch tx watch) one = (elsewhere (TxWatch tx watch) one tx watch.coord None, tt)
+all_true heard elsewhere bases ahead base made h me from _ one = tt
+
+pub absent_true : (heard : MailBody → Type 0) → AnyoneHears heard → (bases : List Base) (ahead : Ahead) (base : Base) (made : Command → Type 0) (h : Steps) (me from : ℕ) (body : MailBody) → IsNamedIn heard bases body → (mail : Mail) → Among mail (absent me from body) → IsTrue ahead base made heard h mail mail.body
+absent_true heard elsewhere bases ahead base made h me from body one mail a = Each-among (λ (m : Mail). IsTrue ahead base made heard h m m.body) (absent me from body) mail (all_true heard elsewhere bases ahead base made h me from body one) a

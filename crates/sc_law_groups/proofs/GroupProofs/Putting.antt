@@ -30,10 +30,8 @@ puts_all me (node ∷ nodes) body mails =
     puts_all me nodes body (mails ++ one ∷ []) ∙ append_assoc mails (one ∷ []) (sent_all me nodes body []) ∙ ap (λ ms. mails ++ ms) (sym (puts_all me nodes body (one ∷ [])))
 
 puts_first : (lock : Lock) (me : ℕ) (core : Core) → Puts (asked_first lock me core)
-puts_first Free me core mails = sym (append-nil mails)
 puts_first (Coordinating tx body order heard) me core mails = refl
-puts_first (Promised tx offer) me core mails = sym (append-nil mails)
-puts_first (Watching tx watch) me core mails = sym (append-nil mails)
+puts_first _ me core mails = sym (append-nil mails)
 
 puts_on : (effect : Effect) (me : ℕ) (core : Core) → Puts (asked_on effect me core)
 puts_on Was.Changed me core mails = puts_first core.lock me core mails
@@ -113,8 +111,6 @@ puts_reminders (Watching tx watch) me group mails = puts_all me _ _ mails
 
 -- what is asked next
 pub puts_next : (lock : Lock) (me : ℕ) (core : Core) (from : ℕ) (tx : Draw) (hint : Option ℕ) → Puts (asked_next lock me core from tx hint)
-puts_next Free me core from tx hint mails = sym (append-nil mails)
-puts_next (Promised locked offer) me core from tx hint mails = sym (append-nil mails)
-puts_next (Watching locked watch) me core from tx hint mails = sym (append-nil mails)
 puts_next (Coordinating locked body order heard) me core from tx hint mails =
     puts_if (same_draw locked tx) (asked_node me core tx body heard (next_asked hint (asked_link core body heard).members from)) (λ ms. refl) mails
+puts_next _ me core from tx hint mails = sym (append-nil mails)

@@ -1,20 +1,23 @@
 -- Mails that a row sends, and elections.
-use Rattle.std.proofs.Common.{◌≡◌, ℕ, ◌+◌, ◌≤◌, ◌-◌, ◌^◌, ◌&&◌, true, false, cond, eqb, nat_lt, List, [], ◌∷◌, ◌++◌, Option, Some, inl, refl, ◌∙◌, ap, subst, arith}
+use Rattle.std.proofs.Common.{◌≡◌, ℕ, ◌+◌, ◌≤◌, ◌-◌, true, false, cond, nat_lt, List, [], ◌∷◌, ◌++◌, length, Option, Some, inl, refl, ◌∙◌, ap, subst, arith}
 use Rattle.std.proofs.lemmas.Bool.{cond-true, cond_both}
 use Rattle.sc_base.specs.Definitions.{client_actor, same_draw, Among}
-use Rattle.sc_node_table.specs.Values.{Ballot, Draw, Command, Call, Base, OrderResult, Refused, AnswerBody, Mail, MailBody, Answer, Prepare, Accept, Learn, Told}
+use Rattle.sc_node_table.specs.Values.{Ballot, Draw, Command, Call, Base, OrderResult, Refused, AnswerBody, Mail, MailBody, Answer, Prepare, Accept, Learn, Install, Told}
 use Rattle.sc_words.specs.declared.commands.orders.OrderRefusal.TheVariants.{NotLeader}
 use Rattle.sc_mail.specs.declared.bodies.AnswerBody.TheVariants as Says
-use Rattle.sc_group_table.specs.machine.MachineDefinitions.{Group}
-use Rattle.sc_words.specs.paxos.PaxosDefinitions.{below, new_leader}
-use Rattle.sc_law_walks.proofs.WalkLemmas.{below_round}
+use Rattle.sc_group_table.specs.machine.MachineDefinitions.{Group, base_of}
+use Rattle.sc_words.specs.paxos.PaxosDefinitions.{below}
+use Rattle.sc_law_walks.proofs.WalkLemmas.{below_round, elected_place}
+use Rattle.sc_law_walks.proofs.PlaceWalks.{elected_replica as elected, ended_replica as stopped_one}
+use Rattle.sc_law_walks.proofs.Talks.{all_sent}
 use Rattle.sc_paxos_law.specs.PaxosLawDefinitions.{Step, Prepared, Offered}
-use Rattle.sc_node_table.specs.NodeDefinitions.{elected, ended, stopped, saw, open_nodes, sent, sent_all, sent_others, answered, answered_all, order_number, order_reported, dismissed, dismissed_all, ReplicaState, Place, name_of, next, under_way}
+use Rattle.sc_node_table.specs.NodeDefinitions.{ended, stopped, open_nodes, sent, answered, answered_all, order_number, order_reported, dismissed, dismissed_all, ReplicaState, Place, name_of, next, under_way}
 use Rattle.sc_meaning.specs.sound.SoundDefinitions.{Ahead}
+use Rattle.sc_group_table.proofs.MachineProofs.Lemmas.{group_again}
 use Rattle.sc_law_entries.proofs.HistoryProofs.HistoryLemmas.{state_same}
 use Rattle.sc_law_groups.specs.group.GroupDefinitions.{proposer_steps}
-use Rattle.sc_law_groups.proofs.GroupProofs.Growth.{IsLearnt, offer_again}
-use Rattle.sc_law_groups.proofs.GroupProofs.Invariant.{Steps, rule, first, birth, IsReplica, next_after, IsTrueAnswer, more_steps}
+use Rattle.sc_law_groups.proofs.GroupProofs.Growth.{IsLearnt, offer_again, grown_learnt}
+use Rattle.sc_law_groups.proofs.GroupProofs.Invariant.{Steps, rule, first, birth, AreSets, IsReplica, next_after, IsOwn, IsTrue, IsTrueAnswer, more_steps}
 use Rattle.sc_law_groups.proofs.GroupProofs.Midway.{Fine, turn, says, steps}
 use Rattle.sc_base.proofs.Lemmas.{same_name}
 
@@ -36,50 +39,63 @@ module _ (ahead : Ahead) (base : Base) (made : Command → Type 0) (heard : Mail
   pub name_is : (h : Steps) (r : ReplicaState) → Replica h r → name_of r ≡ base.core.id
   name_is h r k = ap (λ (g : Group). g.core.id) k.log_is.group_is ∙ (state_same (birth ahead base) k.whole).0
 
-  -- ---- one mail and several
+  -- ---- one mail
 
-  -- a Prepare to each of some nodes keeps what holds
-  pub prepared_all : (nodes : List ℕ) (r : ReplicaState) (mails : List Mail) (b : Ballot) (from : ℕ) → Ok (r, mails) → b.node ≡ me → from ≤ next r
-      → Ok (r, sent_all r.me nodes (Prepare (name_of r) b from) mails)
-  unfolding sent_all
-  prepared_all [] r mails b from f own low = f
-  prepared_all (node ∷ nodes) r mails b from f own low =
+  -- a Prepare keeps what holds
+  pub prepared_one : (to : ℕ) (r : ReplicaState) (mails : List Mail) (b : Ballot) (from : ℕ) → Ok (r, mails) → b.node ≡ me → from ≤ next r → Ok (r, sent r.me to (Prepare (name_of r) b from) mails)
+  prepared_one to r mails b from f own low =
       let h = f.newer ++ before in
-      let mail : Mail = record { from = r.me; to = node; body = Prepare (name_of r) b from } in
       let k = f.replica in
       let up = next_after ahead base made h me r k in
       let more = more_steps ahead base made me (Prepared b from) h r k refl (λ c slot v e. cc)
       (λ c start e mine. (let same : from ≡ start = cc in omega (arith, same, low, up))) (λ runs slot v e. cc) in
-      prepared_all nodes r (mails ++ mail ∷ []) b from
-      (steps ahead base made heard me older before r r mails mail (Prepared b from) f (asked_prepare (name_of r) base.core.id b from (name_is h r k)) (name_is h r k) own tt (λ c slot v e. cc) more (λ _. inl refl))
-      own low
+      steps ahead base made heard me older before r r mails (record { from = r.me; to = to; body = Prepare (name_of r) b from }) (Prepared b from) f (asked_prepare (name_of r) base.core.id b from (name_is h r k)) (name_is h r k) own tt
+      (λ c slot v e. cc) more (λ _. inl refl)
 
-  -- what was offered is offered again
-  pub offered_again : (nodes : List ℕ) (r : ReplicaState) (mails : List Mail) (b : Ballot) (slot : ℕ) (c : Command) → (f : Ok (r, mails)) → b.node ≡ me → Among (Offered b slot c) (f.newer ++ before)
-      → Ok (r, sent_all r.me nodes (Accept (name_of r) b slot c) mails)
-  unfolding sent_all steps
-  offered_again [] r mails b slot c f own a = f
-  offered_again (node ∷ nodes) r mails b slot c f own a =
+  -- what was offered in the row or before it
+  abbrev pub HasOffered : ReplicaState → Ballot → ℕ → Command → List Mail → Type 0
+  HasOffered r b slot c mails = (f : Ok (r, mails)) × Among (Offered b slot c) (f.newer ++ before)
+
+  -- is offered again
+  pub offered_again : (to : ℕ) (r : ReplicaState) (mails : List Mail) (b : Ballot) (slot : ℕ) (c : Command) → b.node ≡ me → HasOffered r b slot c mails → HasOffered r b slot c (sent r.me to (Accept (name_of r) b slot c) mails)
+  unfolding steps
+  offered_again to r mails b slot c own (f, a) =
       let h = f.newer ++ before in
-      let mail : Mail = record { from = r.me; to = node; body = Accept (name_of r) b slot c } in
       let k = f.replica in
       let there : (d : Ballot) (s : ℕ) (v : Command) → Offered b slot c ≡ Offered d s v → Among (Offered d s v) h = λ d s v e. subst (λ (x : Step Command). Among x h) e a in
       let more = more_steps ahead base made me (Offered b slot c) h r k refl (λ d s v e mine. k.tops d s v (there d s v e) mine)
-      (λ d start e mine. cc) (λ runs s v e. (k.leads runs).offers s v (there r.leader.ballot s v e)) in
-      let after = steps ahead base made heard me older before r r mails mail (Offered b slot c) f (asked_accept (name_of r) base.core.id b slot c (name_is h r k)) (name_is h r k) own
-      (offer_again (rule ahead base) (first ahead base) h b slot c f.lawful a) (λ d s v e. f.requested d s v (there d s v e)) more (λ _. inl refl) in
-      offered_again nodes r (mails ++ mail ∷ []) b slot c after own (inl refl)
+      (λ d start e mine. cc) (λ runs s v e. (k.leads runs).offers s v (there r.leader.ballot s v e)) in (
+        steps ahead base made heard me older before r r mails (record { from = r.me; to = to; body = Accept (name_of r) b slot c }) (Offered b slot c) f (asked_accept (name_of r) base.core.id b slot c (name_is h r k)) (name_is h r k) own
+            (offer_again (rule ahead base) (first ahead base) h b slot c f.lawful a) (λ d s v e. f.requested d s v (there d s v e)) more (λ _. inl refl),
+        inl refl,
+      )
 
-  -- a Learn to each of some nodes keeps what holds
-  pub learnt_others : (nodes : List ℕ) (r : ReplicaState) (mails : List Mail) (group : Draw) (slot : ℕ) (c : Command) → group ≡ base.core.id → (f : Ok (r, mails)) → IsLearnt (rule ahead base) (f.newer ++ before) slot c
-      → Ok (r, sent_others r.me nodes (Learn group slot c) mails)
-  unfolding sent_others says
-  learnt_others [] r mails group slot c named f t = f
-  learnt_others (node ∷ nodes) r mails group slot c named f t =
-      cond_both (eqb node r.me) mails (sent r.me node (Learn group slot c) mails) (λ ms. Ok (r, sent_others r.me nodes (Learn group slot c) ms))
-      (λ _. learnt_others nodes r mails group slot c named f t)
-      (λ _. learnt_others nodes r (mails ++ record { from = r.me; to = node; body = Learn group slot c } ∷ []) group slot c named
-      (says ahead base made heard me older before r mails (record { from = r.me; to = node; body = Learn group slot c }) f refl named (λ _. t)) t)
+  -- a Learn of what was learnt keeps what holds
+  pub learnt_one : (to : ℕ) (r : ReplicaState) (mails : List Mail) (slot : ℕ) (c : Command) → IsLearnt (rule ahead base) before slot c → Ok (r, mails) → Ok (r, sent r.me to (Learn (name_of r) slot c) mails)
+  learnt_one to r mails slot c t f =
+      says ahead base made heard me older before r mails (record { from = r.me; to = to; body = Learn (name_of r) slot c }) f refl (name_is (f.newer ++ before) r f.replica) (λ _. grown_learnt (rule ahead base) f.newer before slot c t)
+
+  -- the executed state keeps it
+  pub state_sent : (to : ℕ) (r : ReplicaState) (mails : List Mail) → Ok (r, mails) → Ok (r, sent r.me to (Install (name_of r) (next r - 1) (base_of r.group) r.sets) mails)
+  state_sent to r mails f =
+      let h = f.newer ++ before in
+      let k = f.replica in
+      let at = next_after ahead base made h me r k in
+      let last : length k.whole ≡ next r - 1 = omega (arith, at) in
+      says ahead base made heard me older before r mails (record { from = r.me; to = to; body = Install (name_of r) (next r - 1) (base_of r.group) r.sets }) f refl (name_is h r k)
+      (λ _. record {
+        log = k.whole;
+        is_log = k.log_is.is_log;
+        count = last;
+        group_is = group_again r.group ∙ k.log_is.group_is;
+        all_made = k.log_is.all_made;
+        sets_are = subst (λ n. AreSets ahead base k.whole (n + 1) r.sets) last k.sets;
+        many = k.count;
+      })
+
+  -- so does what names the group alone
+  pub plain_said : (to : ℕ) (r : ReplicaState) (mails : List Mail) (body : MailBody) → Ok (r, mails) → proposer_steps base.core.id body ≡ [] → IsOwn ahead base heard body → ((h : Steps) (mail : Mail) → IsTrue ahead base made heard h mail body) → Ok (r, sent r.me to body mails)
+  plain_said to r mails body f none own t = says ahead base made heard me older before r mails (record { from = r.me; to = to; body = body }) f none own (t (f.newer ++ before) (record { from = r.me; to = to; body = body }))
 
   -- an answer that is no reply says nothing
   abbrev pub IsDull : AnswerBody → Type 0
@@ -119,9 +135,7 @@ module _ (ahead : Ahead) (base : Base) (made : Command → Type 0) (heard : Mail
 
   -- ---- an election
 
-  elected_replica : (h : Steps) (r : ReplicaState) → Replica h r
-      → (let b : Ballot = record { round = r.top.round + 1; node = r.me } in
-      Replica h (record r { top = b; hint = Some r.me; running = true; leader = new_leader b (next r); ready = []; waits = 0 }))
+  elected_replica : (h : Steps) (r : ReplicaState) → Replica h r → Replica h (elected r)
   elected_replica h r k = record {
     me_is = k.me_is;
     whole = k.whole;
@@ -148,19 +162,16 @@ module _ (ahead : Ahead) (base : Base) (made : Command → Type 0) (heard : Mail
   }
 
   -- an election that is begun keeps what holds
-  pub fine_elected : (r : ReplicaState) (mails : List Mail) → Ok (r, mails) → Ok (elected (r, mails))
-  unfolding elected
+  pub fine_elected : (r : ReplicaState) (mails : List Mail) → Ok (r, mails) → Ok (elected_place (r, mails))
   fine_elected r mails f =
-      cond_both (eqb r.top.round (2 ^ 32 - 1)) _ _ Ok (λ _. f)
-      (λ _. (
       let b : Ballot = record { round = r.top.round + 1; node = r.me } in
-      let after : ReplicaState = record r { top = b; hint = Some r.me; running = true; leader = new_leader b (next r); ready = []; waits = 0 } in
-      prepared_all (open_nodes r.sets) after mails b (next r) (turn ahead base made heard me older before r after mails f (elected_replica (f.newer ++ before) r f.replica)) f.replica.me_is (omega arith)))
+      let after : ReplicaState = elected r in
+      all_sent r.me (λ ms. Ok (after, ms)) (Prepare (name_of r) b (next r)) (λ to ms q. prepared_one to after ms b (next r) q f.replica.me_is (omega arith)) (open_nodes r.sets) mails
+      (turn ahead base made heard me older before r after mails f (elected_replica (f.newer ++ before) r f.replica))
 
   -- ---- an end
 
-  ended_replica : (h : Steps) (r : ReplicaState) (hint : Option ℕ) → Replica h r
-      → Replica h (record r { running = false; leader = new_leader r.leader.ballot (next r); ready = []; acts = []; backlog = []; hint = hint })
+  ended_replica : (h : Steps) (r : ReplicaState) (hint : Option ℕ) → Replica h r → Replica h (stopped_one hint r)
   ended_replica h r hint k = record {
     me_is = k.me_is;
     whole = k.whole;
@@ -210,14 +221,11 @@ module _ (ahead : Ahead) (base : Base) (made : Command → Type 0) (heard : Mail
         record { own = l.own; low = (let low = l.low in omega (arith, low, le)); first_is = l.first_is; votes = l.votes; promisers = l.promisers; reports = l.reports; made = l.made; offers = l.offers });
   }
 
-  seen_place : (b : Ballot) (r : ReplicaState) (mails : List Mail) → Ok (r, mails) → (after : ReplicaState) → Ok (after, mails) → Ok (cond (r.running && below r.leader.ballot b) (stopped (Some b.node) (after, mails)) (after, mails))
-  seen_place b r mails f after k = cond_both (r.running && below r.leader.ballot b) _ _ Ok (λ _. fine_stopped (Some b.node) after mails k) (λ _. k)
+  -- a greater ballot that is seen keeps what holds
+  pub fine_seen : (b : Ballot) (r : ReplicaState) (mails : List Mail) → below r.top b ≡ true → Ok (r, mails) → Ok (record r { top = b }, mails)
+  fine_seen b r mails e f = turn ahead base made heard me older before r (record r { top = b }) mails f (seen_replica (f.newer ++ before) r b (below_round r.top b e) f.replica)
 
-  -- a ballot that is seen keeps what holds
-  pub fine_saw : (b : Ballot) (r : ReplicaState) (mails : List Mail) → Ok (r, mails) → Ok (saw b (r, mails))
-  unfolding saw
-  fine_saw b r mails f =
-      seen_place b r mails f (cond (below r.top b) (record r { top = b }) r)
-      (cond_both (below r.top b) (record r { top = b }) r (λ (after : ReplicaState). Ok (after, mails))
-      (λ e. turn ahead base made heard me older before r (record r { top = b }) mails f (seen_replica (f.newer ++ before) r b (below_round r.top b e) f.replica))
-      (λ _. f))
+  -- and so it does where it stops the leader
+  pub fine_overtaken : (b : Ballot) (r : ReplicaState) (mails : List Mail) → Ok (r, mails) → Ok (stopped (Some b.node) (cond (below r.top b) (record r { top = b }) r, mails))
+  fine_overtaken b r mails f =
+      fine_stopped (Some b.node) (cond (below r.top b) (record r { top = b }) r) mails (cond_both (below r.top b) (record r { top = b }) r (λ (after : ReplicaState). Ok (after, mails)) (λ e. fine_seen b r mails e f) (λ _. f))

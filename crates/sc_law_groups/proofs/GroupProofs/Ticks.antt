@@ -14,7 +14,7 @@ use Rattle.sc_law_groups.proofs.GroupProofs.Invariant.{Steps, rule, first, IsRep
 use Rattle.sc_law_groups.proofs.GroupProofs.Speech.{AnyoneHears, Speaks}
 use Rattle.sc_law_groups.proofs.GroupProofs.Midway.{Fine}
 use Rattle.sc_law_groups.proofs.GroupProofs.Sending.{name_is}
-use Rattle.sc_law_groups.proofs.GroupProofs.LearningRows.{MayWish, fine_tick_row}
+use Rattle.sc_law_groups.proofs.GroupProofs.GroupRows.{MayWish, fine_tick_row}
 use Rattle.sc_law_groups.proofs.GroupProofs.Names.{IsOneOf, IsNamedIn, own_named}
 use Rattle.sc_law_groups.proofs.GroupProofs.PartsOfNodes.{start}
 use Rattle.sc_law_groups.proofs.GroupProofs.GroupNodes.{IsNode, NodeEnded}

@@ -15,24 +15,11 @@ use Rattle.sc_law_entries.specs.ring.RingDefinitions.{Sources, IsVoteCast, IsAll
 use Rattle.sc_law_entries.proofs.RingProofs.RingLemmas.{Decisions, decisions, outcome_of, settle_by, living, living_by, eff, view_of, arc_of, succ_of, Old, IsPair, not_back, at_start, Kept, Ring, KeptWorld, kept_on}
 use Rattle.sc_law_groups.specs.whole.WholeDefinitions.{PartiesAreApart}
 use Rattle.sc_law_groups.proofs.WholeProofs.Coming.{IsDull, comes}
+use Rattle.sc_law_groups.proofs.WholeProofs.StoryWalks.{StoryParts, stories_hold}
 
 -- a story of which the participant is not the watcher
 abbrev IsApartStory : Story → Type 0
 IsApartStory y = (offer : Offer) (watch : Watch) → y.offer ≡ Some offer → y.watch ≡ Some watch → offer.part ≡ watch.part → ⊥
-
--- with one story more
-apart_put : (ys : Stories) (tx : Draw) (o : Option Story) → ((y : Story) → o ≡ Some y → IsApartStory y) → PartiesAreApart ys → PartiesAreApart (put ys tx o)
-apart_put ys tx o new old t story =
-    cond_both (same_draw t tx) o (ys t) (λ (x : Option Story). x ≡ Some story → (offer : Offer) (watch : Watch) → story.offer ≡ Some offer → story.watch ≡ Some watch → offer.part ≡ watch.part → ⊥)
-    (λ _ e. new story e) (λ _ e. old t story e)
-
--- with one story that goes on
-apart_with_story : (ys : Stories) (tx : Draw) (f : Story → Story) → ((y : Story) → ys tx ≡ Some y → IsApartStory (f y)) → PartiesAreApart ys → PartiesAreApart (with_story ys tx f)
-apart_with_story ys tx f new old = by (ys tx) refl
-  where
-    by : (o : Option Story) → ys tx ≡ o → PartiesAreApart (put ys tx (option_map f o))
-    by None e = apart_put ys tx None (λ y fact. cc) old
-    by (Some story) e = apart_put ys tx (Some (f story)) (λ y fact. (let same : f story ≡ y = cc in subst IsApartStory same (new story e))) old
 
 -- a transaction that begins has no watcher, or no participant
 apart_new : (s : Group) (body : Body) → IsApartStory (new_story s body)
@@ -122,45 +109,21 @@ module _ (sources : Sources) (ring : Ring) (gs : Groups) (ys : Stories) (g : Dra
       heard_apart tx frozen cast order got lock story there offer o (same ∙ sym part)
   asked_apart tx (Vows.No why) cast order got lock story there old offer watch o w same = old offer watch o w same
 
-  -- so is a story that goes on by a vote
-  answer_apart : (tx : Draw) (vote : Vote) (by : ℕ) → IsVoteCast ys tx vote → (story : Story) → ys tx ≡ Some story → IsApartStory story → IsApartStory (with_answer s.core vote (applied s (RecordVote tx vote by)).1 story)
-  answer_apart tx vote by cast story there old =
-      cond_both (is_changed (applied s (RecordVote tx vote by)).1) (with_asked s.core vote story) (with_decision (decided_in (applied s (RecordVote tx vote by)).1) story) IsApartStory
-      (λ t. (let m = merges s tx vote by t in asked_apart tx vote cast m.0 m.1 m.2 story there old))
-      (λ _. decided_same (decided_in (applied s (RecordVote tx vote by)).1) story old)
-
-  -- with one entry more
-  entry_apart : (c : Command) → IsAllowed sources ys g c → PartiesAreApart ys → PartiesAreApart (stories_after s c (applied s c).1 ys)
-  entry_apart Noop a old = old
-  entry_apart (Call client seq op) a old = old
-  entry_apart (Join node order) a old = old
-  entry_apart (Leave node order) a old = old
-  entry_apart (Finish tx outcome) a old = old
-  entry_apart (Split at child order) a old =
-      cond_both (is_changed (applied s (Split at child order)).1 && not (is_alone s.core)) (put ys child (Some (new_story s (At.Split at child)))) ys PartiesAreApart
-      (λ _. apart_put ys child (Some (new_story s (At.Split at child))) (λ y e. (let same : new_story s (At.Split at child) ≡ y = cc in subst IsApartStory same (apart_new s (At.Split at child)))) old) (λ _. old)
-  entry_apart (Begin tx body order) a old =
-      cond_both (is_changed (applied s (Begin tx body order)).1) (put ys tx (Some (new_story s body))) ys PartiesAreApart
-      (λ _. apart_put ys tx (Some (new_story s body)) (λ y e. (let same : new_story s body ≡ y = cc in subst IsApartStory same (apart_new s body))) old) (λ _. old)
-  entry_apart (Prepared tx offer) a old = apart_with_story ys tx _ (λ y e. voted_same (vote_in s (applied s (Prepared tx offer)).1) y (old tx y e)) old
-  entry_apart (Watched tx watch) a old = apart_with_story ys tx _ (λ y e. watched_same (watch_vote_in (applied s (Watched tx watch)).1) y (old tx y e)) old
-  entry_apart (RecordVote tx vote by) a old = apart_with_story ys tx _ (λ y e. answer_apart tx vote by a y e (old tx y e)) old
-  entry_apart (RecordWatch tx vote by) a old = apart_with_story ys tx _ (λ y e. decided_same (decided_in (applied s (RecordWatch tx vote by)).1) y (old tx y e)) old
-  entry_apart (GiveUp tx) a old = apart_with_story ys tx _ (λ y e. decided_same (decided_in (applied s (GiveUp tx)).1) y (old tx y e)) old
-
--- with one entry more
-told_apart : (sources : Sources) (w : StoryWorld) (e : LogEntry) → KeptWorld sources.owner w → IsAllowed sources w.stories e.group e.command → PartiesAreApart w.stories → PartiesAreApart (recorded_next w e).stories
-told_apart sources w e k a old = by (named_group e.group w.store.groups) refl
-  where
-    by : (o : Option Group) → named_group e.group w.store.groups ≡ o → PartiesAreApart (recorded_stories w.stories o e.command)
-    by None fact = old
-    by (Some s) fact = entry_apart sources _ _ w.stories e.group s k.kept fact e.command a old
-
--- with all entries
-all_apart : (sources : Sources) (w : StoryWorld) (entries : List LogEntry) → KeptWorld sources.owner w → AreAllowed sources w entries → PartiesAreApart w.stories → PartiesAreApart (recorded_after w entries).stories
-all_apart sources w [] k a old = old
-all_apart sources w (e ∷ entries) k a old = all_apart sources (recorded_next w e) entries (kept_on sources w e k a.0) a.1 (told_apart sources w e k a.0 old)
+  -- so is each story that goes on
+  parts : ((tx : Draw) (y : Story) → ys tx ≡ Some y → IsApartStory y) → StoryParts sources ys g s (λ t y. IsApartStory y)
+  parts old = record {
+    splits = λ at child order may. apart_new s (At.Split at child);
+    begins = λ tx body order may changed. apart_new s body;
+    votes = λ tx offer may y e k. voted_same (vote_in s (applied s (Prepared tx offer)).1) y k;
+    watches = λ o tx y k. watched_same o y k;
+    answers = λ tx vote by may y e k. (
+        let effect = (applied s (RecordVote tx vote by)).1 in
+        cond_both (is_changed effect) (with_asked s.core vote y) (with_decision (decided_in effect) y) IsApartStory
+        (λ t. (let m = merges s tx vote by t in asked_apart tx vote may m.0 m.1 m.2 y e k)) (λ _. decided_same (decided_in effect) y k));
+    releases = λ tx vote by y e k. decided_same (decided_in (applied s (RecordWatch tx vote by)).1) y k;
+    gives_up = λ tx y e k. decided_same (decided_in (applied s (GiveUp tx)).1) y k;
+  }
 
 -- after allowed entries
 pub parties_are_apart : (sources : Sources) (bases : List Base) → BeginInPlace sources bases → (entries : List LogEntry) → AreAllowed sources (first_recorded bases) entries → PartiesAreApart (stories_of bases entries)
-parties_are_apart sources bases start entries allowed = all_apart sources (first_recorded bases) entries (at_start sources bases start) allowed (λ tx story e. cc)
+parties_are_apart sources bases start entries allowed = stories_hold sources (λ t y. IsApartStory y) (λ ring gs ys g s k fact old. parts sources ring gs ys g s k fact old) bases start entries allowed

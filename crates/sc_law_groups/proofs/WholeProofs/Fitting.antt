@@ -17,24 +17,11 @@ use Rattle.sc_meaning.proofs.EntriesProofs.EntryLemmas.{births_are_children}
 use Rattle.sc_words.proofs.PaxosProofs.PaxosLemmas.{Each-among, Each-append, find_found}
 use Rattle.sc_law_entries.specs.ring.RingDefinitions.{Sources, IsAllowed, AreAllowed, StoryWorld, first_recorded, recorded_next, recorded_after, recorded_stories, stories_of, Story, Stories, put, with_story, unsigned, new_story, vote_by, vote_in, watch_vote_in, with_vote, with_watch_vote, with_decision, with_asked, stories_after}
 use Rattle.sc_law_groups.specs.whole.WholeDefinitions.{IsFresh, MergesFit}
+pub use Rattle.sc_law_groups.proofs.WholeProofs.StoryWalks.{put_so, with_story_so}
+use Rattle.sc_law_groups.proofs.WholeProofs.StoryWalks.{stories_keep}
 use Rattle.sc_law_groups.proofs.WholeProofs.FreshChildren.{fresh_child}
 use Rattle.sc_law_groups.proofs.WholeProofs.Members.{members_after}
 use Rattle.sc_law_groups.proofs.WholeProofs.Unions.{either_way}
-
--- what holds of each story is kept by one more story, and by one that goes on
-module _ (P : Draw → Story → Type 0) where
-  abbrev AllSo : Stories → Type 0
-  AllSo ys = (tx : Draw) (y : Story) → ys tx ≡ Some y → P tx y
-
-  pub put_so : (ys : Stories) (tx : Draw) (o : Option Story) → ((y : Story) → o ≡ Some y → P tx y) → AllSo ys → AllSo (put ys tx o)
-  put_so ys tx o new old t story = cond_both (same_draw t tx) o (ys t) (λ (x : Option Story). x ≡ Some story → P t story) (λ q e. subst (λ n. P n story) (sym (draw_is t tx q)) (new story e)) (λ _ e. old t story e)
-
-  pub with_story_so : (ys : Stories) (tx : Draw) (f : Story → Story) → ((y : Story) → ys tx ≡ Some y → P tx (f y)) → AllSo ys → AllSo (with_story ys tx f)
-  with_story_so ys tx f new old = by (ys tx) refl
-    where
-      by : (o : Option Story) → ys tx ≡ o → AllSo (put ys tx (option_map f o))
-      by None e = put_so ys tx None (λ y fact. cc) old
-      by (Some story) e = put_so ys tx (Some (f story)) (λ y fact. (let same : f story ≡ y = cc in subst (P tx) same (new story e))) old
 
 -- ---- stories
 
@@ -138,25 +125,17 @@ prepared_fit s roster tx offer y offered k = by (vote_in s (applied s (Prepared 
 
 -- stories fit with one command more
 entry_fit : (sources : Sources) (ys : Stories) (g : Draw) (s : Group) → IsRoster s.core.members → (c : Command) → IsAllowed sources ys g c → AllFit ys → AllFit (stories_after s c (applied s c).1 ys)
-entry_fit sources ys g s roster Noop a old = old
-entry_fit sources ys g s roster (Call client seq op) a old = old
-entry_fit sources ys g s roster (Join node order) a old = old
-entry_fit sources ys g s roster (Leave node order) a old = old
-entry_fit sources ys g s roster (Finish tx outcome) a old = old
-entry_fit sources ys g s roster (Split at child order) a old =
-    cond_both (is_changed (applied s (Split at child order)).1 && not (is_alone s.core)) (put ys child (Some (new_story s (At.Split at child)))) ys AllFit
-    (λ _. put_so (λ t y. FitsStory y) ys child (Some (new_story s (At.Split at child))) (λ y e. (let same : new_story s (At.Split at child) ≡ y = cc in subst FitsStory same (fit_new s roster (At.Split at child)))) old) (λ _. old)
-entry_fit sources ys g s roster (Begin tx body order) a old =
-    cond_both (is_changed (applied s (Begin tx body order)).1) (put ys tx (Some (new_story s body))) ys AllFit
-    (λ _. put_so (λ t y. FitsStory y) ys tx (Some (new_story s body)) (λ y e. (let same : new_story s body ≡ y = cc in subst FitsStory same (fit_new s roster body))) old) (λ _. old)
-entry_fit sources ys g s roster (Prepared tx offer) a old =
-    with_story_so (λ t y. FitsStory y) ys tx _ (λ y e. (let same : a.0 ≡ y = (let both : Some a.0 ≡ Some y = sym a.1 ∙ e in cc) in prepared_fit s roster tx offer y (ap (λ (z : Story). z.offer) (sym same) ∙ a.2) (old tx y e))) old
-entry_fit sources ys g s roster (Watched tx watch) a old = with_story_so (λ t y. FitsStory y) ys tx _ (λ y e. watched_fit (watch_vote_in (applied s (Watched tx watch)).1) y (old tx y e)) old
-entry_fit sources ys g s roster (RecordVote tx vote by) a old = with_story_so (λ t y. FitsStory y) ys tx _ (λ y e. (
-    let effect = (applied s (RecordVote tx vote by)).1 in
-    cond_both (is_changed effect) (with_asked s.core vote y) (with_decision (decided_in effect) y) FitsStory (λ _. asked_fit s.core vote y (old tx y e)) (λ _. decided_fit (decided_in effect) y (old tx y e)))) old
-entry_fit sources ys g s roster (RecordWatch tx vote by) a old = with_story_so (λ t y. FitsStory y) ys tx _ (λ y e. decided_fit (decided_in (applied s (RecordWatch tx vote by)).1) y (old tx y e)) old
-entry_fit sources ys g s roster (GiveUp tx) a old = with_story_so (λ t y. FitsStory y) ys tx _ (λ y e. decided_fit (decided_in (applied s (GiveUp tx)).1) y (old tx y e)) old
+entry_fit sources ys g s roster c a old = stories_keep sources ys g s (λ t y. FitsStory y) (record {
+  splits = λ at child order may. fit_new s roster (At.Split at child);
+  begins = λ tx body order may changed. fit_new s roster body;
+  votes = λ tx offer may y e k. (let same = same_Some may.0 y (sym may.1 ∙ e) in prepared_fit s roster tx offer y (ap (λ (z : Story). z.offer) (sym same) ∙ may.2) k);
+  watches = λ o tx y k. watched_fit o y k;
+  answers = λ tx vote by may y e k. (
+      let effect = (applied s (RecordVote tx vote by)).1 in
+      cond_both (is_changed effect) (with_asked s.core vote y) (with_decision (decided_in effect) y) FitsStory (λ _. asked_fit s.core vote y k) (λ _. decided_fit (decided_in effect) y k));
+  releases = λ tx vote by y e k. decided_fit (decided_in (applied s (RecordWatch tx vote by)).1) y k;
+  gives_up = λ tx y e k. decided_fit (decided_in (applied s (GiveUp tx)).1) y k;
+}) old c a
 
 -- the groups of a world have rosters
 abbrev HaveRosters : List Group → Type 0

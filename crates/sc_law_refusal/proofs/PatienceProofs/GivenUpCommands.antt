@@ -9,7 +9,7 @@ use Rattle.sc_law_entries.specs.names.NameDefinitions.{Opt}
 use Rattle.sc_law_entries.proofs.NamesProofs.EachFound.{opt_get, Each-drop, slot_with, slot_without, flight_without}
 use Rattle.sc_law_walks.proofs.WalkLemmas.{either_way, back_any}
 use Rattle.sc_law_walks.specs.WalkDefinitions.{IsFiledOnMail, IsOrder}
-use Rattle.sc_law_refusal.proofs.HeldCommands as held
+use Rattle.sc_law_entries.proofs.NamesProofs.HeldCommands as held
 
 -- a command, where it is a GiveUp, is of a transaction as W says
 abbrev pub Gives : (Draw → Type 0) → Command → Type 0

@@ -15,7 +15,7 @@ use Rattle.sc_law_walks.proofs.Talks.{all_sent, one_answered, all_answered, all_
 use Rattle.sc_law_walks.specs.WalkDefinitions.{IsKept}
 use Rattle.sc_law_refusal.proofs.RefusalProofs.Executing.{entered_name}
 use Rattle.sc_law_refusal.proofs.PatienceProofs.GivenUpCommands.{Gives, MailGives, Holds, Commands, Reports, filed_gives, order_gives, with_top, with_hint, with_calls, with_acts, back_gives, with_leader, with_ready, landed_gives, polled_gives, entry_gives, forgotten_gives, with_acceptor, counted_gives, held_gives}
-use Rattle.sc_law_refusal.proofs.HeldCommands.{without_held, flying_held, chosen_held, must_held}
+use Rattle.sc_law_entries.proofs.NamesProofs.HeldCommands.{without_held, flying_held, chosen_held, must_held}
 
 -- what goes back leaves the group as it is
 back_name : (command : Command) (r : ReplicaState) → name_of (put_back command r) ≡ name_of r

@@ -3,7 +3,7 @@ use Rattle.std.proofs.Common.{◌≡◌, ◌≤◌, ℕ, ◌&&◌, ◌||◌, eqb
 use Rattle.std.specs.List.{list_any}
 use Rattle.std.specs.Option.{option_map}
 use Rattle.sc_words.specs.paxos.PaxosDefinitions.{LeaderState, flight_at, LogState}
-use Rattle.sc_node_table.specs.Values.{Flight, Ballot, Draw, Command, Noop, Call, Join, Leave, Split, Begin, Prepared, RecordVote, GiveUp, Finish, Watched, RecordWatch, Effect, Route, AnswerBody, Mail, Learn}
+use Rattle.sc_node_table.specs.Values.{Flight, Ballot, Draw, Command, Noop, Call, Effect, Route, AnswerBody, Mail, Learn}
 use Rattle.sc_node_table.specs.NodeDefinitions.{same_command, elected, ended, stopped, entered, answer_of, answered_or_put_back, order_result, effect_reported, announced, learnt_to, welcomed, slot_lost, landed, left_gone, left, is_among, looked_for, looked, executed_one, next_child, has_room, next_ready, ending, executed_ready, all_ready, executed, sent_others, answer_to, put_back, ReplicaState, Place, Executed, childless, name_of, next, members, flying, forgotten, at_slot, before_of, spoken}
 use Rattle.std.proofs.lemmas.Bool.{cond_both, eqb-true, eq-eqb, or_parts, or_left, and_parts, true≢false}
 use Rattle.sc_mail.specs.declared.bodies.AnswerBody.TheVariants as Says
@@ -13,7 +13,8 @@ use Rattle.sc_group_table.proofs.MachineProofs.Lemmas.{state_push}
 use Rattle.sc_law_entries.proofs.NamesProofs.NameLemmas.{opt_slot, slot_without, flight_without}
 use Rattle.sc_law_walks.proofs.WalkLemmas.{reported_place, learnt_place, welcomed_place, cleared, either_way}
 use Rattle.sc_law_refusal.specs.refusal.RefusalDefinitions.{answers_in, effect_answers, log_with, log_after}
-use Rattle.sc_law_refusal.proofs.RefusalProofs.Keeping.{Kept, KeptOne, Due, Holds, back_kept, flying_kept}
+use Rattle.sc_law_refusal.proofs.RefusalProofs.Keeping.{Kept, KeptOne, Due, Holds, held_of, back_kept}
+use Rattle.sc_law_entries.proofs.NamesProofs.HeldCommands.{flying_held}
 use Rattle.sc_law_refusal.proofs.RefusalProofs.Plain.{others_plain, reported_plain, spoken_plain}
 use Rattle.sc_law_refusal.proofs.RefusalProofs.Answering.{reported_answers}
 use Rattle.sc_law_refusal.proofs.RefusalProofs.Standing.{AllCaused, plain_caused, entry_caused, turned_caused, StandsIn, FineAs, Fine, turned_fine, resent}
@@ -86,17 +87,7 @@ module _ (start : ReplicaState) (A : Command → Type 0) (G : Draw → ℕ → T
   back_fine : (command : Command) (r : ReplicaState) (mails : List Mail) → Kept A G command → Due A G command r.acts → F (r, mails) → F (put_back command r, mails)
   unfolding put_back
   back_fine Noop r mails k d f = (back_kept A G Noop r k d f.0, f.1)
-  back_fine (Call client seq op) r mails k d f = (back_kept A G (Call client seq op) r k d f.0, f.1)
-  back_fine (Join node order) r mails k d f = (back_kept A G (Join node order) r k d f.0, f.1)
-  back_fine (Leave node order) r mails k d f = (back_kept A G (Leave node order) r k d f.0, f.1)
-  back_fine (Split at child order) r mails k d f = (back_kept A G (Split at child order) r k d f.0, f.1)
-  back_fine (Begin tx body order) r mails k d f = (back_kept A G (Begin tx body order) r k d f.0, f.1)
-  back_fine (Prepared tx offer) r mails k d f = (back_kept A G (Prepared tx offer) r k d f.0, f.1)
-  back_fine (RecordVote tx vote by) r mails k d f = (back_kept A G (RecordVote tx vote by) r k d f.0, f.1)
-  back_fine (GiveUp tx) r mails k d f = (back_kept A G (GiveUp tx) r k d f.0, f.1)
-  back_fine (Finish tx outcome) r mails k d f = (back_kept A G (Finish tx outcome) r k d f.0, f.1)
-  back_fine (Watched tx watch) r mails k d f = (back_kept A G (Watched tx watch) r k d f.0, f.1)
-  back_fine (RecordWatch tx vote by) r mails k d f = (back_kept A G (RecordWatch tx vote by) r k d f.0, f.1)
+  back_fine command r mails k d f = (back_kept A G command r k d f.0, f.1)
 
   effect_fine : (effect : Effect) (command : Command) (place : Place) → F place → F (effect_reported (order_result command effect) command place)
   effect_fine effect command place f =
@@ -239,7 +230,7 @@ module _ (start : ReplicaState) (A : Command → Type 0) (G : Draw → ℕ → T
       let leads : place4.0.leader ≡ r.leader = as_it_was.0 in
       let acts : place4.0.acts ≡ r.acts = as_it_was.1 in
       let flies : flying place4.0 (next r) ≡ flying r (next r) = ap (λ (leader : LeaderState Command). option_map (λ (flight : Flight Command). flight.value) (flight_at (next r) leader.flights)) leads in
-      let f5 : F place5 = landed_fine counted (next r) command place4 (flying_kept A G place4.0 (next r) f4.0) (λ other e learns apart. subst (Due A G other) (sym acts) (d other (sym flies ∙ e) learns apart)) f4 in
+      let f5 : F place5 = landed_fine counted (next r) command place4 (flying_held (Kept A G) place4.0 (next r) (held_of A G place4.0 f4.0)) (λ other e learns apart. subst (Due A G other) (sym acts) (d other (sym flies ∙ e) learns apart)) f4 in
       left_past place5 f5
 
   -- a counted one

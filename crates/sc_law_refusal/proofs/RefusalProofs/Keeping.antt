@@ -1,17 +1,18 @@
 -- What is asked of the commands that a replica keeps stays true of those that it keeps on.
-use Rattle.std.proofs.Common.{◌≡◌, ◌≤◌, ◌+◌, ℕ, nat_lt, eqb, Bool, true, false, cond, List, [], ◌∷◌, ◌++◌, filter, length, length-append, Option, Some, None, sym, ap, ◌∙◌, subst, arith}
+use Rattle.std.proofs.Common.{◌≡◌, ◌≤◌, ◌+◌, ℕ, Bool, true, false, cond, List, [], ◌∷◌, ◌++◌, filter, length, length-append, Option, Some, None, sym, ap, ◌∙◌, subst, arith}
 use Rattle.std.proofs.lemmas.Bool.{cond_both}
 use Rattle.std.proofs.lemmas.List.Elements.{filter-append}
 use Rattle.sc_base.specs.Definitions.{same_draw, Each}
 use Rattle.sc_base.proofs.Lemmas.{draw_is}
-use Rattle.sc_node_table.specs.NodeDefinitions.{is_giving_up, queued_number, is_request_of, without_request, request_before, put_back, ReplicaState, flying, taken_at, listed, taken_from, open_slots, under_way, at_slot}
+use Rattle.sc_node_table.specs.NodeDefinitions.{is_giving_up, put_back, ReplicaState, flying, taken_at, listed, taken_from, open_slots, under_way, at_slot}
 use Rattle.sc_law_refusal.specs.refusal.RefusalDefinitions.{ends_queued}
 use Rattle.sc_node_table.specs.Values.{Draw, Command, Noop, Call, Join, Leave, Split, Begin, Prepared, RecordVote, GiveUp, Finish, Watched, RecordWatch, Must, Gap, Flight, Report}
 use Rattle.sc_words.proofs.PaxosProofs.PaxosLemmas.{Each-append}
 use Rattle.sc_words.specs.declared.paxos.answers.Must.TheVariants.{Value, Free as Open}
-use Rattle.sc_words.specs.paxos.PaxosDefinitions.{choice, chosen_value, names_above, flight_at, must, must_without}
+use Rattle.sc_words.specs.paxos.PaxosDefinitions.{choice, chosen_value, names_above, must, must_without}
 use Rattle.sc_law_entries.specs.names.NameDefinitions.{Opt}
-use Rattle.sc_law_entries.proofs.NamesProofs.NameLemmas.{opt_find, opt_map, opt_either, opt_slot, opt_choice}
+use Rattle.sc_law_entries.proofs.NamesProofs.NameLemmas.{opt_map, opt_either, opt_slot, opt_choice}
+use Rattle.sc_law_entries.proofs.NamesProofs.HeldCommands.{Held, back_held, flying_held}
 use Rattle.sc_law_walks.proofs.WalkLemmas.{either_way}
 
 -- one more at the start, and one more at the end
@@ -114,35 +115,24 @@ module _ (A : Command → Type 0) (G : Draw → ℕ → Type 0) where
 
   -- ---- what goes back
 
-  pub without_kept : (backlog : List Command) (client : ℕ) → KeptAll backlog → KeptAll (without_request backlog client)
-  without_kept [] client c = tt
-  without_kept (command ∷ backlog) client c = either_way KeptAll (is_request_of client command) _ _ c.1 (c.0, without_kept backlog client c.1)
+  -- its commands in the queues, with its leader, and ready
+  pub held_of : (r : ReplicaState) → Holds r → Held Kept r
+  held_of r h = (h.backlog, h.acts, h.flights, h.reports, h.ready)
 
-  before_kept : (o : Option ℕ) (client seq : ℕ) (command : Command) (backlog : List Command) → Kept command → KeptAll backlog → KeptAll (request_before o client seq command backlog)
-  before_kept None client seq command backlog k c = (k, c)
-  before_kept (Some other) client seq command backlog k c = either_way KeptAll (nat_lt other seq) _ _ (k, without_kept backlog client c) c
+  back_due : (command : Command) (r : ReplicaState) → Due command r.acts → DueAll r.acts → DueAll (put_back command r).acts
+  unfolding put_back
+  back_due Noop r d due = due
+  back_due (Call client seq op) r d due = due
+  back_due (Join node order) r d due = due
+  back_due (Leave node order) r d due = due
+  back_due (Split at child order) r d due = due
+  back_due (Begin tx body order) r d due = due
+  back_due command r d due = more_due command r.acts (command ∷ r.acts) (ends_before command r.acts) d due
 
   pub back_kept : (command : Command) (r : ReplicaState) → Kept command → Due command r.acts → Holds r → Holds (put_back command r)
-  unfolding put_back
-  back_kept Noop r k d h = h
-  back_kept (Call client seq op) r k d h =
-      with_calls r (request_before (queued_number r.backlog client) client seq (Call client seq op) r.backlog) (before_kept (queued_number r.backlog client) client seq (Call client seq op) r.backlog k h.backlog) h
-  back_kept (Join node order) r k d h = with_calls r (Join node order ∷ r.backlog) (k, h.backlog) h
-  back_kept (Leave node order) r k d h = with_calls r (Leave node order ∷ r.backlog) (k, h.backlog) h
-  back_kept (Split at child order) r k d h = with_calls r (Split at child order ∷ r.backlog) (k, h.backlog) h
-  back_kept (Begin tx body order) r k d h = with_calls r (Begin tx body order ∷ r.backlog) (k, h.backlog) h
-  back_kept (Prepared tx offer) r k d h = with_acts r (Prepared tx offer ∷ r.acts) (k, h.acts) (more_due (Prepared tx offer) r.acts (Prepared tx offer ∷ r.acts) (ends_before (Prepared tx offer) r.acts) d h.due) h
-  back_kept (RecordVote tx vote by) r k d h = with_acts r (RecordVote tx vote by ∷ r.acts) (k, h.acts) (more_due (RecordVote tx vote by) r.acts (RecordVote tx vote by ∷ r.acts) (ends_before (RecordVote tx vote by) r.acts) d h.due) h
-  back_kept (GiveUp tx) r k d h = with_acts r (GiveUp tx ∷ r.acts) (k, h.acts) (more_due (GiveUp tx) r.acts (GiveUp tx ∷ r.acts) (ends_before (GiveUp tx) r.acts) d h.due) h
-  back_kept (Finish tx outcome) r k d h = with_acts r (Finish tx outcome ∷ r.acts) (k, h.acts) (more_due (Finish tx outcome) r.acts (Finish tx outcome ∷ r.acts) (ends_before (Finish tx outcome) r.acts) d h.due) h
-  back_kept (Watched tx watch) r k d h = with_acts r (Watched tx watch ∷ r.acts) (k, h.acts) (more_due (Watched tx watch) r.acts (Watched tx watch ∷ r.acts) (ends_before (Watched tx watch) r.acts) d h.due) h
-  back_kept (RecordWatch tx vote by) r k d h = with_acts r (RecordWatch tx vote by ∷ r.acts) (k, h.acts) (more_due (RecordWatch tx vote by) r.acts (RecordWatch tx vote by ∷ r.acts) (ends_before (RecordWatch tx vote by) r.acts) d h.due) h
+  back_kept command r k d h = (let put = back_held Kept command r k (held_of r h) in record { backlog = put.0; acts = put.1; due = back_due command r d h.due; flights = put.2; ready = put.4; reports = put.3 })
 
   -- ---- what is in flight, counted or reported
-
-  pub flying_kept : (r : ReplicaState) (slot : ℕ) → Holds r → KeptOne (flying r slot)
-  flying_kept r slot h =
-      opt_map Flying Kept (λ (flight : Flight Command). flight.value) (λ flight k. k) (flight_at slot r.leader.flights) (opt_find Flying (λ (flight : Flight Command). eqb flight.slot slot) r.leader.flights h.flights)
 
   listed_kept : (o : Option Command) → KeptOne o → KeptAll (listed o)
   listed_kept None k = tt
@@ -152,7 +142,7 @@ module _ (A : Command → Type 0) (G : Draw → ℕ → Type 0) where
   taken_kept r [] h = tt
   taken_kept r (slot ∷ slots) h =
       Each-append Kept (listed (taken_at r slot)) (taken_from r slots)
-      (listed_kept (taken_at r slot) (opt_either Kept (flying r slot) (at_slot r.ready slot) (flying_kept r slot h) (opt_slot Kept r.ready slot h.ready))) (taken_kept r slots h)
+      (listed_kept (taken_at r slot) (opt_either Kept (flying r slot) (at_slot r.ready slot) (flying_held Kept r slot (held_of r h)) (opt_slot Kept r.ready slot h.ready))) (taken_kept r slots h)
 
   pub way_kept : (r : ReplicaState) → Holds r → KeptAll (under_way r)
   way_kept r h = taken_kept r (open_slots r) h

@@ -15,7 +15,8 @@ use Rattle.sc_node_table.specs.NodeDefinitions.{has_act, is_of_kind, with_act, a
 use Rattle.sc_law_walks.proofs.WalkLemmas.{either_way, TransactionParts}
 use Rattle.sc_law_walks.proofs.TransactionRows.{offer_keeps, watch_keeps, vote_keeps, watched_keeps, elsewhere_keeps, outcome_keeps}
 use Rattle.sc_law_refusal.specs.refusal.RefusalDefinitions.{LacksKey}
-use Rattle.sc_law_refusal.proofs.RefusalProofs.Keeping.{Kept, Due, with_calls, with_acts, without_kept, more_due, ends_after}
+use Rattle.sc_law_refusal.proofs.RefusalProofs.Keeping.{Kept, Due, with_calls, with_acts, more_due, ends_after}
+use Rattle.sc_law_entries.proofs.NamesProofs.HeldCommands.{without_held}
 use Rattle.sc_law_refusal.proofs.RefusalProofs.Plain.{again_plain, last_plain, reminders_plain, vote_plain, watched_plain, next_plain}
 use Rattle.sc_law_refusal.proofs.RefusalProofs.Standing.{CauseSo, CausedAnswer, AllCaused, plain_caused, answer_caused, stopped_caused, FineAs, Fine, resent, with_plain}
 use Rattle.sc_law_refusal.proofs.RefusalProofs.Locking.{allowed}
@@ -57,7 +58,7 @@ module _ (start : ReplicaState) (A : Command → Type 0) (G : Draw → ℕ → T
   queued_so (Some other) client seq op r mails a f =
       let backlog : List Command = without_request r.backlog client ++ Call client seq op ∷ [] in
       either_way F (nat_le seq other) (r, mails) (pumped (record r { backlog = backlog }, mails)) f
-      (pumped_fine start A G W Q false (record r { backlog = backlog }, mails) (with_calls A G r backlog (Each-append (Kept A G) (without_request r.backlog client) (Call client seq op ∷ []) (without_kept A G r.backlog client f.0.backlog) (a, tt)) f.0, f.1))
+      (pumped_fine start A G W Q false (record r { backlog = backlog }, mails) (with_calls A G r backlog (Each-append (Kept A G) (without_request r.backlog client) (Call client seq op ∷ []) (without_held (Kept A G) r.backlog client f.0.backlog) (a, tt)) f.0, f.1))
 
   -- one answer behind the mails
   said_fine : (refused : Bool) (client seq : ℕ) (op : Op) (answer : AnswerBody) (r : ReplicaState) (mails : List Mail) (f : FineAs start A G W Q refused true (r, mails)) → A (Call client seq op)

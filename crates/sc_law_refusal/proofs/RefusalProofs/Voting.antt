@@ -1,15 +1,14 @@
 -- The rows of Paxos: what a replica makes of promises, votes and executed entries that it is sent.
-use Rattle.std.proofs.Common.{◌≡◌, ◌≤◌, ℕ, ◌&&◌, not, nat_le, eqb, Bool, true, false, List, Option, Some, None, refl, sym, subst}
-use Rattle.sc_base.specs.Definitions.{Each, same_ballot, is_member, is_majority}
-use Rattle.sc_node_table.specs.Values.{Ballot, Draw, Command, Mail, Promise, Accepted, Nack, Report, Flight, PrepareAnswer, AcceptAnswer, Counted, Chosen, NotYet}
-use Rattle.sc_words.proofs.PaxosProofs.PaxosLemmas.{Each-append}
+use Rattle.std.proofs.Common.{◌≡◌, ◌≤◌, ℕ, ◌&&◌, nat_le, eqb, Bool, true, false, List, Option, Some, None, refl, sym, subst}
+use Rattle.sc_base.specs.Definitions.{Each}
+use Rattle.sc_node_table.specs.Values.{Ballot, Draw, Command, Mail, Promise, Accepted, Nack, Report, PrepareAnswer, AcceptAnswer, Counted, Chosen, NotYet}
 use Rattle.sc_words.specs.declared.paxos.answers.PrepareAnswer.TheVariants as Prepared
 use Rattle.sc_words.specs.declared.paxos.answers.AcceptAnswer.TheVariants as Asked
-use Rattle.sc_words.specs.paxos.PaxosDefinitions.{prepared, accepted as accepted_by, AcceptorState, LeaderState, flight_at, promise_counted, kept_voters, voters_after, tallied, vote_at, counted}
+use Rattle.sc_words.specs.paxos.PaxosDefinitions.{prepared, accepted as accepted_by, AcceptorState, LeaderState, promise_counted, counted}
 use Rattle.sc_node_table.specs.NodeDefinitions.{with_slot, ReplicaState, Place, Executed, childless, name_of, next, set_at, sent, saw, executed, has_room, install_to, pumped, most_taught, ask_row, hinted, promise_to, prepare_row, accepted_to, took, accept_row, leads, promise_row, readied, vote_tallied, voted, accepted_row, nack_row}
-use Rattle.sc_law_entries.specs.names.NameDefinitions.{Opt}
-use Rattle.sc_law_entries.proofs.NamesProofs.NameLemmas.{opt_find, slot_with, flight_without, voters_with}
-use Rattle.sc_law_walks.proofs.WalkLemmas.{promised_place, asked_place, either_way}
+use Rattle.sc_law_entries.proofs.NamesProofs.NameLemmas.{slot_with}
+use Rattle.sc_law_walks.proofs.WalkLemmas.{promised_place, asked_place, either_way, promise_ballot, counted_ballot}
+use Rattle.sc_law_entries.proofs.NamesProofs.HeldCommands.{polled_held, counted_held, chosen_held}
 use Rattle.sc_law_refusal.proofs.RefusalProofs.Keeping.{Kept, Flying, Reported, Holds}
 use Rattle.sc_law_refusal.proofs.RefusalProofs.Plain.{taught_plain}
 use Rattle.sc_law_refusal.proofs.RefusalProofs.Standing.{AllCaused, plain_caused, Stands, FineAs, Fine, turned_fine, resent, with_plain}
@@ -84,8 +83,8 @@ module _ (start : ReplicaState) (A : Command → Type 0) (G : Draw → ℕ → T
 
   counted_leads : (node : ℕ) (ballot : Ballot) (reports : List (Report Command)) (r : ReplicaState) → Each (Reported A G) reports → Holds A G r → Leads r (promise_counted node ballot reports r.leader).1
   counted_leads node ballot reports r p h =
-      either_way (λ (x : Bool × LeaderState Command). Leads r x.1) (same_ballot ballot r.leader.ballot && not (is_member r.leader.promisers node)) _ _
-      (record { flights = h.flights; reports = Each-append (Reported A G) r.leader.reports reports h.reports p; ballot = refl }) (record { flights = h.flights; reports = h.reports; ballot = refl })
+      let held = polled_held (Kept A G) node ballot reports r.leader p (h.flights, h.reports) in
+      record { flights = held.0; reports = held.1; ballot = promise_ballot node ballot reports r.leader }
 
   pub promise_row_fine : (from : ℕ) (ballot : Ballot) (reports : List (Report Command)) (r : ReplicaState) (mails : List Mail) → Each (Reported A G) reports → F false (r, mails) → F false (promise_row from ballot reports (r, mails))
   unfolding promise_row
@@ -102,23 +101,16 @@ module _ (start : ReplicaState) (A : Command → Type 0) (G : Draw → ℕ → T
   abbrev Counts : ReplicaState → Counted Command × LeaderState Command → Type 0
   Counts r p = CountOf p.0 × Leads r p.1
 
-  tallied_counts : (slot : ℕ) (value : Command) (members : List ℕ) (voters : Option (List ℕ)) (r : ReplicaState) → Kept A G value → Holds A G r → Counts r (tallied slot value members voters r.leader)
-  tallied_counts slot value members voters r k h =
-      either_way (Counts r) (is_majority members (kept_voters voters)) _ _
-      (k, record { flights = flight_without (Kept A G) slot r.leader.flights h.flights; reports = h.reports; ballot = refl })
-      (tt, record { flights = voters_with (Kept A G) slot voters r.leader.flights h.flights; reports = h.reports; ballot = refl })
-
-  same_leads : (r : ReplicaState) → Holds A G r → Leads r r.leader
-  same_leads r h = record { flights = h.flights; reports = h.reports; ballot = refl }
-
-  vote_counts : (node slot : ℕ) (members : List ℕ) (o : Option (Flight Command)) (r : ReplicaState) → Opt (Flying A G) o → Holds A G r → Counts r (vote_at node slot members o r.leader)
-  vote_counts node slot members None r k h = (tt, same_leads r h)
-  vote_counts node slot members (Some flight) r k h = tallied_counts slot flight.value members (voters_after members node flight.voters) r k h
+  counts_so : (p : Counted Command × LeaderState Command) → ((command : Command) → p.0 ≡ Chosen command → Kept A G command) → CountOf p.0
+  counts_so (Chosen command, leader) k = k command refl
+  counts_so (NotYet count, leader) k = tt
 
   counted_counts : (node : ℕ) (ballot : Ballot) (slot : ℕ) (members : List ℕ) (r : ReplicaState) → Holds A G r → Counts r (counted node ballot slot members r.leader)
   counted_counts node ballot slot members r h =
-      either_way (Counts r) (same_ballot ballot r.leader.ballot) (vote_at node slot members (flight_at slot r.leader.flights) r.leader) (NotYet 0, r.leader)
-      (vote_counts node slot members (flight_at slot r.leader.flights) r (opt_find (Flying A G) (λ (flight : Flight Command). eqb flight.slot slot) r.leader.flights h.flights) h) (tt, same_leads r h)
+      let held = counted_held (Kept A G) node ballot slot members r.leader (h.flights, h.reports) in (
+        counts_so (counted node ballot slot members r.leader) (chosen_held (Kept A G) node ballot slot members r.leader (h.flights, h.reports)),
+        record { flights = held.0; reports = held.1; ballot = counted_ballot node ballot slot members r.leader },
+      )
 
   -- one that executes nothing
   still : (place : Place) → E place → After place

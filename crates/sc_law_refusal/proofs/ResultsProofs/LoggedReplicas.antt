@@ -1,9 +1,9 @@
 -- A replica executes the log of its group while a row lasts: what it executes is the next entry of a log of the steps before the row, and what is ready was chosen.
-use Rattle.std.proofs.Common.{◌≡◌, ℕ, ◌+◌, ◌-◌, ◌≤◌, refl, sym, ◌∙◌, ap, subst, List, [], ◌∷◌, ◌++◌, length, Option, Some, None, arith, eqb}
-use Rattle.std.specs.Prelude.{slice_get, nat_lt}
-use Rattle.std.proofs.lemmas.Bool.{cond_both, eqb-true, ltb-false}
+use Rattle.std.proofs.Common.{◌≡◌, ℕ, ◌+◌, ◌≤◌, refl, sym, ◌∙◌, ap, subst, List, [], ◌∷◌, ◌++◌, length, Option, Some, None, arith, eqb}
+use Rattle.std.proofs.lemmas.Bool.{cond_both, eqb-true}
 use Rattle.std.proofs.lemmas.List.{length_push, drop_all}
 use Rattle.sc_base.specs.Definitions.{Among, Each, is_majority, same_ballot}
+use Rattle.sc_base.proofs.Lemmas.{ballot_is}
 use Rattle.sc_node_table.specs.Values.{Ballot, Draw, Command, Base, Counted, Chosen, Flight}
 use Rattle.sc_group_table.specs.machine.MachineDefinitions.{Group, group_of, applied}
 use Rattle.sc_words.specs.paxos.PaxosDefinitions.{LeaderState, LogState, flight_at, installed, kept_voters, voters_after, counted, vote_at}
@@ -14,11 +14,11 @@ use Rattle.sc_node_table.specs.NodeDefinitions.{ReplicaState, name_of, next, set
 use Rattle.sc_law_entries.proofs.HistoryProofs.HistoryLemmas.{state_same}
 use Rattle.sc_law_walks.proofs.WalkLemmas.{entry_is}
 use Rattle.sc_meaning.specs.sound.SoundDefinitions.{Ahead}
-use Rattle.sc_law_groups.proofs.GroupProofs.GroupLemmas.{IsLearnt, by_own_log, Each-without_slot, Steps, rule, first, birth, IsReplica, IsState, next_after}
+use Rattle.sc_law_groups.proofs.GroupProofs.GroupLemmas.{IsLearnt, by_own_log, Each-without_slot, Steps, rule, first, birth, IsReplica, IsState}
 use Rattle.sc_law_groups.proofs.GroupProofs.Invariant.{HasLog, next_is, pushed_has, cut_has}
 use Rattle.sc_law_groups.proofs.GroupProofs.ForgottenEntries.{floor_low}
 use Rattle.sc_law_groups.proofs.GroupProofs.Counting.{each_with_slot}
-use Rattle.sc_law_groups.proofs.GroupProofs.MajorityVotes.{learnt_here}
+use Rattle.sc_law_groups.proofs.GroupProofs.MajorityVotes.{set_is, learnt_here}
 
 module _ (ahead : Ahead) (base : Base) (h : Steps) (lawful : IsLawfulHistory (rule ahead base) (first ahead base) h) where
   abbrev Any : Command → Type 0
@@ -127,25 +127,10 @@ module _ (ahead : Ahead) (base : Base) (h : Steps) (lawful : IsLawfulHistory (ru
         cond_both (is_majority set (kept_voters (voters_after set from flight.voters))) _ _ Chooses
         (λ most command f. (let same : flight.value ≡ command = cc in subst (IsLearnt (rule ahead base) h slot) same (learnt_here ahead base made me h lawful from slot set r k d did fact known flight there.0 at most))) (λ _ command f. cc)
 
-    pub chooses : Chooses (counted from b slot set r.leader)
-    chooses = cond_both (same_ballot b r.leader.ballot) _ _ Chooses (λ _. chooses_at (flight_at slot r.leader.flights) refl) (λ _ command f. cc)
-
-  -- the members of an open slot are those that the log gives
-  set_is : (made : Command → Type 0) (me slot : ℕ) (set : List ℕ) (r : ReplicaState) (k : IsReplica ahead base made h me r) → set_at slot r ≡ Some set → (set ≡ members_of (rule ahead base) k.whole slot) × (needed (rule ahead base) slot ≤ length k.whole)
-  set_is made me slot set r k e =
-      cond_both (nat_lt slot (next r)) None (slice_get r.sets (slot - next r))
-      (λ (o : Option (List ℕ)). o ≡ Some set → (set ≡ members_of (rule ahead base) k.whole slot) × (needed (rule ahead base) slot ≤ length k.whole))
-      (λ _ x. cc)
-      (λ n x. (
-      let up = ltb-false slot (next r) n in
-      let at = next_after ahead base made h me r k in
-      let same : length k.whole + 1 + (slot - next r) ≡ slot = omega (arith, up, at) in
-      subst (λ m. (set ≡ members_of (rule ahead base) k.whole m) × (needed (rule ahead base) m ≤ length k.whole)) same (k.sets (slot - next r) set x))) e
-
   -- a vote that decides its slot is for what was chosen there
-  pub vote_chooses : (made : Command → Type 0) (me from slot : ℕ) (ballot : Ballot) (set : List ℕ) (r : ReplicaState) → IsReplica ahead base made h me r → (d : Command) → Among (Accepted from ballot slot d) h → ballot ≡ r.leader.ballot → set_at slot r ≡ Some set
+  pub vote_chooses : (made : Command → Type 0) (me from slot : ℕ) (ballot : Ballot) (set : List ℕ) (r : ReplicaState) → IsReplica ahead base made h me r → (d : Command) → Among (Accepted from ballot slot d) h → set_at slot r ≡ Some set
       → (command : Command) → (counted from ballot slot set r.leader).0 ≡ Chosen command → IsLearnt (rule ahead base) h slot command
-  vote_chooses made me from slot ballot set r k d did same e =
-      let here = set_is made me slot set r k e in
-      subst (λ bb. (command : Command) → (counted from bb slot set r.leader).0 ≡ Chosen command → IsLearnt (rule ahead base) h slot command) (sym same)
-      (chooses made me from slot set r k d (subst (λ bb. Among (Accepted from bb slot d) h) same did) here.0 here.1)
+  vote_chooses made me from slot ballot set r k d did e =
+      let here = set_is ahead base made h me slot set r k e in
+      cond_both (same_ballot ballot r.leader.ballot) _ _ (λ (p : Counted Command × LeaderState Command). (command : Command) → p.0 ≡ Chosen command → IsLearnt (rule ahead base) h slot command)
+      (λ t. chooses_at made me from slot set r k d (subst (λ b. Among (Accepted from b slot d) h) (ballot_is ballot r.leader.ballot t) did) here.0 here.1 (flight_at slot r.leader.flights) refl) (λ _ command f. cc)

@@ -18,7 +18,7 @@ use Rattle.sc_law_refusal.specs.refusal.RefusalDefinitions.{IsBroughtBy, IsHeldO
 use Rattle.sc_law_refusal.specs.refusal.Causes.{IsBrought}
 use Rattle.sc_law_refusal.specs.results.ResultDefinitions.{EndsOrder, ReportAs, RefusesLine, IsNotTaken, IsDismissed}
 use Rattle.sc_law_refusal.proofs.RefusalProofs.NodeSteps.{put_among, children_among}
-use Rattle.sc_law_refusal.proofs.HeldCommands.{Held}
+use Rattle.sc_law_entries.proofs.NamesProofs.HeldCommands.{Held}
 use Rattle.sc_law_refusal.proofs.ResultsProofs.ReportedRows.{Waits, IsBack, HasStopped, Brings}
 use Rattle.sc_law_refusal.proofs.ResultsProofs.ReportedSteps.{number_is, begins, mailed_ends, ordered_ends, ticked_ends, made_ends}
 

@@ -2,7 +2,7 @@
 use Rattle.std.proofs.Common.{◌≡◌, ℕ, ◌+◌, ◌<◌, ◌≤◌, cond, Bool, true, false, true≢false, refl, sym, ◌∙◌, subst, List, [], ◌∷◌, ◌++◌, Option, Some, None, ◌⊎◌, inl, inr, arith}
 use Rattle.std.proofs.lemmas.Bool.{cond_both}
 use Rattle.sc_base.specs.Definitions.{Among, Each}
-use Rattle.sc_node_table.specs.Values.{Ballot, Command, Noop, Call, Join, Leave, Split, Begin, GiveUp, Base, AnswerBody, OrderResult, Refused, Flight, Report, Mail, MailBody, Request, Prepare, Promise, Accept, Accepted, Learn, Install, Told}
+use Rattle.sc_node_table.specs.Values.{Ballot, Command, Noop, Call, Join, Leave, Split, Begin, GiveUp, Base, AnswerBody, OrderResult, Refused, Chosen, Flight, Report, Mail, MailBody, Request, Prepare, Promise, Accept, Accepted, Learn, Install, Told}
 use Rattle.sc_words.specs.declared.commands.orders.OrderRefusal.TheVariants.{NotLeader}
 use Rattle.sc_group_table.specs.machine.MachineDefinitions.{applied, state_after}
 use Rattle.sc_group_table.specs.policy.PolicyDefinitions.{is_reported}
@@ -11,18 +11,18 @@ use Rattle.sc_words.proofs.PaxosProofs.PaxosLemmas.{Each-among, Each-append, Eac
 use Rattle.sc_paxos_law.specs.PaxosLawDefinitions.{IsLog, IsLawfulHistory, Accepted as AcceptedStep}
 use Rattle.sc_law_entries.specs.names.NameDefinitions.{Opt}
 use Rattle.sc_law_entries.proofs.HistoryProofs.HistoryLemmas.{applied_same}
-use Rattle.sc_law_entries.proofs.NamesProofs.EachFound.{opt_slot, slot_without, flight_without}
-use Rattle.sc_node_table.specs.NodeDefinitions.{ReplicaState, Place, name_of, next, at_slot, without_slot, without_request, open_nodes, ended, entered, jumped, forgotten, offered, put_back, answered_all, under_way, before_of, order_number, begun_result, spoken_number, spoken_mails, begun_reported, result_reported, went_on}
+use Rattle.sc_law_entries.proofs.NamesProofs.EachFound.{opt_slot, slot_with, slot_without, flight_without}
+use Rattle.sc_node_table.specs.NodeDefinitions.{ReplicaState, Place, name_of, next, set_at, at_slot, with_slot, without_slot, without_request, open_nodes, ended, entered, jumped, forgotten, offered, put_back, answered_all, under_way, before_of, order_number, begun_result, spoken_number, spoken_mails, begun_reported, result_reported, went_on}
 use Rattle.sc_meaning.specs.sound.SoundDefinitions.{Ahead}
-use Rattle.sc_law_groups.proofs.GroupProofs.GroupLemmas.{IsLearnt, Steps, rule, first, birth, IsState, slot_among}
+use Rattle.sc_law_groups.proofs.GroupProofs.GroupLemmas.{IsLearnt, Steps, rule, first, birth, IsReplica, IsState, slot_among}
 use Rattle.sc_law_walks.specs.WalkDefinitions.{IsFiledOnMail}
 use Rattle.sc_law_walks.proofs.WalkLemmas.{below_round, promise_ballot, counted_ballot, either_way, back_any, TableFacts, TableStates, TableSays, TableWalk, TableTicks, all_heard, TableEntry, entry_holds}
 use Rattle.sc_law_walks.proofs.PlaceWalks.{Parties}
 use Rattle.sc_law_walks.proofs.Talks.{all_sent, client_reported, one_replied, all_replied, vote_reported, watch_reported, outcome_said, next_one_asked, went_said, all_reminded}
 use Rattle.sc_law_refusal.specs.results.ResultDefinitions.{IsOf, EndsOrder, IfReported, ReportAs}
 use Rattle.sc_law_refusal.proofs.ResultsProofs.Reports.{puts, parties_told, reported, begun_said, all_dismissed, order_ends, begun_ends, is_of}
-use Rattle.sc_law_refusal.proofs.HeldCommands.{Commands, Flights, Reports, Ready, Held, without_held, back_held, last_held, flying_held, polled_held, counted_held, must_held}
-use Rattle.sc_law_refusal.proofs.ResultsProofs.LoggedReplicas.{IsLogged, longer_is, enters, clears, unready, jumps}
+use Rattle.sc_law_entries.proofs.NamesProofs.HeldCommands.{Commands, Flights, Reports, Ready, Held, without_held, back_held, last_held, flying_held, polled_held, counted_held, chosen_held, must_held}
+use Rattle.sc_law_refusal.proofs.ResultsProofs.LoggedReplicas.{IsLogged, longer_is, enters, clears, unready, readies_more, jumps, vote_chooses}
 
 -- what tells so tells what follows from it
 told_so : (Fact More : ℕ → OrderResult → Type 0) → ((number : ℕ) (result : OrderResult) → Fact number result → More number result) → (body : MailBody) → IfReported Fact body → IfReported More body
@@ -171,7 +171,7 @@ module _ (ahead : Ahead) (base : Base) (h : Steps) (lawful : IsLawfulHistory (ru
   saw_later ballot r mails t k = (let later = below_round r.top ballot t in let low = k.1.2 in (k.0, (k.1.0, k.1.1, omega (arith, later, low), k.1.3), k.2))
 
   -- the leader's ballot stays
-  pub with_leader : (ended : Bool) (r : ReplicaState) (leader : LeaderState Command) → leader.ballot ≡ r.leader.ballot → Flights P leader.flights × Reports P leader.reports → Stands ended r → Stands ended (record r { leader = leader })
+  with_leader : (ended : Bool) (r : ReplicaState) (leader : LeaderState Command) → leader.ballot ≡ r.leader.ballot → Flights P leader.flights × Reports P leader.reports → Stands ended r → Stands ended (record r { leader = leader })
   with_leader ended r leader same l k = (
     k.0,
     (k.1.0, k.1.1, l.0, l.1, k.1.4),
@@ -189,20 +189,12 @@ module _ (ahead : Ahead) (base : Base) (h : Steps) (lawful : IsLawfulHistory (ru
 
   -- ---- the walk
 
-  -- what a mail of the group says; votes are counted apart
-  abbrev pub Says : ℕ → MailBody → Type 0
-  Says from (Accepted group ballot slot) = ⊥
-  Says from (Learn group slot command) = IsLearnt (rule ahead base) h slot command
-  Says from (Install group slot state sets) = IsState ahead base made h slot state sets
-  Says from (Promise group ballot reports) = Reports P reports
-  Says from _ = Unit {0}
-
   abbrev pub reported_facts : TableFacts
   reported_facts = record {
-    First = λ r. Unit {0};
+    First = λ r. (me : ℕ) × IsReplica ahead base made h me r;
     Early = λ place. ReportsSo place;
     Late = λ place. ReportsSo place;
-    Hears = λ from body. Says from body;
+    Hears = λ from body. Brings ahead base h made W from body;
     Round = λ ballot. Unit {0};
     Entry = λ slot command. IsLearnt (rule ahead base) h slot command;
     Files = λ act. Unit {0};
@@ -229,6 +221,16 @@ module _ (ahead : Ahead) (base : Base) (h : Steps) (lawful : IsLawfulHistory (ru
   no_order : (command : Command) → ((number : ℕ) → IsOf number command → ⊥) → P command
   no_order command none = λ number own t. absurd (none number own)
 
+  -- a vote that decides its slot is for what was chosen there
+  votes : (from : ℕ) (ballot : Ballot) (slot : ℕ) (set : List ℕ) (command : Command) (r : ReplicaState) (mails : List Mail) → ((me : ℕ) × IsReplica ahead base made h me r) → ((d : Command) × Among (AcceptedStep from ballot slot d) h) → set_at slot r ≡ Some set
+      → (counted from ballot slot set r.leader).0 ≡ Chosen command → ReportsSo (r, mails) → IsLearnt (rule ahead base) h slot command × ReportsSo (record r { leader = (counted from ballot slot set r.leader).1; ready = with_slot r.ready slot command }, mails)
+  votes from ballot slot set command r mails first did is_open e k =
+      let t = vote_chooses ahead base h lawful made first.0 from slot ballot set r first.1 did.0 did.1 is_open command e in
+      let p : P command = chosen_held P from ballot slot set r.leader (k.1.1.2, k.1.1.3) command e in
+      let led : Stands k.0 (record r { leader = (counted from ballot slot set r.leader).1 }) =
+      with_leader k.0 r (counted from ballot slot set r.leader).1 (counted_ballot from ballot slot set r.leader) (counted_held P from ballot slot set r.leader (k.1.1.2, k.1.1.3)) k.1 in
+      (t, (k.0, ((led.0.0, readies_more ahead base h lawful slot command r t k.1.0.1), (led.1.0, led.1.1, led.1.2, led.1.3, slot_with P r.ready slot command p led.1.4), led.2, led.3), k.2))
+
   pub reported_states : TableStates reported_facts
   reported_states = record {
     late = λ place k. k;
@@ -249,7 +251,7 @@ module _ (ahead : Ahead) (base : Base) (h : Steps) (lawful : IsLawfulHistory (ru
     seen = λ ballot r mails good t on k. saw_later ballot r mails t k;
     polled = λ from group ballot reports r mails on t k. (k.0, with_leader k.0 r (promise_counted from ballot reports r.leader).1 (promise_ballot from ballot reports r.leader) (polled_held P from ballot reports r.leader t (k.1.1.2, k.1.1.3)) k.1, k.2);
     counts = λ from ballot slot set count r mails on e k. (k.0, with_leader k.0 r (counted from ballot slot set r.leader).1 (counted_ballot from ballot slot set r.leader) (counted_held P from ballot slot set r.leader (k.1.1.2, k.1.1.3)) k.1, k.2);
-    chosen = λ from group ballot slot set command r mails on e t k. absurd t;
+    chosen = λ from group ballot slot set command r mails vote e t k. votes from ballot slot set command r mails vote.first t vote.members_are e k;
     promised = λ from group ballot from_slot r mails t top may k. (k.0, k.1, puts r.me (MayGiveOrder k.0) from _ mails tt k.2);
     accepted = λ from group report r mails t top may k. (k.0, k.1, puts r.me (MayGiveOrder k.0) from _ mails tt k.2);
     filed = λ act r mails on q e brought k. with_acts r mails (r.acts ++ act ∷ []) (last_held P r.acts act (filed_waits W act q) k.1.1.1) k;

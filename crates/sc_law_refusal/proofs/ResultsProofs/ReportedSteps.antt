@@ -1,29 +1,25 @@
 -- What a replica reports of orders in any row of its table.
-use Rattle.std.proofs.Common.{◌≡◌, ℕ, ◌≤◌, eqb, ◌&&◌, Bool, true, false, true≢false, refl, sym, ◌∙◌, ap, arith, subst, List, [], ◌∷◌, ◌++◌, Option, Some, None, inl, inr}
+use Rattle.std.proofs.Common.{◌≡◌, ℕ, ◌≤◌, ◌&&◌, Bool, true, false, true≢false, refl, sym, ◌∙◌, ap, arith, subst, List, [], ◌∷◌, ◌++◌, Option, Some, None, inl, inr}
 use Rattle.std.specs.Option.{option_map}
 use Rattle.std.specs.FinMap.{entries}
-use Rattle.std.proofs.lemmas.Bool.{cond_both, and_parts, eqb-true}
-use Rattle.sc_base.specs.Definitions.{Among, Drawer, next_name, same_ballot}
-use Rattle.sc_base.proofs.Lemmas.{ballot_is}
-use Rattle.sc_node_table.specs.Values.{Ballot, Draw, Command, Base, Order, OrderLine, OrderRefusal, OrderResult, Refused, Counted, Chosen, NotYet, Mail, MailBody, Request, Answer, Prepare, Promise, Accept, Accepted, Nack, Learn, Ask, Install, TxPrepare, TxVote, TxOutcome, TxElsewhere, TxWatch, TxWatched, Told}
+use Rattle.std.proofs.lemmas.Bool.{cond_both}
+use Rattle.sc_base.specs.Definitions.{Drawer, next_name}
+use Rattle.sc_node_table.specs.Values.{Draw, Command, Base, Order, OrderLine, OrderRefusal, OrderResult, Refused, Mail, MailBody}
 use Rattle.sc_words.specs.declared.commands.orders.Order.TheVariants as An
 use Rattle.sc_group_table.specs.machine.MachineDefinitions.{state_after}
 use Rattle.sc_group_table.specs.policy.PolicyDefinitions.{is_reported, wished_order}
-use Rattle.sc_words.specs.paxos.PaxosDefinitions.{LeaderState, counted}
-use Rattle.sc_paxos_law.specs.PaxosLawDefinitions.{IsLog, IsLawfulHistory, Accepted as AcceptedStep}
-use Rattle.sc_law_entries.proofs.NamesProofs.EachFound.{slot_with}
-use Rattle.sc_node_table.specs.NodeDefinitions.{ReplicaState, Place, Executed, childless, name_of, next, at_slot, with_slot, set_at, has_room, leads, voted, vote_tallied, readied, accepted_row, executed, forgotten, ordered_command, ordered_row, queued_or_refused, untaken, result_sent, wished_line, policy_line, is_at_rest, waited_in, tick_row, mailed, made_by, named, installed_replica}
+use Rattle.sc_paxos_law.specs.PaxosLawDefinitions.{IsLog, IsLawfulHistory}
+use Rattle.sc_node_table.specs.NodeDefinitions.{ReplicaState, Place, name_of, forgotten, ordered_command, ordered_row, queued_or_refused, untaken, result_sent, wished_line, policy_line, is_at_rest, waited_in, tick_row, mailed, made_by, named, installed_replica}
 use Rattle.sc_meaning.specs.sound.SoundDefinitions.{Ahead}
-use Rattle.sc_law_groups.proofs.GroupProofs.GroupLemmas.{IsLearnt, Steps, rule, first, birth, IsReplica, IsState}
-use Rattle.sc_law_walks.proofs.WalkLemmas.{counted_ballot}
-use Rattle.sc_law_walks.proofs.TableParts.{execution, pumps}
+use Rattle.sc_law_groups.proofs.GroupProofs.GroupLemmas.{Steps, rule, first, birth, IsReplica, IsState}
+use Rattle.sc_law_walks.proofs.TableParts.{pumps}
 use Rattle.sc_law_walks.proofs.TableRows as rows
 use Rattle.sc_law_walks.proofs.TableTicks as tick
 use Rattle.sc_law_refusal.specs.results.ResultDefinitions.{IsOf, EndsOrder, ReportAs}
 use Rattle.sc_law_refusal.proofs.ResultsProofs.Reports.{puts}
-use Rattle.sc_law_refusal.proofs.HeldCommands.{Flights, Reports, Held, last_held, counted_held, chosen_held}
-use Rattle.sc_law_refusal.proofs.ResultsProofs.LoggedReplicas.{is_logged, readies_more, makes, vote_chooses}
-use Rattle.sc_law_refusal.proofs.ResultsProofs.ReportedRows.{tell_so, Waits, IsBack, HasStopped, Brings, MayGiveOrder, ReportsSo, with_leader, with_backlog, reported_walk, reported_ticks}
+use Rattle.sc_law_entries.proofs.NamesProofs.HeldCommands.{Held, last_held}
+use Rattle.sc_law_refusal.proofs.ResultsProofs.LoggedReplicas.{is_logged, makes}
+use Rattle.sc_law_refusal.proofs.ResultsProofs.ReportedRows.{tell_so, Waits, IsBack, HasStopped, Brings, MayGiveOrder, ReportsSo, with_backlog, reported_walk, reported_ticks}
 
 -- an order of a policy has no number that is reported
 wished_number : (o : Option Order) (line : OrderLine) → option_map policy_line o ≡ Some line → line.number ≡ 0
@@ -53,39 +49,6 @@ module _ (ahead : Ahead) (base : Base) (h : Steps) (lawful : IsLawfulHistory (ru
   abbrev P : Command → Type 0
   P command = Waits W command
 
-  -- ---- a vote that is counted
-
-  readied_keeps : (slot : ℕ) (command : Command) (r : ReplicaState) (mails : List Mail) → r.running ≡ true → IsLearnt (rule ahead base) h slot command → P command → Goes (r, mails) → Goes (readied slot command (r, mails)).0
-  unfolding readied
-  readied_keeps slot command r mails on t p k =
-      let after : ReplicaState = record r { ready = with_slot r.ready slot command } in
-      let more : Goes (after, mails) = (k.0, ((k.1.0.0, readies_more ahead base h lawful slot command r t k.1.0.1), (k.1.1.0, k.1.1.1, k.1.1.2, k.1.1.3, slot_with P r.ready slot command p k.1.1.4), k.1.2, k.1.3), k.2) in
-      cond_both (eqb slot (next r) && has_room r) (executed true command (after, mails)) (childless (after, mails)) (λ (step : Executed). Goes step.0)
-      (λ e. (let is_next = eqb-true slot (next r) (and_parts (eqb slot (next r)) (has_room r) e).0 in
-      (execution (reported_walk ahead base h lawful made Fact decided W round) true command (after, mails)
-      (on, subst (λ s. at_slot (with_slot r.ready slot command) s ≡ Some command) is_next (rows.put_there r.ready slot command), subst (λ s. IsLearnt (rule ahead base) h s command) is_next t) more).0)) (λ _. more)
-
-  tallied_keeps : (slot : ℕ) (p : Counted Command × LeaderState Command) (r : ReplicaState) (mails : List Mail) → r.running ≡ true → ((command : Command) → p.0 ≡ Chosen command → IsLearnt (rule ahead base) h slot command × P command)
-      → p.1.ballot ≡ r.leader.ballot → Flights P p.1.flights × Reports P p.1.reports → Goes (r, mails) → Goes (vote_tallied slot p (r, mails)).0
-  tallied_keeps slot (Chosen command, leader) r mails on t same l k =
-      let so = t command refl in
-      readied_keeps slot command (record r { leader = leader }) mails on so.0 so.1 (k.0, with_leader ahead base h lawful made Fact decided W round k.0 r leader same l k.1, k.2)
-  tallied_keeps slot (NotYet count, leader) r mails on t same l k = (k.0, with_leader ahead base h lawful made Fact decided W round k.0 r leader same l k.1, k.2)
-
-  voted_keeps : (me from : ℕ) (ballot : Ballot) (slot : ℕ) (o : Option (List ℕ)) (r : ReplicaState) (mails : List Mail) → set_at slot r ≡ o → r.running ≡ true → ballot ≡ r.leader.ballot → IsReplica ahead base made h me r → (d : Command) → Among (AcceptedStep from ballot slot d) h
-      → Goes (r, mails) → Goes (voted from ballot slot o (r, mails)).0
-  voted_keeps me from ballot slot None r mails e on fact replica d did k = k
-  voted_keeps me from ballot slot (Some set) r mails e on fact replica d did k =
-      tallied_keeps slot (counted from ballot slot set r.leader) r mails on
-      (λ command f. (vote_chooses ahead base h lawful made me from slot ballot set r replica d did fact e command f, chosen_held P from ballot slot set r.leader (k.1.1.2, k.1.1.3) command f))
-      (counted_ballot from ballot slot set r.leader) (counted_held P from ballot slot set r.leader (k.1.1.2, k.1.1.3)) k
-
-  counted_keeps : (me from : ℕ) (ballot : Ballot) (slot : ℕ) (r : ReplicaState) (mails : List Mail) → IsReplica ahead base made h me r → (d : Command) → Among (AcceptedStep from ballot slot d) h → Goes (r, mails) → Goes (accepted_row from ballot slot (r, mails)).0
-  unfolding accepted_row
-  counted_keeps me from ballot slot r mails replica d did k =
-      cond_both (leads ballot r) (voted from ballot slot (set_at slot r) (r, mails)) (childless (r, mails)) (λ (step : Executed). Goes step.0)
-      (λ t. (let parts = and_parts r.running (same_ballot ballot r.leader.ballot) t in voted_keeps me from ballot slot (set_at slot r) r mails refl parts.0 (ballot_is ballot r.leader.ballot parts.1) replica d did k)) (λ _. k)
-
   -- ---- where a row begins and ends
 
   pub begins : (me : ℕ) (r : ReplicaState) (mails : List Mail) → IsReplica ahead base made h me r → name_of r ≡ base.core.id → Held P r → round ≤ r.top.round → ReportAs Fact mails → Goes (r, mails)
@@ -104,24 +67,7 @@ module _ (ahead : Ahead) (base : Base) (h : Steps) (lawful : IsLawfulHistory (ru
   -- ---- all rows
 
   pub mailed_ends : (me from : ℕ) (body : MailBody) (r : ReplicaState) (mails : List Mail) → Brings ahead base h made W from body → IsReplica ahead base made h me r → Goes (r, mails) → RowEnds (mailed from body (r, mails)).0
-  unfolding mailed
-  mailed_ends me from (Accepted group ballot slot) r mails t replica k = ends_of (accepted_row from ballot slot (r, mails)).0 (counted_keeps me from ballot slot r mails replica t.0 t.1 k)
-  mailed_ends me from (Request group client seq op) r mails t replica k = ends_of (mailed from (Request group client seq op) (r, mails)).0 (rows.takes_mail (reported_walk ahead base h lawful made Fact decided W round) from (Request group client seq op) (r, mails) t tt k).0
-  mailed_ends me from (Prepare group ballot from_slot) r mails t replica k = ends_of (mailed from (Prepare group ballot from_slot) (r, mails)).0 (rows.takes_mail (reported_walk ahead base h lawful made Fact decided W round) from (Prepare group ballot from_slot) (r, mails) t tt k).0
-  mailed_ends me from (Promise group ballot reports) r mails t replica k = ends_of (mailed from (Promise group ballot reports) (r, mails)).0 (rows.takes_mail (reported_walk ahead base h lawful made Fact decided W round) from (Promise group ballot reports) (r, mails) t tt k).0
-  mailed_ends me from (Accept group ballot slot command) r mails t replica k = ends_of (mailed from (Accept group ballot slot command) (r, mails)).0 (rows.takes_mail (reported_walk ahead base h lawful made Fact decided W round) from (Accept group ballot slot command) (r, mails) t tt k).0
-  mailed_ends me from (Nack group ballot) r mails t replica k = ends_of (mailed from (Nack group ballot) (r, mails)).0 (rows.takes_mail (reported_walk ahead base h lawful made Fact decided W round) from (Nack group ballot) (r, mails) t tt k).0
-  mailed_ends me from (Learn group slot command) r mails t replica k = ends_of (mailed from (Learn group slot command) (r, mails)).0 (rows.takes_mail (reported_walk ahead base h lawful made Fact decided W round) from (Learn group slot command) (r, mails) t tt k).0
-  mailed_ends me from (Ask group from_slot) r mails t replica k = ends_of (mailed from (Ask group from_slot) (r, mails)).0 (rows.takes_mail (reported_walk ahead base h lawful made Fact decided W round) from (Ask group from_slot) (r, mails) t tt k).0
-  mailed_ends me from (Install group slot state sets) r mails t replica k = ends_of (mailed from (Install group slot state sets) (r, mails)).0 (rows.takes_mail (reported_walk ahead base h lawful made Fact decided W round) from (Install group slot state sets) (r, mails) t tt k).0
-  mailed_ends me from (Answer group seq answer) r mails t replica k = ends_of (mailed from (Answer group seq answer) (r, mails)).0 (rows.takes_mail (reported_walk ahead base h lawful made Fact decided W round) from (Answer group seq answer) (r, mails) t tt k).0
-  mailed_ends me from (TxPrepare tx offer) r mails t replica k = ends_of (mailed from (TxPrepare tx offer) (r, mails)).0 (rows.takes_mail (reported_walk ahead base h lawful made Fact decided W round) from (TxPrepare tx offer) (r, mails) t tt k).0
-  mailed_ends me from (TxVote tx coord part vote) r mails t replica k = ends_of (mailed from (TxVote tx coord part vote) (r, mails)).0 (rows.takes_mail (reported_walk ahead base h lawful made Fact decided W round) from (TxVote tx coord part vote) (r, mails) t tt k).0
-  mailed_ends me from (TxOutcome tx part outcome) r mails t replica k = ends_of (mailed from (TxOutcome tx part outcome) (r, mails)).0 (rows.takes_mail (reported_walk ahead base h lawful made Fact decided W round) from (TxOutcome tx part outcome) (r, mails) t tt k).0
-  mailed_ends me from (TxElsewhere tx coord hint) r mails t replica k = ends_of (mailed from (TxElsewhere tx coord hint) (r, mails)).0 (rows.takes_mail (reported_walk ahead base h lawful made Fact decided W round) from (TxElsewhere tx coord hint) (r, mails) t tt k).0
-  mailed_ends me from (TxWatch tx watch) r mails t replica k = ends_of (mailed from (TxWatch tx watch) (r, mails)).0 (rows.takes_mail (reported_walk ahead base h lawful made Fact decided W round) from (TxWatch tx watch) (r, mails) t tt k).0
-  mailed_ends me from (TxWatched tx coord part vote) r mails t replica k = ends_of (mailed from (TxWatched tx coord part vote) (r, mails)).0 (rows.takes_mail (reported_walk ahead base h lawful made Fact decided W round) from (TxWatched tx coord part vote) (r, mails) t tt k).0
-  mailed_ends me from (Told order result) r mails t replica k = ends_of (mailed from (Told order result) (r, mails)).0 (rows.takes_mail (reported_walk ahead base h lawful made Fact decided W round) from (Told order result) (r, mails) t tt k).0
+  mailed_ends me from body r mails t replica k = ends_of (mailed from body (r, mails)).0 (rows.takes_mail (reported_walk ahead base h lawful made Fact decided W round) from body (r, mails) t (me, replica) k).0
 
   -- an order is refused, or queued where it waits
   queued_ends : (o : Option OrderRefusal) (line : OrderLine) (command : Command) (r : ReplicaState) (mails : List Mail) → ((why : OrderRefusal) → o ≡ Some why → Fact line.number (Refused why)) → P command → Goes (r, mails) → RowEnds (queued_or_refused o line.number command (r, mails))

@@ -15,43 +15,12 @@ use Rattle.sc_meaning.specs.sound.SoundDefinitions.{groups_at, entries_at, decid
 use Rattle.sc_law_entries.specs.ring.RingDefinitions.{Sources}
 use Rattle.sc_law_entries.specs.logs.LogDefinitions.{Rows, AreFound, StayRecorded, DecideInTurn}
 use Rattle.sc_law_entries.proofs.LogsProofs.LogLemmas.{deciding_rows, groups_are_found, deciding_rows_stay, Told}
-use Rattle.sc_law_groups.proofs.GroupProofs.GroupLemmas.{first_of, h_of, held, IsOneOf, Fine, Steps, rule, first, IsReplica, IsTrue, OffersMade, IsChildOf, learnt_are, accepted_are, among_numbers, number_among, Speaks}
+use Rattle.sc_law_groups.proofs.GroupProofs.GroupLemmas.{first_of, h_of, held, IsOneOf, IsChildOf, mailed_kids, among_numbers, number_among}
 use Rattle.sc_law_groups.specs.whole.WholeDefinitions.{BeginsWell, OrdersAreAllowed, stories_at, MayQueue, IsHeardAt, PartiesAreApart, MergesFit}
 use Rattle.sc_law_groups.proofs.WholeProofs.WholeLemmas.{parties_are_apart, merges_fit, goes_on_from, speaks, members_stay_rosters, Holds}
 use Rattle.sc_live_journals.specs.rows.RowDefinitions.{IsSeat, made_children, AreAsBegun}
 use Rattle.sc_live_journals.proofs.LogsProofs.GroupLogLemmas.{no_client, one_node, whole, prefix}
 pub use Rattle.sc_live_journals.proofs.LogsProofs.LoggedChildren.{child_in}
-
--- a replica's part of a row begins
-start : (ahead : Ahead) (base : Base) (made : Command → Type 0) (heard : MailBody → Type 0) (me : ℕ) (before : Steps) (lawful : IsLawfulHistory (rule ahead base) (first ahead base) before) (requested : OffersMade made before) (r : ReplicaState) → IsReplica ahead base made before me r
-    → Fine ahead base made heard me [] before (r, [])
-start ahead base made heard me before lawful requested r k = record {
-  sent = [];
-  sent_is = refl;
-  newer = [];
-  are = refl;
-  by = tt;
-  lawful = lawful;
-  requested = requested;
-  replica = k;
-  mails = λ m a. absurd a;
-  own = λ m a. absurd a;
-}
-
--- the children that a mail makes are those of prefixes of the log
-mailed_kids : (ahead : Ahead) (base : Base) (made : Command → Type 0) (heard : MailBody → Type 0) (me : ℕ) (before : Steps) (speaks : Speaks ahead base made heard before)
-    (some : (log : List Command) → Each made log → (node : ℕ) × (rest : List ℕ) × ((rule ahead base).members log ≡ node ∷ rest)) (lawful : IsLawfulHistory (rule ahead base) (first ahead base) before) (requested : OffersMade made before)
-    → (mail : Mail) (body : MailBody) (r : ReplicaState) → IsReplica ahead base made before me r → (g : Draw) → group_of_mail body ≡ Some g → g ≡ base.core.id
-    → IsTrue ahead base made heard before mail body → Each (IsChildOf ahead base made me before) (mailed mail.from body (r, [])).1
-unfolding mailed start
-mailed_kids ahead base made heard me before speaks some lawful requested mail (AcceptedMail g b slot) r k named into fact t =
-    let same : g ≡ base.core.id = (let one : g ≡ named = cc in one ∙ fact) in
-    let told = t (same_name g base.core.id same) in
-    accepted_are ahead base made heard me before speaks some mail.from b slot told.0 r [] (start ahead base made heard me before lawful requested r k) told.1
-mailed_kids ahead base made heard me before speaks some lawful requested mail (Learn g slot c) r k named into fact t =
-    let same : g ≡ base.core.id = (let one : g ≡ named = cc in one ∙ fact) in
-    learnt_are ahead base made heard me before speaks some mail.from slot c r [] (start ahead base made heard me before lawful requested r k) (t (same_name g base.core.id same))
-mailed_kids ahead base made heard me before speaks some lawful requested mail _ r k named into fact t = tt
 
 module _ (sources : Sources) (ahead : Ahead) (words : ℕ → ℕ → ℕ × ℕ) (scenario : Scenario) (route : Route) (b : BeginsWell sources ahead scenario route) (journal : Rows) (orders : OrdersAreAllowed sources ahead scenario journal) (lawful : Lawful ahead words scenario journal)
     (base : Base) (stands : Among base (groups_at ahead scenario.groups journal)) (rows more : Rows) (e : journal ≡ rows ++ more) where
