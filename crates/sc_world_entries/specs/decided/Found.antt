@@ -1,6 +1,6 @@
 -- The groups that rows decide, each with what is kept of it, and the entries that one more row adds.
-use Rattle.std.specs.List.{list_any}
-use Rattle.std.specs.Prelude.{◌≡◌, ℕ, ◌+◌, Bool, List, [], ◌∷◌, length, drop, map, find, true, false, if◌then◌else◌, Option, Some, None}
+use Rattle.std.specs.List.{flat_map, list_any}
+use Rattle.std.specs.Prelude.{◌≡◌, ℕ, ◌+◌, Bool, List, [], ◌∷◌, length, drop, fold, map, find, true, false, if◌then◌else◌, Option, Some, None}
 use Rattle.sc_base.specs.Among.{Each}
 use Rattle.sc_base.specs.Same.{same_draw}
 use Rattle.sc_base.specs.declared.names.Draw.{Draw}
@@ -12,7 +12,7 @@ use Rattle.sc_actor.specs.declared.rows.Row.{Row}
 use Rattle.sc_meaning.specs.sound.Players.{as_nodes}
 use Rattle.sc_meaning.specs.declared.entries.LogEntry.{LogEntry}
 use Rattle.sc_meaning.specs.sound.Accepts.{accepts}
-use Rattle.sc_meaning.specs.sound.GroupsOf.{children_by, groups_at, with_next_children, entries_from, entries_after}
+use Rattle.sc_meaning.specs.sound.GroupsOf.{children_by, groups_at, with_birth, with_next_children, entries_from, entries_after}
 use Rattle.sc_world_logs.specs.declared.known.Known.{Known}
 use Rattle.sc_world_logs.specs.declared.known.Taking.{Taking}
 use Rattle.sc_world_entries.specs.declared.decided.births.Groups.{Groups}
@@ -36,6 +36,10 @@ log_kept name knowns = kept_log (find (is_kept_of name) knowns)
 pub record AreKnown (rows : List (Row Mail OrderLine)) (bases : List Base) (knowns : List Known) : Type 0 where
   pub bases_are : map (λ known. known.base) knowns ≡ bases
   pub each : Each (IsKnown rows) knowns
+
+-- the children that the logs of these create are among the groups, by their names: to add them adds none
+abbrev pub HaveChildrenOf : List Base → List Known → Type 0
+HaveChildrenOf bases knowns = fold with_birth bases (flat_map (λ known. known.children.items) knowns) ≡ bases
 
 -- What is kept later is about the same groups and says what the longer rows say, and the logs of these groups create the same children in both.
 pub record StayKnown (rows after : List (Row Mail OrderLine)) (knowns later : List Known) : Type 0 where
