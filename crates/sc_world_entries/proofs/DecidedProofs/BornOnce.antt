@@ -1,60 +1,34 @@
 -- A child is born once: children that are there are not added again.
-use Rattle.std.proofs.Common.{◌≡◌, ℕ, false, true, List, [], ◌∷◌, ◌++◌, Bool, drop, fold, inl, inr, length, refl, subst, sym, take, ap, ◌∙◌, take_at}
+use Rattle.std.proofs.Common.{◌≡◌, ℕ, true, List, [], ◌∷◌, ◌++◌, drop, fold, inl, inr, length, refl, sym, take, ap, ◌∙◌, take_at}
 use Rattle.std.specs.List.{flat_map, list_any}
-use Rattle.std.proofs.lemmas.Bool.{cases_Bool, cond-true, cond-false, or_cases, or_left, or_right}
+use Rattle.std.proofs.lemmas.Bool.{cond-true, or_left, or_right}
 use Rattle.std.proofs.lemmas.List.{take-append-drop}
 use Rattle.std.proofs.lemmas.Grind.{flat_map-append, fold-append}
-use Rattle.sc_base.proofs.NameLemmas.{same_name}
-use Rattle.sc_base.specs.Among.{Each}
-use Rattle.sc_base.specs.declared.names.Draw.{Draw}
+use Rattle.sc_base.proofs.Lemmas.{same_name}
+use Rattle.sc_base.specs.Definitions.{Among}
 use Rattle.sc_words.specs.declared.commands.cores.Base.{Base}
 use Rattle.sc_words.specs.declared.commands.orders.OrderLine.{OrderLine}
 use Rattle.sc_mail.specs.declared.bodies.Mail.{Mail}
 use Rattle.sc_actor.specs.declared.rows.Row.{Row}
-use Rattle.sc_meaning.specs.sound.Players.{as_nodes}
-use Rattle.sc_meaning.specs.sound.GroupsOf.{children_by, is_birth_of, with_birth, with_next_children}
+use Rattle.sc_meaning.specs.sound.SoundDefinitions.{as_nodes, children_by, is_birth_of, with_birth, with_next_children}
+use Rattle.sc_law_entries.proofs.LogsProofs.BirthRecords.{HasNamed, births_named}
 use Rattle.sc_world_logs.specs.declared.known.Known.{Known}
 use Rattle.sc_world_entries.specs.decided.Found.{AreKnown, HaveChildrenOf}
 use Rattle.sc_world_entries.proofs.DecidedProofs.Families.{children_are}
 
-any_still : (p : Base → Bool) (bases : List Base) (base : Base) → list_any p bases ≡ true → list_any p (bases ++ base ∷ []) ≡ true
-any_still p [] base t = (let never : false ≡ true = t in absurd (cc))
-any_still p (b ∷ bases) base t = elim (or_cases (p b) (list_any p bases) t) [
-  | inl here ↦ or_left (p b) (list_any p (bases ++ base ∷ [])) here
-  | inr there ↦ or_right (p b) (list_any p (bases ++ base ∷ [])) (any_still p bases base there)
-]
+-- the name that one of them has is there
+name_there : (bases : List Base) (c b : Base) → Among b bases → b.core.id ≡ c.core.id → list_any (is_birth_of c.core.id) bases ≡ true
+name_there [] c b a same = absurd a
+name_there (d ∷ bases) c b (inl fact) same = or_left (is_birth_of c.core.id d) (list_any (is_birth_of c.core.id) bases) (same_name d.core.id c.core.id (ap (λ (x : Base). x.core.id) fact ∙ same))
+name_there (d ∷ bases) c b (inr a) same = or_right (is_birth_of c.core.id d) (list_any (is_birth_of c.core.id) bases) (name_there bases c b a same)
 
-any_last : (p : Base → Bool) (bases : List Base) (base : Base) → p base ≡ true → list_any p (bases ++ base ∷ []) ≡ true
-any_last p [] base t = or_left (p base) false t
-any_last p (b ∷ bases) base t = or_right (p b) (list_any p (bases ++ base ∷ [])) (any_last p bases base t)
-
--- whether a name is there
-abbrev pub HasName : Draw → List Base → Type 0
-HasName name bases = list_any (is_birth_of name) bases ≡ true
-
--- with a birth more, by whether its name is there
-birth_cases : (P : List Base → Type 0) (bases : List Base) (c : Base) → (HasName c.core.id bases → P bases) → P (bases ++ c ∷ []) → P (with_birth bases c)
-birth_cases P bases c named lone = elim (cases_Bool (list_any (is_birth_of c.core.id) bases)) [
-  | inl t ↦ subst P (sym (cond-true (list_any (is_birth_of c.core.id) bases) bases (bases ++ c ∷ []) t)) (named t)
-  | inr f ↦ subst P (sym (cond-false (list_any (is_birth_of c.core.id) bases) bases (bases ++ c ∷ []) f)) lone
-]
-
-births_still : (bases more : List Base) (name : Draw) → HasName name bases → HasName name (fold with_birth bases more)
-births_still bases [] name t = t
-births_still bases (c ∷ more) name t = births_still (with_birth bases c) more name (birth_cases (HasName name) bases c (λ there. t) (any_still (is_birth_of name) bases c t))
-
-births_named : (bases more : List Base) → Each (λ c. HasName c.core.id (fold with_birth bases more)) more
-births_named bases [] = tt
-births_named bases (c ∷ more) = (
-  births_still (with_birth bases c) more c.core.id (birth_cases (HasName c.core.id) bases c (λ there. there) (any_last (is_birth_of c.core.id) bases c (same_name c.core.id c.core.id refl))),
-  births_named (with_birth bases c) more,
-)
-
-none_new : (bases more : List Base) → Each (λ c. HasName c.core.id bases) more → fold with_birth bases more ≡ bases
-none_new bases [] all = refl
-none_new bases (c ∷ more) all =
-    ap (λ (bs : List Base). fold with_birth bs more) (cond-true (list_any (is_birth_of c.core.id) bases) bases (bases ++ c ∷ []) all.0)
-    ∙ none_new bases more all.1
+-- births whose names are there add none
+none_new : (bases more : List Base) → ((c : Base) → Among c more → HasNamed c bases) → fold with_birth bases more ≡ bases
+none_new bases [] named = refl
+none_new bases (c ∷ more) named =
+    let here = named c (inl refl) in
+    ap (λ (bs : List Base). fold with_birth bs more) (cond-true (list_any (is_birth_of c.core.id) bases) bases (bases ++ c ∷ []) (name_there bases c here.0 here.1 here.2))
+    ∙ none_new bases more (λ d a. named d (inr a))
 
 -- in a round, the groups whose children are there already add none
 pub newest_births : (rows : List (Row Mail OrderLine)) (bases : List Base) (knowns : List Known) (from : ℕ) → AreKnown rows bases knowns → HaveChildrenOf bases (take from knowns)
