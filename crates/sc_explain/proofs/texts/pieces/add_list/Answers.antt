@@ -1,4 +1,4 @@
-use Rattle.std.proofs.Common.{◌≡◌, ◌++◌, List, ℕ, subst, sym, ◌∙◌, arith}
+use Rattle.std.proofs.Common.{◌≡◌, List, ℕ, subst, ◌∙◌, arith}
 use Rattle.std.specs.Prelude.{OnOk}
 use Rattle.sc_explain.proofs.TextsProofs.Lists.{list_begins, list_ends, list_goes_on}
 use Rattle.sc_explain.proofs.texts.pieces.add_list.Goals as goal
