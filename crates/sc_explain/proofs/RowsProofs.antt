@@ -5,4 +5,5 @@ pub mod Following
 pub mod RingGroups
 pub mod RowLines
 pub mod Rows
+pub mod SaidStays
 pub mod Takings

@@ -1,3 +1,4 @@
 pub mod Pieces
 pub mod Strings
 pub mod PlainCommands
+pub mod Lists

@@ -3,6 +3,7 @@
 mod effects;
 mod facts;
 mod lines;
+mod parts;
 mod sames;
 mod writing;
 

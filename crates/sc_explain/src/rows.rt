@@ -3,7 +3,9 @@ mod adding;
 mod changes;
 mod counts;
 mod explaining;
+mod following;
 mod groups;
+mod places;
 mod said;
 mod taking;
 

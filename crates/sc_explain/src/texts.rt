@@ -4,4 +4,4 @@ mod pieces;
 mod values;
 
 pub(crate) use commands::add_command;
-pub(crate) use pieces::{ToText, add_json, add_next, add_word};
+pub(crate) use pieces::{ToText, add_json, add_list, add_next, add_word};

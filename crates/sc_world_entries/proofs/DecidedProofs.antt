@@ -1,3 +1,4 @@
+pub mod BornOnce
 pub mod Families
 pub mod Gained
 pub mod Hearing

@@ -1,5 +1,5 @@
 -- What is said of a group is the same as itself, and so is a ring.
-use Rattle.std.proofs.Common.{◌≡◌, ℕ, ◌&&◌, true, eqb, List, [], ◌∷◌, Option, Some, None, refl}
+use Rattle.std.proofs.Common.{◌≡◌, ℕ, true, eqb, List, [], ◌∷◌, Option, Some, None, refl}
 use Rattle.std.proofs.lemmas.Bool.{and_from, eq-eqb}
 use Rattle.sc_base.proofs.NameLemmas.{same_name}
 use Rattle.sc_base.specs.Arc.{Arc}

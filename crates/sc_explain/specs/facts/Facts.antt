@@ -1,5 +1,5 @@
 -- The facts that rows decide, as JSON and as lines.
-use Rattle.std.specs.Prelude.{ℕ, List, [], ◌∷◌, length, map, codes, ⊤, Option, Some, None}
+use Rattle.std.specs.Prelude.{ℕ, List, [], ◌∷◌, length, codes, Option}
 use Rattle.std.specs.FinMap.{entries}
 use Rattle.std.specs.Option.{option_map}
 use Rattle.serde_json.specs.Data.{Data, string, array, item, no_items}
@@ -15,8 +15,7 @@ use Rattle.sc_meaning.specs.declared.entries.LogEntry.{LogEntry}
 use Rattle.sc_group_table.specs.machine.Group.{Group}
 use Rattle.sc_scenario.specs.report.Report.{with_line_feed}
 use Rattle.sc_json_text.specs.rows.Commands.{command_json}
-use Rattle.sc_json_text.specs.rows.Held.{FitsArc}
-use Rattle.sc_json_text.specs.rows.Names.{draw_json, FitsDraw}
+use Rattle.sc_json_text.specs.rows.Names.{draw_json}
 use Rattle.sc_json_text.specs.rows.Ops.{op_json, reply_json}
 use Rattle.sc_json_text.specs.rows.Sets.{arc_json, nodes_json}
 use Rattle.sc_json_text.specs.rows.Shapes.{number_json, list_json, option_json, fields, variant}
@@ -113,19 +112,6 @@ ring_group_json group = fields
 -- the JSON of a cut: [G,[LO,LEN]]
 abbrev pub cut_json : Cut → Data
 cut_json cut = array (item (draw_json cut.group) (item (arc_json cut.arc) no_items))
-
--- ---- what holds of what a program holds
-
--- the numbers of a lock's transaction are in the ranges of their types
-abbrev pub FitsHold : Hold → Type 0
-FitsHold TheHold.Free = ⊤
-FitsHold (TheHold.Coordinating tx) = FitsDraw tx
-FitsHold (TheHold.Promised tx) = FitsDraw tx
-FitsHold (TheHold.Watching tx) = FitsDraw tx
-
--- the numbers of a cut are in the ranges of their types, and its arc is one of the circle
-abbrev pub FitsCut : Cut → Type 0
-FitsCut cut = FitsDraw cut.group × FitsArc cut.arc
 
 -- ---- their lines
 

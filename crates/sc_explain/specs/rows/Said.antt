@@ -1,10 +1,15 @@
 -- What was said last of a world, and what becomes of a world by the entries of a row.
-use Rattle.std.specs.Prelude.{◌≡◌, ℕ, List, [], ◌∷◌, ◌++◌, length}
+use Rattle.std.specs.Prelude.{◌≡◌, ℕ, false, List, [], ◌∷◌, ◌++◌, length, Some}
+use Rattle.std.specs.List.{list_any}
+use Rattle.sc_base.specs.Definitions.{same_draw}
+use Rattle.sc_base.specs.declared.names.Draw.{Draw}
+use Rattle.sc_words.specs.declared.commands.cores.Lock.{Lock}
+use Rattle.sc_group_table.specs.machine.MachineDefinitions.{Group}
 use Rattle.sc_world_entries.specs.declared.decided.deciding.DecidingRow.{DecidingRow}
 use Rattle.sc_explain.specs.declared.facts.facts.RingGroup.{RingGroup}
 use Rattle.sc_meaning.specs.declared.entries.LogEntry.{LogEntry}
-use Rattle.sc_meaning.specs.entries.Rings.{HaveArcs}
-use Rattle.sc_meaning.specs.entries.Worlds.{StoreWorld, world_after}
+use Rattle.sc_meaning.specs.declared.entries.Transaction.{Transaction}
+use Rattle.sc_meaning.specs.entries.EntryDefinitions.{StoreWorld, effective_by, named_group, world_after, HaveArcs}
 use Rattle.sc_explain.specs.declared.rows.said.Said.{Said}
 use Rattle.sc_explain.specs.rows.Explained.{entry_lines, records_in, ring_groups_in, row_lines}
 
@@ -21,6 +26,14 @@ pub record HasTaken (row : ℕ) (before : StoreWorld) (entries : List LogEntry) 
   pub world : after ≡ world_after before entries
   pub lines_are : lines ≡ entry_lines row before entries
   pub groups_are : groups ≡ ring_groups_in before → later ≡ ring_groups_in after
+
+-- a group with this lock is what its own log makes of it, whatever other groups have decided
+abbrev pub IsByLog : Lock → Type 0
+IsByLog lock = (transactions : List Transaction) (group : Group) → effective_by lock transactions group ≡ group
+
+-- each group that is found by its name is so, but those with one of these names
+abbrev pub AreByLog : List Group → List Draw → Type 0
+AreByLog groups bound = (name : Draw) (group : Group) → named_group name groups ≡ Some group → list_any (same_draw name) bound ≡ false → IsByLog group.core.lock
 
 -- each cut of the ring is an arc after each prefix of the entries
 abbrev pub HaveArcsThroughout : StoreWorld → List LogEntry → Type 0

@@ -1,30 +1,13 @@
-//! Objects, variants and lines of JSON.
-ghost use Rattle.std.specs.Prelude.{◌≡◌, false, IfOk, OnOk};
+//! Objects and variants of JSON.
+ghost use Rattle.std.specs.Prelude.{◌≡◌, IfOk, OnOk};
 ghost use Rattle.serde_json.specs.Data.{put, string};
 ghost use Rattle.serde_json.specs.View.{view, members_view};
-ghost use Rattle.serde_json.specs.Written.{compact_text, has_float};
-ghost use Rattle.sc_scenario.specs.report.Report.{with_line_feed};
 ghost use Rattle.sc_json_text.specs.rows.Shapes.{variant};
 
 use sc_base::OutOfMemory;
 use sc_json_write::ToJson;
-use sc_scenario::ReportLine;
 use serde_json::{Map, Value as Json};
 use std::alloc::Global;
-
-/// Adds a member with this JSON to the members of an object.
-pub(crate) fn put(
-    members: &mut Map<String, Json>,
-    alloc: Global,
-    name: &str,
-    json: Json,
-) -> Result<(), OutOfMemory>
-    ensures { OnOk result (members_view members.new.entries
-        ≡ put name.now (view json) (members_view members.old.entries)) }
-{
-    serde_json::put(members, alloc, name, json)?;
-    Ok(())
-}
 
 /// Adds a member with the JSON of a value to the members of an object.
 pub(crate) fn add<T: ToJson>(
@@ -69,14 +52,4 @@ pub(crate) fn variant_of<T: ToJson>(
 {
     let json = content.to_json(alloc)?;
     wrapped(alloc, name, json)
-}
-
-/// Returns the line of a JSON without floats: its compact text and a line feed.
-pub(crate) fn line_of(alloc: Global, json: &Json) -> Result<ReportLine, OutOfMemory>
-    requires { has_float (view json.now) ≡ false }
-    ensures { IfOk result (λ line. line ≡ with_line_feed (compact_text (view json.now))) }
-{
-    let mut bytes = json.to_vec(alloc)?;
-    bytes.push(b'\n')?;
-    Ok(ReportLine::from_vec(bytes))
 }

@@ -5,6 +5,7 @@ ghost use Rattle.sc_explain.specs.facts.Sameness.{same_record, same_ring_group};
 ghost use Rattle.sc_explain.specs.rows.Explained.{changed};
 
 use crate::facts::{GroupRecord, RingGroup, same_record, same_ring_group};
+use crate::rows::places::place_near;
 use sc_base::OutOfMemory;
 use std::alloc::Global;
 
@@ -99,6 +100,29 @@ fn add_group(
     Ok(())
 }
 
+// Adds this of a group of the ring, unless it was said before. The group is looked for at a place
+// and at the next one. Returns the place that is looked at first for the next group.
+fn add_near(
+    new: &mut Vec<RingGroup>,
+    one: &RingGroup,
+    before: &[RingGroup],
+    at: usize,
+) -> Result<usize, OutOfMemory>
+    ensures { OnOk result
+        (new.new.items ≡ new.old.items ++ changed same_ring_group before.now (one.now ∷ [])) }
+{
+    match place_near(before, at, one.name) {
+        None => {
+            add_group(new, one, before, at)?;
+            Ok(at)
+        }
+        Some(place) => {
+            add_group(new, one, before, place)?;
+            Ok(place.saturating_add(1))
+        }
+    }
+}
+
 /// Returns what is said of groups of the ring that was not said before.
 pub(crate) fn changed_groups(
     alloc: Global,
@@ -110,8 +134,8 @@ pub(crate) fn changed_groups(
     let mut new = Vec::new(alloc);
     let mut at = 0usize;
     for one in after {
-        add_group(&mut new, one, before, at)?;
-        at = at.saturating_add(1);
+        let next = add_near(&mut new, one, before, at)?;
+        at = next;
     }
     Ok(new)
 }

@@ -70,7 +70,7 @@ pub(crate) fn recount(
     ensures { IfOk result
         (λ after. after.items ≡ map (recounted name op.now reply.now.old) groups.now) }
 {
-    let mut after = Vec::new(alloc);
+    let mut after = Vec::with_capacity(alloc, groups.len())?;
     for group in groups {
         after.push(recounted(group, name, op, reply)?)?;
     }

@@ -1,21 +1,17 @@
 //! What is said of the groups of a world, all of them by their own logs, and those of the ring by
 //! their effective records.
-ghost use Rattle.std.specs.Prelude.{◌≡◌, ◌++◌, List, true, IfOk, OnOk};
+ghost use Rattle.std.specs.Prelude.{◌≡◌, ◌++◌, true, IfOk, OnOk};
 ghost use Rattle.std.specs.Option.{option_map, option_to_list};
 ghost use Rattle.sc_explain.specs.facts.Facts.{ring_group_of};
-ghost use Rattle.sc_meaning.specs.declared.entries.Transaction.{Transaction};
-ghost use Rattle.sc_meaning.specs.entries.Effective.{effective, effective_by};
-ghost use Rattle.sc_meaning.specs.entries.Worlds.{StoreWorld, recorded};
+ghost use Rattle.sc_meaning.specs.entries.Effective.{effective};
 ghost use Rattle.sc_group_table.specs.machine.Group.{Group, base_of};
-ghost use Rattle.sc_world_groups.specs.Effects.{effect_in};
 ghost use Rattle.sc_explain.specs.rows.Explained.{records_in, ring_groups_in};
+ghost use Rattle.sc_explain.specs.rows.Said.{IsByLog};
 
 use crate::facts::{GroupRecord, RingGroup, record_of};
-use crate::rows::counts::recount;
 use sc_base::{Draw, OutOfMemory};
 use sc_group::Machine;
-use sc_meaning::LogEntry;
-use sc_words::{Base, Command, Effect, Lock};
+use sc_words::{Base, Lock};
 use sc_world_groups::StoreWorld;
 use std::alloc::Global;
 
@@ -23,8 +19,8 @@ use std::alloc::Global;
 pub(crate) fn records_in(alloc: Global, world: &StoreWorld) -> Result<Vec<GroupRecord>, OutOfMemory>
     ensures { IfOk result (λ records. records.items ≡ records_in world.now) }
 {
-    let mut records = Vec::new(alloc);
     let groups = world.groups();
+    let mut records = Vec::with_capacity(alloc, groups.len())?;
     for group in groups {
         records.push(record_of(group.core()))?;
     }
@@ -59,10 +55,9 @@ fn said_by_log(name: Draw, group: &Machine) -> Result<RingGroup, OutOfMemory>
     })
 }
 
-// Returns whether the effective record of a group with this lock is what its own log makes of it.
-fn is_by_log(lock: &Lock) -> bool
-    ensures { result ≡ true → (transactions : List Transaction) (group : Group) →
-        effective_by lock.now transactions group ≡ group }
+/// Returns whether the effective record of a group with this lock is what its own log makes of it.
+pub(crate) fn is_by_log(lock: &Lock) -> bool
+    ensures { result ≡ true → IsByLog lock.now }
 {
     match lock {
         Lock::Free | Lock::Coordinating { .. } => true,
@@ -83,9 +78,12 @@ fn ring_group_by_record(world: &StoreWorld, name: Draw) -> Result<Option<RingGro
     }
 }
 
-// Returns what is said of the group with a name by its effective record, if it was created. The
-// record is copied only where another group may have decided something of it.
-fn ring_group_in(world: &StoreWorld, name: Draw) -> Result<Option<RingGroup>, OutOfMemory>
+/// Returns what is said of the group with a name by its effective record, if it was created. The
+/// record is copied only where another group may have decided something of it.
+pub(crate) fn ring_group_in(
+    world: &StoreWorld,
+    name: Draw,
+) -> Result<Option<RingGroup>, OutOfMemory>
     ensures { IfOk result (λ group. group ≡
         option_map (ring_group_of name) (effective world.now name)) }
 {
@@ -103,7 +101,11 @@ fn ring_group_in(world: &StoreWorld, name: Draw) -> Result<Option<RingGroup>, Ou
     }
 }
 
-fn add_group(groups: &mut Vec<RingGroup>, group: Option<RingGroup>) -> Result<(), OutOfMemory>
+/// Adds what is said of a group, if something is.
+pub(crate) fn add_group(
+    groups: &mut Vec<RingGroup>,
+    group: Option<RingGroup>,
+) -> Result<(), OutOfMemory>
     ensures { OnOk result (groups.new.items ≡ groups.old.items ++ option_to_list group) }
 {
     match group {
@@ -129,32 +131,4 @@ pub(crate) fn ring_groups_in(
         add_group(&mut groups, group)?;
     }
     Ok(groups)
-}
-
-/// Brings what is said of the groups of the ring up to an entry that the world has just taken, with
-/// this effect.
-pub(crate) fn follow(
-    alloc: Global,
-    world: &StoreWorld,
-    groups: Vec<RingGroup>,
-    entry: &LogEntry,
-    effect: &Option<Effect>,
-) -> Result<Vec<RingGroup>, OutOfMemory>
-    ensures { IfOk result (λ after. (before : StoreWorld) → world.now ≡ recorded before entry.now →
-        effect.now ≡ effect_in before entry.now → groups.items ≡ ring_groups_in before →
-        after.items ≡ ring_groups_in world.now) }
-{
-    match &entry.command {
-        Command::Call { op, .. } => match effect {
-            None => Ok(groups),
-            Some(done) => match done {
-                Effect::Done(reply) => {
-                    let before = groups.as_slice();
-                    recount(alloc, before, entry.group, op, reply)
-                }
-                _ => Ok(groups),
-            },
-        },
-        _ => ring_groups_in(alloc, world),
-    }
 }

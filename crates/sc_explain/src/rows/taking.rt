@@ -10,7 +10,7 @@ ghost use Rattle.sc_explain.specs.rows.Explained.{ring_groups_in};
 
 use crate::facts::{RingGroup, entry_line};
 use crate::rows::adding::add_line;
-use crate::rows::groups::follow;
+use crate::rows::following::follow;
 use sc_meaning::LogEntry;
 use sc_scenario::ReportLine;
 use sc_words::Effect;

@@ -1,11 +1,12 @@
-//! Fixed words, numbers, strings and JSON, appended to a text.
+//! Fixed words, numbers, strings, lists and JSON, appended to a text.
 ghost use Rattle.std.specs.Prelude.{◌≡◌, ◌++◌, IsTrue, true, false, decimal, OnOk};
 ghost use Rattle.std.specs.List.{list_all};
 ghost use Rattle.json.specs.Print.{escape_byte};
 ghost use Rattle.serde_json.specs.Data.{Data, string};
 ghost use Rattle.serde_json.specs.View.{view};
-ghost use Rattle.serde_json.specs.Written.{compact_text, has_float};
+ghost use Rattle.serde_json.specs.Written.{comma_if, compact_text, has_float};
 ghost use Rattle.sc_base.specs.Text.{is_visible};
+ghost use Rattle.sc_json_text.specs.rows.Shapes.{list_json};
 
 use itoa::Buffer;
 use sc_base::OutOfMemory;
@@ -80,6 +81,32 @@ pub(crate) fn add_string(text: &mut Vec<u8>, bytes: &[u8]) -> Result<(), OutOfMe
     }
     text.push(b'"')?;
     Ok(())
+}
+
+// Appends a comma, where something stands before.
+#[inline]
+fn add_comma(text: &mut Vec<u8>, later: bool) -> Result<(), OutOfMemory>
+    ensures { OnOk result (text.new.items ≡ text.old.items ++ comma_if later) }
+{
+    if later {
+        return add_word(text, b",");
+    }
+    Ok(())
+}
+
+/// Appends the array of these values.
+pub(crate) fn add_list<T: ToText>(text: &mut Vec<u8>, values: &[T]) -> Result<(), OutOfMemory>
+    ensures { OnOk result (text.new.items ≡
+        text.old.items ++ compact_text (list_json T.json_of values.now)) }
+{
+    add_word(text, b"[")?;
+    let mut later = false;
+    for value in values {
+        add_comma(text, later)?;
+        value.add_to(text)?;
+        later = true;
+    }
+    add_word(text, b"]")
 }
 
 /// Appends the compact text of a JSON without floats.

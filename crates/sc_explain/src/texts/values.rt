@@ -1,14 +1,14 @@
-//! Numbers, names, arcs, keys, values, operations and replies, appended to a text.
+//! Numbers, names, arcs, sets of nodes, keys, values, operations and replies, appended to a text.
 ghost use Rattle.std.specs.Prelude.{◌≡◌, ◌++◌, codes, OnOk};
 ghost use Rattle.serde_json.specs.Data.{string};
 ghost use Rattle.serde_json.specs.Written.{compact_text};
 ghost use Rattle.sc_json_text.specs.rows.Names.{draw_json};
 ghost use Rattle.sc_json_text.specs.rows.Ops.{op_json, reply_json};
-ghost use Rattle.sc_json_text.specs.rows.Sets.{arc_json};
+ghost use Rattle.sc_json_text.specs.rows.Sets.{arc_json, nodes_json};
 ghost use Rattle.sc_json_text.specs.rows.Shapes.{number_json, option_json};
 
-use crate::texts::pieces::{ToText, add_next, add_number, add_string, add_word};
-use sc_base::{Draw, Key, Op, OutOfMemory, Reply, RingArc, Value};
+use crate::texts::pieces::{ToText, add_list, add_next, add_number, add_string, add_word};
+use sc_base::{Draw, Key, Members, Op, OutOfMemory, Reply, RingArc, Value};
 
 impl ToText for u16 {
     ghost json_of = { number_json };
@@ -49,6 +49,25 @@ impl ToText for Draw {
 
     fn add_to(&self, text: &mut Vec<u8>) -> Result<(), OutOfMemory> {
         add_draw(text, self.node, self.count)
+    }
+}
+
+impl ToText for Option<Draw> {
+    ghost json_of = { option_json draw_json };
+
+    fn add_to(&self, text: &mut Vec<u8>) -> Result<(), OutOfMemory> {
+        match self {
+            None => add_word(text, b"null"),
+            Some(name) => name.add_to(text),
+        }
+    }
+}
+
+impl ToText for Members {
+    ghost json_of = { nodes_json };
+
+    fn add_to(&self, text: &mut Vec<u8>) -> Result<(), OutOfMemory> {
+        add_list(text, self.as_slice())
     }
 }
 

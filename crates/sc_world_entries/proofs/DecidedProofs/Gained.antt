@@ -23,7 +23,7 @@ use Rattle.sc_meaning.specs.sound.Accepts.{accepts}
 use Rattle.sc_meaning.specs.sound.GroupsOf.{children_of, children_by, is_birth_of, with_next_children, groups_at, log_by, entries_from, entries_after, entries_by_row}
 use Rattle.sc_meaning.specs.sound.Logs.{rule_of, decided_log}
 use Rattle.sc_world_logs.specs.Known.{Adds, IsKnown, StaysKnown}
-use Rattle.sc_world_entries.specs.decided.Found.{AreKnown, AreTracked, HoldKnown, StayKnown, is_kept_of, kept_log, log_kept, length_kept, length_of, length_before, new_entries, entries_behind, grown_by}
+use Rattle.sc_world_entries.specs.decided.Found.{AreKnown, AreTracked, HoldKnown, StayKnown, is_kept_of, kept_log, log_kept, length_kept, length_of, length_before, log_length, entries_behind, grown_by}
 use Rattle.sc_world_logs.specs.declared.accepting.Acceptance.{Acceptance}
 use Rattle.sc_world_entries.specs.declared.decided.births.Groups.{Groups}
 use Rattle.sc_world_logs.specs.declared.known.Known.{Known}
@@ -158,13 +158,13 @@ goes_on bases rows row name acceptance knowns later count adds known settled sta
     let after : List (Row Mail OrderLine) = rows ++ row ∷ [] in
     let old : List Base = groups_at as_nodes bases rows in
     let same = same_groups rows row bases settled (subst (Each (SameChildren rows after)) known.bases_are stay.children) in
-    let now : AreKnown after old later = record { bases_are = stay.same ∙ known.bases_are; each = stay.each } in
+    let now : AreKnown after old later = record { bases_are = stay.hold.same ∙ known.bases_are; each = stay.hold.each } in
     let f : Base → List LogEntry = grown_of name count (log_kept name later) in
     record {
-      known = record { bases_are = stay.same ∙ known.bases_are ∙ sym same.0; each = stay.each };
+      known = record { bases_are = stay.hold.same ∙ known.bases_are ∙ sym same.0; each = stay.hold.each };
       settled = ap (with_next_children as_nodes after) same.0 ∙ same.1 ∙ sym same.0;
       entries =
-          sym (flat_map-map f (λ (k : Known). k.base) later) ∙ ap (flat_map f) (stay.same ∙ known.bases_are)
+          sym (flat_map-map f (λ (k : Known). k.base) later) ∙ ap (flat_map f) (stay.hold.same ∙ known.bases_are)
           ∙ sym (row_gains rows row bases f same.0 (grows rows after name acceptance old knowns later count adds known now is));
     }
 
@@ -180,19 +180,19 @@ one_accepted bases rows after row name acceptance knowns later count is adds kno
 
 gained_here : (bases : List Base) (rows : List (Row Mail OrderLine)) (row : Row Mail OrderLine) (old new : List Known)
     → AreKnown rows (groups_at as_nodes bases rows) old → AreKnown (rows ++ row ∷ []) (groups_at as_nodes bases (rows ++ row ∷ [])) new
-    → flat_map (new_entries old new) new ≡ entries_by_row as_nodes bases rows row
+    → flat_map (entries_behind (log_length old) new) new ≡ entries_by_row as_nodes bases rows row
 gained_here bases rows row old new known known_new =
     let after : List (Row Mail OrderLine) = rows ++ row ∷ [] in
     let f : Base → List LogEntry =
     λ (base : Base). entries_after base.core.id (log_by as_nodes rows (find (is_birth_of base.core.id) (groups_at as_nodes bases rows))) (log_by as_nodes after (find (is_birth_of base.core.id) (groups_at as_nodes bases after))) in
-    flat_same (new_entries old new) (λ (k : Known). f k.base) new
-    (each_of (λ (k : Known). new_entries old new k ≡ f k.base) new
+    flat_same (entries_behind (log_length old) new) (λ (k : Known). f k.base) new
+    (each_of (λ (k : Known). entries_behind (log_length old) new k ≡ f k.base) new
     (λ k. ap (λ (l : List Command). entries_after k.base.core.id l (log_kept k.base.core.id new)) (log_in_is rows (groups_at as_nodes bases rows) old k.base.core.id known)
     ∙ ap (entries_after k.base.core.id (log_by as_nodes rows (find (is_birth_of k.base.core.id) (groups_at as_nodes bases rows)))) (log_in_is after (groups_at as_nodes bases after) new k.base.core.id known_new)))
     ∙ sym (flat_map-map f (λ (k : Known). k.base) new) ∙ ap (flat_map f) known_new.bases_are
 
 pub gained_is : (bases : List Base) (rows after : List (Row Mail OrderLine)) (row : Row Mail OrderLine) (old new : List Known) → after ≡ rows ++ row ∷ []
-    → AreKnown rows (groups_at as_nodes bases rows) old → AreKnown after (groups_at as_nodes bases after) new → flat_map (new_entries old new) new ≡ entries_by_row as_nodes bases rows row
+    → AreKnown rows (groups_at as_nodes bases rows) old → AreKnown after (groups_at as_nodes bases after) new → flat_map (entries_behind (log_length old) new) new ≡ entries_by_row as_nodes bases rows row
 gained_is bases rows after row old new is known known_new =
     gained_here bases rows row old new known (subst (λ (a : List (Row Mail OrderLine)). AreKnown a (groups_at as_nodes bases a) new) is known_new)
 
@@ -228,11 +228,11 @@ length_was rows after name acceptance bases knowns later count group adds known 
 -- what a row adds, where the log that it adds to may create groups
 pub born_gained : (bases : List Base) (rows after : List (Row Mail OrderLine)) (row : Row Mail OrderLine) (name : Draw) (acceptance : Acceptance) (knowns later new : List Known) (count : ℕ) → after ≡ rows ++ row ∷ []
     → Adds (Some (name, acceptance)) rows after → AreKnown rows (groups_at as_nodes bases rows) knowns → HoldKnown after knowns later → count ≡ length (log_kept name knowns)
-    → AreKnown after (groups_at as_nodes bases after) new → flat_map (entries_behind name count (map length_kept later) new) new ≡ entries_by_row as_nodes bases rows row
+    → AreKnown after (groups_at as_nodes bases after) new → flat_map (entries_behind (length_before name count (map length_kept later)) new) new ≡ entries_by_row as_nodes bases rows row
 born_gained bases rows after row name acceptance knowns later new count is adds known hold count_is known_new =
     let lengths : List (Draw × ℕ) = map length_kept later in
-    flat_same (entries_behind name count lengths new) (new_entries knowns new) new
-    (each_of (λ (k : Known). entries_behind name count lengths new k ≡ new_entries knowns new k) new
+    flat_same (entries_behind (length_before name count lengths) new) (entries_behind (log_length knowns) new) new
+    (each_of (λ (k : Known). entries_behind (length_before name count lengths) new k ≡ entries_behind (log_length knowns) new k) new
     (λ k. ap (λ (n : ℕ). entries_from k.base.core.id (n + 1) (drop n (log_kept k.base.core.id new)))
     (length_was rows after name acceptance (groups_at as_nodes bases rows) knowns later count k.base.core.id adds known hold count_is)))
     ∙ gained_is bases rows after row knowns new is known known_new
@@ -263,15 +263,10 @@ pub stay_push : (rows after : List (Row Mail OrderLine)) (knowns later : List Kn
     → (Each (IsKnown rows) knowns → StayKnown rows after knowns later) → (IsKnown rows known → StaysKnown rows after known next) → StayKnown rows after (knowns ++ known ∷ []) (later ++ next ∷ [])
 stay_push rows after knowns later known next all so_far one =
     let parts = split_each (IsKnown rows) knowns known all in
-    let stay = so_far parts.0 in
-    let stays = one parts.1 in
     let bases : List Known → List Base = map (λ (k : Known). k.base) in
     record {
-      same =
-          map-append (λ (k : Known). k.base) later (next ∷ []) ∙ ap (λ (bs : List Base). bs ++ next.base ∷ []) stay.same
-          ∙ ap (λ (b : Base). bases knowns ++ b ∷ []) stays.base_is ∙ sym (map-append (λ (k : Known). k.base) knowns (known ∷ []));
-      each = Each-push (IsKnown after) later next stay.each stays.fact;
-      children = subst (Each (SameChildren rows after)) (sym (map-append (λ (k : Known). k.base) knowns (known ∷ []))) (Each-push (SameChildren rows after) (bases knowns) known.base stay.children (same_children parts.1 stays));
+      hold = hold_push rows after knowns later known next all (λ before. (so_far before).hold) (λ is. let stays = one is in (stays.fact, stays.base_is));
+      children = subst (Each (SameChildren rows after)) (sym (map-append (λ (k : Known). k.base) knowns (known ∷ []))) (Each-push (SameChildren rows after) (bases knowns) known.base (so_far parts.0).children (same_children parts.1 (one parts.1)));
     }
   where
     same_children : IsKnown rows known → StaysKnown rows after known next → SameChildren rows after known.base

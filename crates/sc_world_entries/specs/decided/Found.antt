@@ -1,6 +1,6 @@
 -- The groups that rows decide, each with what is kept of it, and the entries that one more row adds.
-use Rattle.std.specs.List.{list_any}
-use Rattle.std.specs.Prelude.{◌≡◌, ℕ, ◌+◌, Bool, List, [], ◌∷◌, length, drop, map, find, true, false, if◌then◌else◌, Option, Some, None}
+use Rattle.std.specs.List.{flat_map, list_any}
+use Rattle.std.specs.Prelude.{◌≡◌, ℕ, ◌+◌, Bool, List, [], ◌∷◌, length, drop, fold, map, find, true, false, if◌then◌else◌, Option, Some, None}
 use Rattle.sc_base.specs.Among.{Each}
 use Rattle.sc_base.specs.Same.{same_draw}
 use Rattle.sc_base.specs.declared.names.Draw.{Draw}
@@ -12,7 +12,7 @@ use Rattle.sc_actor.specs.declared.rows.Row.{Row}
 use Rattle.sc_meaning.specs.sound.Players.{as_nodes}
 use Rattle.sc_meaning.specs.declared.entries.LogEntry.{LogEntry}
 use Rattle.sc_meaning.specs.sound.Accepts.{accepts}
-use Rattle.sc_meaning.specs.sound.GroupsOf.{children_by, groups_at, with_next_children, entries_from, entries_after}
+use Rattle.sc_meaning.specs.sound.GroupsOf.{children_by, groups_at, with_birth, with_next_children, entries_from}
 use Rattle.sc_world_logs.specs.declared.known.Known.{Known}
 use Rattle.sc_world_logs.specs.declared.known.Taking.{Taking}
 use Rattle.sc_world_entries.specs.declared.decided.births.Groups.{Groups}
@@ -37,16 +37,19 @@ pub record AreKnown (rows : List (Row Mail OrderLine)) (bases : List Base) (know
   pub bases_are : map (λ known. known.base) knowns ≡ bases
   pub each : Each (IsKnown rows) knowns
 
--- What is kept later is about the same groups and says what the longer rows say, and the logs of these groups create the same children in both.
-pub record StayKnown (rows after : List (Row Mail OrderLine)) (knowns later : List Known) : Type 0 where
-  pub same : map (λ known. known.base) later ≡ map (λ known. known.base) knowns
-  pub each : Each (IsKnown after) later
-  pub children : Each (λ base. children_by as_nodes after base ≡ children_by as_nodes rows base) (map (λ known. known.base) knowns)
+-- the children that the logs of these create are among the groups, by their names: to add them adds none
+abbrev pub HaveChildrenOf : List Base → List Known → Type 0
+HaveChildrenOf bases knowns = fold with_birth bases (flat_map (λ known. known.children.items) knowns) ≡ bases
 
 -- What is kept later is about the same groups and says what the rows say.
 pub record HoldKnown (rows : List (Row Mail OrderLine)) (knowns later : List Known) : Type 0 where
   pub same : map (λ known. known.base) later ≡ map (λ known. known.base) knowns
   pub each : Each (IsKnown rows) later
+
+-- What is kept later is about the same groups and says what the longer rows say, and the logs of these groups create the same children in both.
+pub record StayKnown (rows after : List (Row Mail OrderLine)) (knowns later : List Known) : Type 0 where
+  pub hold : HoldKnown after knowns later
+  pub children : Each (λ base. children_by as_nodes after base ≡ children_by as_nodes rows base) (map (λ known. known.base) knowns)
 
 -- what became of what is kept of these groups after one row more
 pub record AreTaken (rows after : List (Row Mail OrderLine)) (taking : Taking) (knowns later : List Known) : Type 0 where
@@ -70,15 +73,14 @@ length_of name (noted ∷ lengths) = if same_draw noted.0 name then noted.1 else
 abbrev pub length_before : Draw → ℕ → List (Draw × ℕ) → Draw → ℕ
 length_before name count lengths group = if same_draw group name then count else length_of group lengths
 
--- the entries that the log of a group has behind those that it had before the row
-abbrev pub entries_behind : Draw → ℕ → List (Draw × ℕ) → List Known → Known → List LogEntry
-entries_behind name count lengths knowns known =
-    entries_from known.base.core.id (length_before name count lengths known.base.core.id + 1)
-    (drop (length_before name count lengths known.base.core.id) (log_kept known.base.core.id knowns))
+-- how long the log is that is kept of the group with a name
+abbrev pub log_length : List Known → Draw → ℕ
+log_length knowns name = length (log_kept name knowns)
 
--- the entries that the log of a group has gained, by what was kept of all groups before and what is kept now
-abbrev pub new_entries : List Known → List Known → Known → List LogEntry
-new_entries before after known = entries_after known.base.core.id (log_kept known.base.core.id before) (log_kept known.base.core.id after)
+-- the entries that the log of a group has behind those that it had before, where this says how many it had
+abbrev pub entries_behind : (Draw → ℕ) → List Known → Known → List LogEntry
+entries_behind had knowns known =
+    entries_from known.base.core.id (had known.base.core.id + 1) (drop (had known.base.core.id) (log_kept known.base.core.id knowns))
 
 -- the entries of this log behind its first `count`, where what is kept is about the group with a name
 abbrev pub grown_by : Draw → ℕ → List Command → Known → List LogEntry

@@ -1,6 +1,6 @@
 //! The groups that rows decide: those of a scenario, and round by round the children that the
 //! decided logs of the groups found so far create.
-ghost use Rattle.std.specs.Prelude.{◌≡◌, ◌&&◌, ◌++◌, ◌<◌, [], List, true, None, fold, find, get_or, length, IfOk, IfSome, IsOk, OnOk};
+ghost use Rattle.std.specs.Prelude.{◌≡◌, ◌&&◌, ◌++◌, ◌<◌, [], List, true, None, drop, fold, find, get_or, length, take, IfOk, IfSome, IsOk, OnOk};
 ghost use Rattle.std.specs.List.{flat_map, list_any};
 ghost use Rattle.std.specs.Option.{option_copied};
 ghost use Rattle.sc_base.specs.Among.{Each};
@@ -15,7 +15,7 @@ ghost use Rattle.sc_meaning.specs.sound.GroupsOf.{with_birth, with_next_children
 ghost use Rattle.sc_world_logs.specs.Known.{Adds, IsKnown};
 ghost use Rattle.sc_world_logs.specs.declared.accepting.Acceptance.{Acceptance};
 ghost use Rattle.sc_world_logs.specs.declared.known.Known.{Known};
-ghost use Rattle.sc_world_entries.specs.decided.Found.{is_kept_of, log_kept, AreKnown, AreTracked, IsHeard};
+ghost use Rattle.sc_world_entries.specs.decided.Found.{is_kept_of, log_kept, AreKnown, AreTracked, HaveChildrenOf, IsHeard};
 
 use sc_actor::Row;
 use sc_base::{Draw, Dup, OutOfMemory, Same, same_draw};
@@ -175,6 +175,8 @@ fn first_knowns(
 {
     let mut knowns = Vec::new(alloc);
     for base in bases {
+        // Room for all groups of the pool at once, since a group is large.
+        knowns.reserve(pool.len().saturating_add(1))?;
         let known = take_known(alloc, pool, heard, base, rows)?;
         knowns.push(known)?;
     }
@@ -247,10 +249,22 @@ fn add_births(
     Ok(())
 }
 
-// Returns the children that the logs of the groups create, unless a group has their name.
+// Returns the groups from a place on, or none where there are fewer.
+fn behind(knowns: &[Known], from: usize) -> &[Known]
+    ensures { result.now ≡ drop from knowns.now }
+{
+    if from <= knowns.len() {
+        &knowns[from..]
+    } else {
+        &[]
+    }
+}
+
+// Returns the children that the logs of the newest groups create, unless a group has their name.
 fn born_of(
     alloc: Global,
     knowns: &[Known],
+    newest: &[Known],
     pool: &mut Vec<Known>,
     heard: &Heard,
     rows: &[Row<Mail, OrderLine>],
@@ -259,12 +273,12 @@ fn born_of(
         Each (IsKnown rows.now) pool.old.items →
         (bases : List Base) → AreKnown rows.now bases knowns.now →
         AreKnown rows.now (fold with_birth bases
-        (flat_map (λ known. known.children.items) knowns.now)) (knowns.now ++ born.items) ×
+        (flat_map (λ known. known.children.items) newest.now)) (knowns.now ++ born.items) ×
         Each (IsKnown rows.now) pool.new.items) }
-    ensures none { knowns.now ≡ [] → IfOk result (λ born. born.items ≡ []) × IsOk result }
+    ensures none { newest.now ≡ [] → IfOk result (λ born. born.items ≡ []) × IsOk result }
 {
     let mut born = Vec::new(alloc);
-    for known in knowns {
+    for known in newest {
         let children = known.children.as_slice();
         add_births(alloc, knowns, &mut born, pool, heard, children, rows)?;
     }
@@ -278,10 +292,12 @@ fn add_all(knowns: &mut Vec<Known>, mut born: Vec<Known>) -> Result<(), OutOfMem
     Ok(())
 }
 
-// Adds the children that the logs of the groups create. Returns whether there was none to add.
+// Adds the children that the logs of the groups from a place on create, where those of the groups
+// before it are there. Returns whether there was none to add.
 fn look_on(
     alloc: Global,
     knowns: &mut Vec<Known>,
+    from: usize,
     pool: &mut Vec<Known>,
     heard: &Heard,
     rows: &[Row<Mail, OrderLine>],
@@ -289,13 +305,17 @@ fn look_on(
     ensures known { IfOk result (λ were. IsHeard rows.now heard.now →
         Each (IsKnown rows.now) pool.old.items →
         (bases : List Base) → AreKnown rows.now bases knowns.old.items →
+        HaveChildrenOf bases (take from knowns.old.items) →
         AreKnown rows.now (with_next_children as_nodes rows.now bases) knowns.new.items ×
         (were ≡ true → with_next_children as_nodes rows.now bases ≡ bases) ×
-        Each (IsKnown rows.now) pool.new.items) }
+        Each (IsKnown rows.now) pool.new.items ×
+        HaveChildrenOf (with_next_children as_nodes rows.now bases)
+        (take (length knowns.old.items) knowns.new.items)) }
     ensures none { knowns.old.items ≡ [] → IfOk result (λ were. knowns.new.items ≡ []) × IsOk result }
 {
     let kept = knowns.as_slice();
-    let born = born_of(alloc, kept, pool, heard, rows)?;
+    let newest = behind(kept, from);
+    let born = born_of(alloc, kept, newest, pool, heard, rows)?;
     let found = born.as_slice();
     if found.is_empty() {
         return Ok(true);
@@ -318,14 +338,18 @@ pub(crate) fn groups_from(
     ensures none { bases.now ≡ [] → IsOk result }
 {
     let mut knowns = first_knowns(alloc, bases, rows, &mut pool, heard)?;
+    let mut from = 0usize;
     for _round in 0..rows.len() {
-        let were = look_on(alloc, &mut knowns, &mut pool, heard, rows)?;
+        let kept = knowns.as_slice();
+        let count = kept.len();
+        let were = look_on(alloc, &mut knowns, from, &mut pool, heard, rows)?;
         if were {
             return Ok(Groups {
                 knowns,
                 settled: true,
             });
         }
+        from = count;
     }
     Ok(Groups {
         knowns,

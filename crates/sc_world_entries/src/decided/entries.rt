@@ -15,7 +15,7 @@ ghost use Rattle.sc_meaning.specs.sound.GroupsOf.{groups_at, log_at, entries_fro
 ghost use Rattle.sc_world_logs.specs.declared.accepting.Acceptance.{Acceptance};
 ghost use Rattle.sc_world_logs.specs.declared.known.Known.{Known};
 ghost use Rattle.sc_world_logs.specs.Known.{Adds};
-ghost use Rattle.sc_world_entries.specs.decided.Found.{log_kept, length_kept, length_of, length_before, new_entries, entries_behind, grown_by, AreKnown, AreTaken, AreTracked, HoldKnown, IsHeard};
+ghost use Rattle.sc_world_entries.specs.decided.Found.{log_kept, length_kept, length_of, length_before, log_length, entries_behind, grown_by, AreKnown, AreTaken, AreTracked, HoldKnown, IsHeard};
 
 use crate::decided::births::{Groups, Heard, both, groups_from, groups_of, hear, log_in};
 use sc_actor::Row;
@@ -58,7 +58,7 @@ fn add_gained(
     after: &[Known],
 ) -> Result<(), OutOfMemory>
     ensures { OnOk result (entries.new.items ≡ entries.old.items ++
-        flat_map (new_entries before.now after.now) after.now) }
+        flat_map (entries_behind (log_length before.now) after.now) after.now) }
 {
     for known in after {
         let name = known.base.core.id;
@@ -193,7 +193,7 @@ fn add_behind(
     knowns: &[Known],
 ) -> Result<(), OutOfMemory>
     ensures { OnOk result (entries.new.items ≡ entries.old.items ++
-        flat_map (entries_behind name count lengths.now knowns.now) knowns.now) }
+        flat_map (entries_behind (length_before name count lengths.now) knowns.now) knowns.now) }
 {
     for known in knowns {
         let group = known.base.core.id;

@@ -1,13 +1,9 @@
-use Rattle.std.proofs.Common.{◌≡◌, ◌∙◌, ap, subst, arith}
-use Rattle.std.specs.Prelude.{IfOk}
-use Rattle.serde_json.specs.Data.{Data}
-use Rattle.serde_json.specs.Written.{compact_text, has_float}
-use Rattle.sc_scenario.specs.report.Report.{with_line_feed}
-use Rattle.sc_explain.proofs.FactsProofs.PlainFacts.{birth_whole}
+use Rattle.std.proofs.Common.{◌∙◌}
+use Rattle.sc_explain.proofs.FactsProofs.Lines.{birth_text}
 use Rattle.sc_explain.proofs.facts.lines.birth_line.Goals as goal
 
-pub line_of-requires : goal.line_of-requires
-line_of-requires c = ap has_float c.in_ok-json.ensures.json ∙ birth_whole c.args.row c.args.name c.args.members.now c.in_ok-json.ensures.fits.0 c.in_ok-json.ensures.fits.1 (omega (arith, c.ranges.row))
-
 pub returns : goal.returns
-returns c = subst (λ (json : Data). IfOk c.line_of.result (λ line. line ≡ with_line_feed (compact_text json))) c.in_ok-json.ensures.json c.line_of.ensures
+returns c =
+    c.from_vec.ensures
+    ∙ birth_text c.args.row c.args.name c.args.members.now c.in_ok-text.text.items c.add_next.new.text.items c.add_next-2.new.text.items c.add_next-3.new.text.items c.add_word.new.text.items
+    c.in_ok-text.ensures.items c.in_ok-add_next.ensures c.in_ok-add_next-2.ensures c.in_ok-add_next-3.ensures c.in_ok-add_word.ensures

@@ -11,6 +11,6 @@ use Rattle.sc_world_entries.proofs.decided.births.born_of.Given as goal
 abbrev pub invariant-loop-known : goal.invariant-loop-known
 invariant-loop-known l = record {
   known : IsHeard l.rows l.heard → Each (IsKnown l.rows) l.initial.pool.items → (bases : List Base) → AreKnown l.rows bases l.knowns
-      → AreKnown l.rows (fold with_birth bases (flat_map (λ known. known.children.items) (take l.known-index l.knowns))) (l.knowns ++ l.born.items) × Each (IsKnown l.rows) l.pool.items;
-  none : l.knowns ≡ [] → l.born.items ≡ [];
+      → AreKnown l.rows (fold with_birth bases (flat_map (λ known. known.children.items) (take l.known-index l.newest))) (l.knowns ++ l.born.items) × Each (IsKnown l.rows) l.pool.items;
+  none : l.newest ≡ [] → l.born.items ≡ [];
 }

@@ -1,8 +1,9 @@
-use Rattle.std.proofs.Common.{◌+◌, [], List, length, take, refl, arith, sym, ap, subst}
+use Rattle.std.proofs.Common.{◌+◌, [], ◌∷◌, ◌++◌, List, length, take, refl, arith, sym, ap, subst, ◌∙◌}
 use Rattle.std.proofs.lemmas.List.{take_all}
 use Rattle.sc_base.specs.Among.{Each}
 use Rattle.sc_words.specs.declared.commands.cores.Base.{Base}
 use Rattle.sc_world_logs.specs.Known.{IsKnown}
+use Rattle.sc_world_logs.specs.declared.known.Known.{Known}
 use Rattle.sc_world_entries.specs.decided.Found.{AreKnown}
 use Rattle.sc_world_entries.proofs.DecidedProofs.Families.{first_push}
 use Rattle.sc_world_entries.proofs.decided.births.first_knowns.Goals as goal
@@ -18,7 +19,7 @@ loop-base-preserved c = record {
   known = λ heard pool.
       let so_far = c.loop-base.invariant.known heard pool in
       let one = c.in_ok-known.ensures heard so_far.1 in (
-        subst (AreKnown c.args.rows.now (take (c.loop-base.base-index + 1) c.args.bases.now)) (sym c.in_ok-push.ensures.items)
+        subst (AreKnown c.args.rows.now (take (c.loop-base.base-index + 1) c.args.bases.now)) (sym (c.in_ok-push.ensures.items ∙ ap (λ (ks : List Known). ks ++ c.in_ok-known.known ∷ []) c.in_ok-reserve.ensures.items))
             (first_push c.args.rows.now c.args.bases.now c.loop-base.base-index c.loop-base.knowns.items c.base-item.result _ (omega (arith, c.loop-base-test.true)) c.base-item.is so_far.0
             one.0 one.1),
         one.2,

@@ -14,7 +14,7 @@ loop-known-init c = record {
   long = refl;
   taken = λ rows later adds. record {
     holds = λ holds each. record { same = refl; each = tt };
-    calm = λ calm each. record { same = refl; each = tt; children = tt };
+    calm = λ calm each. record { hold = record { same = refl; each = tt }; children = tt };
   };
   left = refl;
 }

@@ -6,7 +6,7 @@ use Rattle.sc_words.specs.declared.commands.effects.Effect.TheVariants.{Done}
 use Rattle.sc_explain.specs.rows.Counts.{recounted}
 use Rattle.sc_explain.specs.rows.Explained.{ring_groups_in}
 use Rattle.sc_explain.proofs.RowsProofs.Following.{follows_done, follows_not}
-use Rattle.sc_explain.proofs.rows.groups.follow.Goals as goal
+use Rattle.sc_explain.proofs.rows.following.follow.Goals as goal
 
 pub returns-in-Done : goal.returns-in-Done
 returns-in-Done c =
