@@ -40,3 +40,5 @@ pub mod Replays
 pub mod Lists
 pub mod RefusedOrders
 pub mod TransactionRows
+pub mod ClientWalks
+pub mod ClientParts

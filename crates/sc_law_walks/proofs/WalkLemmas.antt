@@ -28,3 +28,5 @@ pub use Rattle.sc_law_walks.proofs.Replays.{StepsHold, replay_keeps, got_no_go}
 pub use Rattle.sc_law_walks.proofs.Lists.{Each-drop, map_among}
 pub use Rattle.sc_law_walks.proofs.RefusedOrders.{order_refused}
 pub use Rattle.sc_law_walks.proofs.TransactionRows.{TransactionParts}
+pub use Rattle.sc_law_walks.proofs.ClientWalks.{SendsTo, sent_step, request_step, started_step, sent_same, request_same, each_sent, redirects, IgnoresAnswer, AnswerWalk, waits_so, asked_so, asked_last, taken_step, redirected_step, answer_step, IgnoresBody, ignored_answer, mail_step, ClientWalk, client_step}
+pub use Rattle.sc_law_walks.proofs.ClientParts.{ClientParts, parts_step}

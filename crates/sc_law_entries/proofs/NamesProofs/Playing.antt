@@ -1,22 +1,24 @@
 -- All rows of a node's table and of a client's.
-use Rattle.std.proofs.Common.{◌≡◌, ℕ, ◌+◌, ◌||◌, not, nat_le, nat_lt, eqb, Bool, true, List, [], ◌∷◌, ◌++◌, length, Option, Some, None, refl}
+use Rattle.std.proofs.Common.{◌≡◌, ℕ, ◌||◌, not, nat_lt, eqb, Bool, true, List, [], ◌∷◌, ◌++◌, length, Option, Some, None, refl, sym, subst}
 use Rattle.std.specs.Prelude.{is_some}
-use Rattle.std.specs.List.{fold}
+use Rattle.std.specs.Option.{option_map}
 use Rattle.std.specs.Map.{set_value, remove_entry}
-use Rattle.sc_base.specs.Definitions.{Each, end_of, key_of, same_draw, pos_of, Drawer, next_name}
-use Rattle.sc_node_table.specs.Values.{Draw, Op, Input, Got, Base, OrderLine, AnswerBody, Mail, MailBody, Request, Answer, Prepare, Accept, Learn, Ask, Install, TxPrepare, TxElsewhere, TxWatch, Told as ToldMail}
+use Rattle.std.proofs.lemmas.Bool.{cond_both}
+use Rattle.sc_base.specs.Definitions.{Each, end_of, same_draw, Drawer, next_name}
+use Rattle.sc_base.proofs.Lemmas.{draw_is}
+use Rattle.sc_node_table.specs.Values.{Draw, Input, Got, Base, OrderLine, Mail, MailBody, Request, Answer, Prepare, Accept, Learn, Ask, Install, TxPrepare, TxElsewhere, TxWatch, Told as ToldMail}
 use Rattle.sc_actor.specs.declared.rows.Input.TheVariants.{Tick, Go, Told}
-use Rattle.sc_client_table.specs.table.TableDefinitions.{Client as ClientState, waiting_request, ClientStep, asked_of, sent_to, sent_where, chosen_for, request_sent, started, turned_on, client_ticked, waits_for, was_asked, redirected, answer_taken, got, table}
+use Rattle.sc_client_table.specs.table.TableDefinitions.{Client as ClientState, ClientStep, table}
 use Rattle.sc_words.specs.declared.commands.orders.OrderRefusal.TheVariants as Why
 use Rattle.sc_words.specs.declared.commands.orders.OrderResult.TheVariants as Results
 use Rattle.sc_client_table.specs.declared.lookup.ways.Way.{Way}
-use Rattle.sc_client_table.specs.lookup.LookupDefinitions.{KnownGroups, way_to, better, chosen, target_in, changed, preferring, passed_on, starting, group_learnt, learnt_from_not_mine, learnt_from_gone, far, new_way, next_target}
+use Rattle.sc_client_table.specs.lookup.LookupDefinitions.{KnownGroups, way_to, target_in, target_of, changed, starting, group_learnt, new_way, next_target}
 use Rattle.sc_mail.specs.declared.bodies.AnswerBody.TheVariants as Answers
 use Rattle.sc_node_table.specs.NodeDefinitions.{NodeState, replica_of, with_replica, with_new, group_of_mail, absent, with_made, unknown, may_come, with_born, with_children, taken_by, routed, on_mail, group_of_order, ordered_of, ticked, node_table, takes_name, untaken, ordered_row, names_after_tick, ReplicaState, Place, Executed, name_of, born_replica, last_slot, tick_row, made_by, mailed, slots_ahead}
 use Rattle.sc_words.proofs.PaxosProofs.PaxosLemmas.{Each-append}
-use Rattle.sc_law_entries.specs.names.NameDefinitions.{Opt, CoreNames, AnswerNames, BodiesNames, MailNames, ReplicaNames, NodeNames, ClientNames, Owned, waited, wished_at, drawn_wishing, drawn_ticking}
-use Rattle.sc_law_entries.proofs.NamesProofs.EachFound.{opt_find, opt_map}
-use Rattle.sc_law_walks.proofs.WalkLemmas.{either_way}
+use Rattle.sc_law_entries.specs.names.NameDefinitions.{Opt, CoreNames, BodiesNames, MailNames, ReplicaNames, NodeNames, ClientNames, Owned, waited, wished_at, drawn_wishing, drawn_ticking}
+use Rattle.sc_law_entries.proofs.NamesProofs.EachFound.{opt_find}
+use Rattle.sc_law_walks.proofs.WalkLemmas.{either_way, ClientParts, parts_step}
 use Rattle.sc_law_entries.proofs.NamesProofs.Sent.{Sent, sent_names}
 use Rattle.sc_law_entries.proofs.NamesProofs.HeldNames.{Fine, born_names}
 use Rattle.sc_law_entries.proofs.NamesProofs.NamesInRows.{Kids, made_names, tick_names, mailed_names, mailed_kids, ordered_row_names, order_names}
@@ -147,86 +149,31 @@ module _ (K : Draw → Type 0) where
       either_way Ks (is_some (way_to group known)) (starting group lo known) (known ++ (group, new_way lo members) ∷ []) (changed_names (λ way. record way { lo = lo }) group known (way_to group known) k)
       (Each-append (λ (entry : Draw × Way). K entry.0) known ((group, new_way lo members) ∷ []) k (g, tt))
 
-  abbrev Best : Option (Draw × Way) → Type 0
-  Best o = Opt (λ (entry : Draw × Way). K entry.0) o
+  -- a group that has a target is known
+  target_name : (group : Draw) (known : KnownGroups) (target : ℕ) → target_in group known ≡ Some target → Ks known → K group
+  target_name group [] target t k = absurd (cc)
+  target_name group (entry ∷ known) target t k =
+      cond_both (same_draw group entry.0) (Some entry.1) (way_to group known) (λ (o : Option Way). option_map target_of o ≡ Some target → K group)
+      (λ same _. subst K (sym (draw_is group entry.0 same)) k.0) (λ _ more. target_name group known target more k.1) t
 
-  nearer_names : (p : ℕ) (best : Option (Draw × Way)) (entry : Draw × Way) → Best best → K entry.0 → Best (better p best entry)
-  nearer_names p None entry b e = e
-  nearer_names p (Some best) entry b e = either_way (λ (x : Draw × Way). K x.0) (nat_le (far p entry.1) (far p best.1)) entry best e b
-
-  best_names : (p : ℕ) (known : KnownGroups) (best : Option (Draw × Way)) → Best best → Ks known → Best (fold (better p) best known)
-  best_names p [] best b k = b
-  best_names p (entry ∷ known) best b k = best_names p known (better p best entry) (nearer_names p best entry b k.0) k.1
-
-  chosen_names : (p : ℕ) (known : KnownGroups) → Ks known → Opt K (chosen p known)
-  chosen_names p known k = opt_map (λ (entry : Draw × Way). K entry.0) K (λ entry. entry.0) (λ entry e. e) (fold (better p) None known) (best_names p known None tt k)
-
-  asked_names : (client : ClientState) (group : Draw) (target : Option ℕ) (request : Option (ℕ × Op)) → K group → ClientNames K client → C (asked_of client group target request)
-  asked_names client group (Some target) (Some request) g k = (record { known = k.known; asked = g }, (record { body = g }, tt))
-  asked_names client group (Some target) None g k = (k, tt)
-  asked_names client group None request g k = (k, tt)
-
-  sent_to_names : (group : Draw) (client : ClientState) → K group → ClientNames K client → C (sent_to group client)
-  sent_to_names group client g k = asked_names client group (target_in group client.known) (waiting_request client) g k
-
-  where_names : (client : ClientState) (o : Option Draw) → Opt K o → ClientNames K client → C (sent_where client o)
-  where_names client (Some group) g k = sent_to_names group client g k
-  where_names client None g k = (k, tt)
-
-  chosen_for_names : (client : ClientState) (o : Option (ℕ × Op)) → ClientNames K client → Opt K (chosen_for client o)
-  chosen_for_names client (Some request) k = chosen_names (pos_of (key_of request.1)) client.known k.known
-  chosen_for_names client None k = tt
-
-  request_names : (client : ClientState) → ClientNames K client → C (request_sent client)
-  request_names client k = where_names client (chosen_for client (waiting_request client)) (chosen_for_names client (waiting_request client) k) k
-
-  with_waiting : (client : ClientState) (waiting : Option ℕ) → ClientNames K client → ClientNames K (record client { waiting = waiting })
-  with_waiting client waiting k = record { known = k.known; asked = k.asked }
-
-  with_known : (client : ClientState) (known : KnownGroups) → Ks known → ClientNames K client → ClientNames K (record client { known = known })
-  with_known client known n k = record { known = n; asked = k.asked }
-
-  started_names : (seq : ℕ) (client : ClientState) → ClientNames K client → C (started seq client)
-  started_names seq client k =
-      either_way C (nat_le seq (length client.requests)) (request_sent (record client { waiting = Some seq })) (record client { waiting = None }, [])
-      (request_names (record client { waiting = Some seq }) (with_waiting client (Some seq) k)) (with_waiting client None k, tt)
-
-  turned_names : (group : Draw) (client : ClientState) → K group → ClientNames K client → C (turned_on group client)
-  turned_names group client g k =
-      sent_to_names group (record client { known = passed_on group client.known }) g
-      (with_known client (passed_on group client.known) (changed_names (λ way. record way { preferred = Some (next_target way) }) group client.known (way_to group client.known) k.known) k)
-
-  tick_client : (client : ClientState) (waiting : Option ℕ) (asked : Option (Draw × ℕ)) → Opt (λ (a : Draw × ℕ). K a.0) asked → ClientNames K client → C (client_ticked client waiting asked)
-  tick_client client (Some seq) (Some asked) a k = turned_names asked.0 client a k
-  tick_client client (Some seq) None a k = (k, tt)
-  tick_client client None asked a k = (k, tt)
-
-  redirected_names : (group : Draw) (answer : AnswerBody) (client : ClientState) → K group → AnswerNames K answer → ClientNames K client → C (redirected group answer client)
-  redirected_names group (Answers.NotLeader (Some hint)) client g a k =
-      sent_to_names group (record client { known = preferring group hint client.known }) g
-      (with_known client (preferring group hint client.known) (changed_names (λ way. record way { preferred = Some hint }) group client.known (way_to group client.known) k.known) k)
-  redirected_names group (Answers.NotLeader None) client g a k = turned_names group client g k
-  redirected_names group (Answers.NotMine arc succ) client g a k =
-      request_names (record client { known = learnt_from_not_mine group arc succ client.known })
-      (with_known client (learnt_from_not_mine group arc succ client.known)
-      (learnt_names succ.group (end_of arc) succ.members (starting group arc.lo client.known) a (changed_names (λ way. record way { lo = arc.lo }) group client.known (way_to group client.known) k.known)) k)
-  redirected_names group (Answers.Gone into) client g a k =
-      request_names (record client { known = learnt_from_gone group into client.known })
-      (with_known client (learnt_from_gone group into client.known)
-      (learnt_names into.group into.lo into.members (remove_entry (same_draw group) client.known) a (entry_names (same_draw group) client.known k.known)) k)
-  redirected_names group (Answers.Value reply) client g a k = (k, tt)
-  redirected_names group (Answers.Stale last) client g a k = (k, tt)
-
-  answer_names : (from : ℕ) (group : Draw) (seq : ℕ) (answer : AnswerBody) (client : ClientState) → K group → AnswerNames K answer → ClientNames K client → C (answer_taken from group seq answer client)
-  answer_names from group seq (Answers.Value reply) client g a k = started_names (seq + 1) (record client { replies = client.replies ++ reply ∷ [] }) (record { known = k.known; asked = k.asked })
-  answer_names from group seq (Answers.NotLeader hint) client g a k = either_way C (was_asked client.asked from group) _ _ (redirected_names group (Answers.NotLeader hint) client g a k) (k, tt)
-  answer_names from group seq (Answers.NotMine arc succ) client g a k = either_way C (was_asked client.asked from group) _ _ (redirected_names group (Answers.NotMine arc succ) client g a k) (k, tt)
-  answer_names from group seq (Answers.Gone into) client g a k = either_way C (was_asked client.asked from group) _ _ (redirected_names group (Answers.Gone into) client g a k) (k, tt)
-  answer_names from group seq (Answers.Stale last) client g a k = either_way C (was_asked client.asked from group) _ _ (redirected_names group (Answers.Stale last) client g a k) (k, tt)
-
-  got_names : (from : ℕ) (body : MailBody) (client : ClientState) → BodiesNames K body → ClientNames K client → C (got from body client)
-  got_names from (Answer group seq answer) client b k = either_way C (waits_for client.waiting seq) (answer_taken from group seq answer client) (client, []) (answer_names from group seq answer client b.0 b.1 k) (k, tt)
-  got_names from _ client b k = (k, tt)
+  name_parts : ClientParts (ClientNames K) (MailNames K) (MailNames K)
+  name_parts = record {
+    waits = λ waiting client k. record { known = k.known; asked = k.asked };
+    replied = λ reply client k. record { known = k.known; asked = k.asked };
+    asks = λ group target request client t k. (let g = target_name group client.known target t k.known in (record { known = k.known; asked = g }, record { body = g }));
+    passed = λ group client k. record { known = changed_names (λ way. record way { preferred = Some (next_target way) }) group client.known (way_to group client.known) k.known; asked = k.asked };
+    hinted = λ mail group seq hint client m e k. record { known = changed_names (λ way. record way { preferred = Some hint }) group client.known (way_to group client.known) k.known; asked = k.asked };
+    not_mine = λ mail group seq arc succ client m e k. record {
+      known =
+          learnt_names succ.group (end_of arc) succ.members (starting group arc.lo client.known) (subst (BodiesNames K) e m.body).1
+          (changed_names (λ way. record way { lo = arc.lo }) group client.known (way_to group client.known) k.known);
+      asked = k.asked;
+    };
+    gone = λ mail group seq into client m e k. record {
+      known = learnt_names into.group into.lo into.members (remove_entry (same_draw group) client.known) (subst (BodiesNames K) e m.body).1 (entry_names (same_draw group) client.known k.known);
+      asked = k.asked;
+    };
+  }
 
   -- what an input brings to a client
   abbrev pub BringsClient : Input Mail OrderLine → Type 0
@@ -236,7 +183,4 @@ module _ (K : Draw → Type 0) where
   BringsClient (Told line) = Unit {0}
 
   pub client_names : (client : ClientState) (input : Input Mail OrderLine) → BringsClient input → ClientNames K client → C (table client input)
-  client_names client (Got mail) b k = got_names mail.from mail.body client b.body k
-  client_names client Tick b k = tick_client client client.waiting client.asked k.asked k
-  client_names client Go b k = started_names 1 client k
-  client_names client (Told line) b k = (k, tt)
+  client_names client input b k = parts_step (ClientNames K) (MailNames K) (MailNames K) name_parts client input (λ mail e. subst BringsClient e b) k

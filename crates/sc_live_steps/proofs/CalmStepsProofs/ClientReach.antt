@@ -1,21 +1,22 @@
 -- What a client owes with what it owes for groups that it does not know: each answer lowers it.
-use Rattle.std.proofs.Common.{◌≡◌, ℕ, zero, suc, ◌+◌, ◌*◌, ◌≤◌, leb, ltb, eqb, Bool, true, false, true≢false, cond, List, [], ◌∷◌, ◌++◌, length, sum_by, Option, Some, None, refl, sym, ◌∙◌, ap, arith}
+use Rattle.std.proofs.Common.{◌≡◌, ℕ, zero, suc, ◌+◌, ◌*◌, ◌≤◌, ltb, Bool, true, false, cond, List, [], ◌∷◌, ◌++◌, length, sum_by, Option, Some, None, refl, ◌∙◌, ap, arith}
 use Rattle.std.specs.Prelude.{is_some}
 use Rattle.std.specs.Map.{set_value}
-use Rattle.std.proofs.lemmas.Bool.{eqb-true, leb-true, leb-false, ltb-true, ltb-false}
+use Rattle.std.proofs.lemmas.Bool.{leb-true, leb-false, lt-ltb, le-ltb, cond-true, cond-false}
 use Rattle.std.proofs.lemmas.List.{length_push}
 use Rattle.std.proofs.lemmas.List.Sums.{sum_by-cons, sum_by_push}
 use Rattle.std.proofs.Math.Nat.{suc-mul}
 use Rattle.sc_base.specs.Definitions.{Each, same_draw, Arc, end_of}
-use Rattle.sc_node_table.specs.Values.{Draw, Op, Reply, Link, Route, AnswerBody, Answer}
+use Rattle.sc_node_table.specs.Values.{Draw, Reply, Link, Route, AnswerBody, Answer}
 use Rattle.sc_base.proofs.Lemmas.{draw_is}
-use Rattle.sc_client_table.specs.lookup.LookupDefinitions.{KnownGroups, way_to, target_in, changed, preferring, passed_on, starting, group_learnt, learnt_from_not_mine, learnt_from_gone, new_way, next_target}
+use Rattle.sc_client_table.specs.lookup.LookupDefinitions.{KnownGroups, way_to, changed, preferring, passed_on, starting, group_learnt, learnt_from_not_mine, learnt_from_gone, new_way, next_target}
 use Rattle.sc_client_table.specs.declared.lookup.ways.Way.{Way}
 use Rattle.sc_mail.specs.declared.bodies.AnswerBody.TheVariants as Says
-use Rattle.sc_client_table.specs.table.TableDefinitions.{Client as ClientState, waiting_request, ClientStep, asked_of, sent_where, chosen_for, request_sent, started, waits_for, was_asked, redirected, got}
-use Rattle.sc_live_steps.specs.calm.CalmDefinitions.{waiting_one, requests_owe, step_owes, IsInTurn, unknown_one, unknown, AreBounded, Ways, answer_owes, Reach, sent_on, search_owes, client_owes, client_turn_owes, IsUnbegun, LearnsOf, LeavesFor, MayHear, ClientsPay}
-use Rattle.sc_live_steps.proofs.CalmStepsProofs.ClientRows.{clients, request_owes}
-use Rattle.sc_live_steps.proofs.CalmStepsProofs.TeachingAnswers.{set_knows, sent_knows, told_one, gone_one, gone_known}
+use Rattle.sc_client_table.specs.table.TableDefinitions.{Client as ClientState, ClientStep, sent_to, request_sent, started, redirected, got}
+use Rattle.sc_law_walks.proofs.WalkLemmas.{started_step, sent_same, request_same, waits_so, asked_so, answer_step}
+use Rattle.sc_live_steps.specs.calm.CalmDefinitions.{waiting_one, IsInTurn, unknown_one, unknown, AreBounded, Ways, answer_owes, Reach, sent_on, search_owes, client_owes, client_turn_owes, IsUnbegun, LearnsOf, LeavesFor, MayHear, ClientsPay}
+use Rattle.sc_live_steps.proofs.CalmStepsProofs.ClientRows.{request_owes, replied_owes, redirected_owes}
+use Rattle.sc_live_steps.proofs.CalmStepsProofs.TeachingAnswers.{set_knows, told_one, gone_one, gone_known}
 
 -- ---- products
 
@@ -119,22 +120,18 @@ module _ (reach : Reach) where
   module _ (far : ℕ) where
     -- ---- a request that goes out changes nothing of that
 
-    asked_search : (client : ClientState) (group : Draw) (o : Option ℕ) (request : Option (ℕ × Op)) →
-        search_owes far reach (asked_of client group o request).0 (asked_of client group o request).0.waiting ≡ search_owes far reach client client.waiting
-    asked_search client group (Some target) (Some request) = asked_so client.waiting
+    asked_search : (client : ClientState) (asked : Option (Draw × ℕ)) → search_owes far reach (record client { asked = asked }) client.waiting ≡ search_owes far reach client client.waiting
+    asked_search client asked = by client.waiting
       where
-        asked_so : (o : Option ℕ) → search_owes far reach (record client { asked = Some (group, target) }) o ≡ search_owes far reach client o
-        asked_so None = refl
-        asked_so (Some seq) = refl
-    asked_search client group (Some target) None = refl
-    asked_search client group None request = refl
+        by : (o : Option ℕ) → search_owes far reach (record client { asked = asked }) o ≡ search_owes far reach client o
+        by None = refl
+        by (Some seq) = refl
 
-    where_search : (client : ClientState) (o : Option Draw) → search_owes far reach (sent_where client o).0 (sent_where client o).0.waiting ≡ search_owes far reach client client.waiting
-    where_search client None = refl
-    where_search client (Some group) = asked_search client group (target_in group client.known) (waiting_request client)
+    to_group_search : (group : Draw) (client : ClientState) → search_owes far reach (sent_to group client).0 (sent_to group client).0.waiting ≡ search_owes far reach client client.waiting
+    to_group_search group client = sent_same (λ (c : ClientState). search_owes far reach c c.waiting) asked_search group client
 
     request_search : (client : ClientState) → search_owes far reach (request_sent client).0 (request_sent client).0.waiting ≡ search_owes far reach client client.waiting
-    request_search client = where_search client (chosen_for client (waiting_request client))
+    request_search client = request_same (λ (c : ClientState). search_owes far reach c c.waiting) asked_search client
 
     -- ---- nor does another way to a known group
 
@@ -143,9 +140,9 @@ module _ (reach : Reach) where
     same_search client known (Some seq) same = ap (λ n. n * (2 + 2 * far)) same
 
     -- one that may be sent on once less owes that less
-    less_search : (client : ClientState) (known : KnownGroups) (o : Option ℕ) (seq : ℕ) → waits_for o seq ≡ true → sent_on reach known + 1 ≤ sent_on reach client.known
+    less_search : (client : ClientState) (known : KnownGroups) (o : Option ℕ) (seq : ℕ) → o ≡ Some seq → sent_on reach known + 1 ≤ sent_on reach client.known
         → search_owes far reach (record client { known = known }) o + (2 + 2 * far) ≤ search_owes far reach client o
-    less_search client known None seq waits less = absurd (true≢false (sym waits))
+    less_search client known None seq waits less = absurd (cc)
     less_search client known (Some number) seq waits less = times_less (2 + 2 * far) (sent_on reach known) (sent_on reach client.known) less
 
 -- ---- the rows of a client
@@ -154,170 +151,103 @@ module _ (ways : Ways) (reach : Reach) (client : ClientState) (bounded : AreBoun
   abbrev search : ClientState → ℕ
   search c = search_owes ways.most reach c c.waiting
 
-  -- a step by which it owes less, and no more for what it does not know
-  both : (step : ClientStep) (more : ℕ) → step_owes ways step + 1 ≤ requests_owe client + more → search step.0 ≤ search client → client_turn_owes ways reach step + 1 ≤ client_owes ways reach client + more
-  both step more less low = omega (arith, less, low)
-
-  still : (more : ℕ) → 1 ≤ more → client_turn_owes ways reach (client, []) + 1 ≤ client_owes ways reach client + more
-  still more one = omega (arith, one)
-
   -- ---- a reply
 
-  replied_search : (from seq : ℕ) (group : Draw) (reply : Reply) → IsInTurn client → search (got from (Answer group seq (Says.Value reply)) client).0 ≤ search client
-  replied_search from seq group reply turn = by client.waiting refl
+  replied_search : (seq : ℕ) (reply : Reply) → IsInTurn client → client.waiting ≡ Some seq → search (started (seq + 1) (record client { replies = client.replies ++ reply ∷ [] })).0 ≤ search client
+  replied_search seq reply turn waits =
+      started_step after (λ (step : ClientStep). search step.0 ≤ search client) (seq + 1)
+      (λ _. (
+      let same = request_search reach ways.most (record after { waiting = Some (seq + 1) }) in
+      let was = ap (search_owes ways.most reach client) waits in
+      omega (arith, same, was)))
+      (λ more. (
+      let past = leb-false (seq + 1) (length client.requests) more in
+      let longer = length_push client.replies reply in
+      let now = turn seq waits in
+      let none = cond-false (ltb (length (client.replies ++ reply ∷ [])) (length client.requests)) (reach.most * (2 + 2 * ways.most) + 2 * ways.most) 0 (le-ltb (length (client.replies ++ reply ∷ [])) (length client.requests) (omega (arith, past, longer, now))) in
+      omega (arith, none)))
     where
       after : ClientState
       after = record client { replies = client.replies ++ reply ∷ [] }
-
-      ends_none : (b : Bool) → b ≡ false → cond b (reach.most * (2 + 2 * ways.most) + 2 * ways.most) 0 ≤ 0
-      ends_none true e = absurd (true≢false e)
-      ends_none false e = omega arith
-
-      no_more : (m n : ℕ) → n ≤ m → (b : Bool) → ltb m n ≡ b → b ≡ false
-      no_more m n low true e = absurd (let less = ltb-true m n e in omega (arith, less, low))
-      no_more m n low false e = refl
-
-      begins : (number : ℕ) → client.waiting ≡ Some number → length client.replies + 1 ≡ seq → (b : Bool) → leb (seq + 1) (length client.requests) ≡ b
-          → search (cond {A = ClientStep} b (request_sent (record after { waiting = Some (seq + 1) })) (record after { waiting = None }, [])).0 ≤ search client
-      begins number fact turned true more =
-          let same = request_search reach ways.most (record after { waiting = Some (seq + 1) }) in
-          let was = ap (search_owes ways.most reach client) fact in
-          omega (arith, same, was)
-      begins number fact turned false more =
-          let past = leb-false (seq + 1) (length client.requests) more in
-          let longer = length_push client.replies reply in
-          let low : length client.requests ≤ length (client.replies ++ reply ∷ []) = omega (arith, past, longer, turned) in
-          let none = ends_none (ltb (length (client.replies ++ reply ∷ [])) (length client.requests)) (no_more (length (client.replies ++ reply ∷ [])) (length client.requests) low (ltb (length (client.replies ++ reply ∷ [])) (length client.requests)) refl) in
-          omega (arith, none)
-
-      waits : (number : ℕ) → client.waiting ≡ Some number → (b : Bool) → eqb number seq ≡ b → search (cond {A = ClientStep} b (started (seq + 1) after) (client, [])).0 ≤ search client
-      waits number fact true e = let same = eqb-true number seq e in let now = turn number fact in begins number fact (omega (arith, same, now)) (leb (seq + 1) (length client.requests)) refl
-      waits number fact false e = omega arith
-
-      by : (o : Option ℕ) → client.waiting ≡ o → search (cond {A = ClientStep} (waits_for o seq) (started (seq + 1) after) (client, [])).0 ≤ search client
-      by None fact = omega arith
-      by (Some number) fact = waits number fact (eqb number seq) refl
 
   -- ---- an answer names another node
 
   redirected_search : (group : Draw) (hint : Option ℕ) → search (redirected group (Says.NotLeader hint) client).0 ≤ search client
   redirected_search group (Some hint) =
       let known = preferring group hint client.known in
-      let sent = asked_search reach ways.most (record client { known = known }) group (target_in group known) (waiting_request client) in
+      let sent = to_group_search reach ways.most group (record client { known = known }) in
       let same = same_search reach ways.most client known client.waiting (changed_same reach (λ way. record way { preferred = Some hint }) group client.known (way_to group client.known)) in
       omega (arith, sent, same)
   redirected_search group None =
       let known = passed_on group client.known in
-      let sent = asked_search reach ways.most (record client { known = known }) group (target_in group known) (waiting_request client) in
+      let sent = to_group_search reach ways.most group (record client { known = known }) in
       let same = same_search reach ways.most client known client.waiting (changed_same reach (λ way. record way { preferred = Some (next_target way) }) group client.known (way_to group client.known)) in
       omega (arith, sent, same)
 
-  hinted_search : (from seq : ℕ) (group : Draw) (hint : Option ℕ) → search (got from (Answer group seq (Says.NotLeader hint)) client).0 ≤ search client
-  hinted_search from seq group hint = by (waits_for client.waiting seq) (was_asked client.asked from group) (redirected_search group hint)
-    where
-      by : (b c : Bool) → search (redirected group (Says.NotLeader hint) client).0 ≤ search client → search (cond {A = ClientStep} b (cond c (redirected group (Says.NotLeader hint) client) (client, [])) (client, [])).0 ≤ search client
-      by true true le = le
-      by true false le = omega arith
-      by false c le = omega arith
-
   -- ---- an answer names another group
 
-  -- an answer that is heard by what was asked, and for a request that waits
-  asked_pays : (from seq : ℕ) (group : Draw) (after : ClientState) → (waits_for client.waiting seq ≡ true → was_asked client.asked from group ≡ true → client_turn_owes ways reach (request_sent after) + 1 ≤ client_owes ways reach client + 27)
-      → client_turn_owes ways reach (cond {A = ClientStep} (waits_for client.waiting seq) (cond (was_asked client.asked from group) (request_sent after) (client, [])) (client, [])) + 1 ≤ client_owes ways reach client + 27
-  asked_pays from seq group after pays = by (waits_for client.waiting seq) refl (was_asked client.asked from group) refl
-    where
-      by : (b : Bool) → waits_for client.waiting seq ≡ b → (c : Bool) → was_asked client.asked from group ≡ c → client_turn_owes ways reach (cond {A = ClientStep} b (cond c (request_sent after) (client, [])) (client, [])) + 1 ≤ client_owes ways reach client + 27
-      by true waits true asked = pays waits asked
-      by true waits false asked = still 27 (omega arith)
-      by false waits c asked = still 27 (omega arith)
-
-  not_mine_pays : (from seq : ℕ) (group : Draw) (arc : Arc) (succ : Link) → MayHear ways reach from group seq client (Says.NotMine arc succ)
-      → client_turn_owes ways reach (got from (Answer group seq (Says.NotMine arc succ)) client) + 1 ≤ client_owes ways reach client + 27
-  not_mine_pays from seq group arc succ may = asked_pays from seq group after (λ waits asked. learns waits (may (waits, asked)))
+  not_mine_pays : (seq : ℕ) (group : Draw) (arc : Arc) (succ : Link) → client.waiting ≡ Some seq → LearnsOf reach succ.group client → client_turn_owes ways reach (request_sent (record client { known = learnt_from_not_mine group arc succ client.known })) + 1 ≤ client_owes ways reach client + 27
+  not_mine_pays seq group arc succ waits fact =
+      let told = told_one ways reach.stands group arc succ client bounded fact.among fact.none in
+      let owes = told.0 in
+      let few = told.1 in
+      let knows = request_same (λ (c : ClientState). unknown reach.stands c.known) (λ c a. refl) after in
+      let ends = ends_told reach group arc succ client.known fact.ends in
+      let less = less_search reach ways.most client (learnt_from_not_mine group arc succ client.known) client.waiting seq waits (omega (arith, few, knows, ends)) in
+      let same = request_search reach ways.most after in
+      omega (arith, owes, less, same)
     where
       after : ClientState
       after = record client { known = learnt_from_not_mine group arc succ client.known }
 
-      learns : waits_for client.waiting seq ≡ true → LearnsOf reach succ.group client → client_turn_owes ways reach (request_sent after) + 1 ≤ client_owes ways reach client + 27
-      learns waits fact =
-          let told = told_one ways reach.stands group arc succ client bounded fact.among fact.none in
-          let owes = told.0 in
-          let few = told.1 in
-          let knows = told_unknown in
-          let ends = ends_told reach group arc succ client.known fact.ends in
-          let less = less_search reach ways.most client (learnt_from_not_mine group arc succ client.known) client.waiting seq waits (omega (arith, few, knows, ends)) in
-          let same = request_search reach ways.most after in
-          omega (arith, owes, less, same)
-        where
-          told_unknown : unknown reach.stands (request_sent after).0.known ≡ unknown reach.stands (learnt_from_not_mine group arc succ client.known)
-          told_unknown = ap (unknown reach.stands) (sent_knows after (chosen_for after (waiting_request after)))
+  gone_pays : (seq : ℕ) (group : Draw) (into : Route) → client.waiting ≡ Some seq → LeavesFor reach group into.group client → client_turn_owes ways reach (request_sent (record client { known = learnt_from_gone group into client.known })) + 1 ≤ client_owes ways reach client + 27
+  gone_pays seq group into waits fact =
+      let owes = (gone_one ways group into fact.way client bounded fact.known).0 in
+      let less = less_search reach ways.most client (learnt_from_gone group into client.known) client.waiting seq waits (leaves_less reach group into client fact) in
+      let same = request_search reach ways.most (record client { known = learnt_from_gone group into client.known }) in
+      omega (arith, owes, less, same)
 
-  gone_pays : (from seq : ℕ) (group : Draw) (into : Route) → MayHear ways reach from group seq client (Says.Gone into) → client_turn_owes ways reach (got from (Answer group seq (Says.Gone into)) client) + 1 ≤ client_owes ways reach client + 27
-  gone_pays from seq group into may = asked_pays from seq group after (λ waits asked. leaves waits (may (waits, asked)))
-    where
-      after : ClientState
-      after = record client { known = learnt_from_gone group into client.known }
+  -- ---- any answer
 
-      leaves : waits_for client.waiting seq ≡ true → LeavesFor reach group into.group client → client_turn_owes ways reach (request_sent after) + 1 ≤ client_owes ways reach client + 27
-      leaves waits fact =
-          let owes = (gone_one ways group into fact.way client bounded fact.known).0 in
-          let less = less_search reach ways.most client (learnt_from_gone group into client.known) client.waiting seq waits (leaves_less reach group into client fact) in
-          let same = request_search reach ways.most after in
-          omega (arith, owes, less, same)
+  abbrev Pays : Draw → AnswerBody → ClientStep → Type 0
+  Pays group answer step = client_turn_owes ways reach step + 1 ≤ client_owes ways reach client + answer_owes ways group answer
 
-  -- ---- a later one was begun
+  ignored_pays : (group : Draw) (answer : AnswerBody) → Pays group answer (client, [])
+  ignored_pays group (Says.Value reply) = omega arith
+  ignored_pays group (Says.NotLeader (Some hint)) = omega arith
+  ignored_pays group (Says.NotLeader None) = omega arith
+  ignored_pays group (Says.NotMine arc succ) = omega arith
+  ignored_pays group (Says.Gone into) = omega arith
+  ignored_pays group (Says.Stale last) = omega arith
 
-  stale_pays : (from seq last : ℕ) (group : Draw) → client_turn_owes ways reach (got from (Answer group seq (Says.Stale last)) client) + 1 ≤ client_owes ways reach client + 1
-  stale_pays from seq last group = by (waits_for client.waiting seq) (was_asked client.asked from group)
-    where
-      by : (b c : Bool) → client_turn_owes ways reach (cond {A = ClientStep} b (cond c (client, []) (client, [])) (client, [])) + 1 ≤ client_owes ways reach client + 1
-      by true true = still 1 (omega arith)
-      by true false = still 1 (omega arith)
-      by false c = still 1 (omega arith)
-
-  answer_pays : (from seq : ℕ) (group : Draw) (answer : AnswerBody) → MayHear ways reach from group seq client answer → client_turn_owes ways reach (got from (Answer group seq answer) client) + 1 ≤ client_owes ways reach client + answer_owes ways group answer
-  answer_pays from seq group (Says.Value reply) may =
-      let less = clients.value ways 0 from seq group reply client may.0 may.1 in
-      let low = replied_search from seq group reply may.0 in
-      omega (arith, less, low)
-  answer_pays from seq group (Says.NotLeader hint) may =
-      both (got from (Answer group seq (Says.NotLeader hint)) client) (answer_owes ways group (Says.NotLeader hint)) (clients.not_leader ways from seq group hint client bounded) (hinted_search from seq group hint)
-  answer_pays from seq group (Says.NotMine arc succ) may = not_mine_pays from seq group arc succ may
-  answer_pays from seq group (Says.Gone into) may = gone_pays from seq group into may
-  answer_pays from seq group (Says.Stale last) may = stale_pays from seq last group
+  answer_pays : (from seq : ℕ) (group : Draw) (answer : AnswerBody) → MayHear ways reach from group seq client answer → Pays group answer (got from (Answer group seq answer) client)
+  answer_pays from seq group answer may = answer_step client from group seq (λ (a : AnswerBody) (step : ClientStep). MayHear ways reach from group seq client a → Pays group a step) (λ a i m. ignored_pays group a) (record {
+    replied = λ reply waits m. (let owes = replied_owes ways 0 seq reply client m.0 m.1 waits in let low = replied_search seq reply m.0 waits in omega (arith, owes, low));
+    hinted = λ hint waits asked m. (let owes = redirected_owes ways (Some hint) group client bounded in let low = redirected_search group (Some hint) in omega (arith, owes, low));
+    turned = λ waits asked m. (let owes = redirected_owes ways None group client bounded in let low = redirected_search group None in omega (arith, owes, low));
+    not_mine = λ arc succ waits asked m. not_mine_pays seq group arc succ waits (m (waits_so client.waiting seq waits, asked_so client.asked from group asked));
+    gone = λ into waits asked m. gone_pays seq group into waits (m (waits_so client.waiting seq waits, asked_so client.asked from group asked));
+  }) answer may
 
   -- ---- one that goes
 
   go_pays : IsUnbegun reach client → client_turn_owes ways reach (started 1 client) ≤ client_owes ways reach client
-  go_pays fact = by (leb 1 (length client.requests)) refl
+  go_pays fact =
+      let idle = ap waiting_one fact.idle in
+      let was = ap (search_owes ways.most reach client) fact.idle in
+      started_step client (λ (step : ClientStep). client_turn_owes ways reach step ≤ client_owes ways reach client) 1
+      (λ some. (
+      let one = leb-true 1 (length client.requests) some in
+      let none = ap length fact.none in
+      let owes = request_owes ways ways.most begun (λ group node e. bounded group node) in
+      let same = request_search reach ways.most begun in
+      let near = times_le (2 + 2 * ways.most) (sent_on reach client.known) reach.most fact.near in
+      let left = cond-true (ltb (length client.replies) (length client.requests)) (reach.most * (2 + 2 * ways.most) + 2 * ways.most) 0 (lt-ltb (length client.replies) (length client.requests) (omega (arith, none, one))) in
+      omega (arith, one, none, owes, idle, same, near, was, left)))
+      (λ _. omega (arith, idle, was))
     where
       begun : ClientState
       begun = record client { waiting = Some 1 }
-
-      may_ask : (b : Bool) → b ≡ true → cond b (reach.most * (2 + 2 * ways.most) + 2 * ways.most) 0 ≡ reach.most * (2 + 2 * ways.most) + 2 * ways.most
-      may_ask true e = refl
-      may_ask false e = absurd (true≢false (sym e))
-
-      some_left : (m n : ℕ) → m ≡ 0 → 1 ≤ n → (b : Bool) → ltb m n ≡ b → b ≡ true
-      some_left m n none one true e = refl
-      some_left m n none one false e = absurd (let past = ltb-false m n e in omega (arith, past, none, one))
-
-      by : (b : Bool) → leb 1 (length client.requests) ≡ b → client_turn_owes ways reach (cond {A = ClientStep} b (request_sent begun) (record client { waiting = None }, [])) ≤ client_owes ways reach client
-      by true some =
-          let one = leb-true 1 (length client.requests) some in
-          let none = ap length fact.none in
-          let owes = request_owes ways ways.most begun (λ group node e. bounded group node) in
-          let idle = ap waiting_one fact.idle in
-          let same = request_search reach ways.most begun in
-          let near = times_le (2 + 2 * ways.most) (sent_on reach client.known) reach.most fact.near in
-          let was = ap (search_owes ways.most reach client) fact.idle in
-          let left = may_ask (ltb (length client.replies) (length client.requests)) (some_left (length client.replies) (length client.requests) none one (ltb (length client.replies) (length client.requests)) refl) in
-          omega (arith, one, none, owes, idle, same, near, was, left)
-      by false none =
-          let idle = ap waiting_one fact.idle in
-          let was = ap (search_owes ways.most reach client) fact.idle in
-          omega (arith, idle, was)
 
 -- A client that goes raises nothing that is owed, and each answer lowers it, where a client owes besides for each group that stands and that it does not know, and for each end by which a group that it knows is away from one that stands.
 pub clients_pay : ClientsPay

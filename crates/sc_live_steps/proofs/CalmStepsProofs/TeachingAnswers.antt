@@ -4,11 +4,12 @@ use Rattle.std.specs.Prelude.{is_some}
 use Rattle.std.specs.Map.{lookup, set_value}
 use Rattle.std.proofs.lemmas.List.Sums.{sum_by-cons}
 use Rattle.sc_base.specs.Definitions.{Among, Arc, end_of, same_draw}
-use Rattle.sc_node_table.specs.Values.{Draw, Op, Link, Route}
+use Rattle.sc_node_table.specs.Values.{Draw, Link, Route}
 use Rattle.sc_base.proofs.Lemmas.{same_name}
-use Rattle.sc_client_table.specs.lookup.LookupDefinitions.{KnownGroups, way_to, target_in, changed, starting, group_learnt, learnt_from_not_mine, learnt_from_gone, new_way}
+use Rattle.sc_client_table.specs.lookup.LookupDefinitions.{KnownGroups, way_to, changed, starting, group_learnt, learnt_from_not_mine, learnt_from_gone, new_way}
 use Rattle.sc_client_table.specs.declared.lookup.ways.Way.{Way}
-use Rattle.sc_client_table.specs.table.TableDefinitions.{Client as ClientState, waiting_request, asked_of, sent_where, chosen_for, request_sent}
+use Rattle.sc_client_table.specs.table.TableDefinitions.{Client as ClientState, request_sent}
+use Rattle.sc_law_walks.proofs.WalkLemmas.{request_same}
 use Rattle.sc_live_steps.specs.calm.CalmDefinitions.{unknown_one, unknown, LearnsOneGroup, IsSentOn, AreBounded, Ways}
 use Rattle.sc_live_steps.proofs.CalmStepsProofs.ClientRows.{request_owes}
 
@@ -112,16 +113,6 @@ module _ (known after : KnownGroups) (keeps : (group : Draw) → is_some (way_to
 
 -- ---- the row
 
--- a request that goes out leaves whom the client knows
-asked_knows : (client : ClientState) (group : Draw) (o : Option ℕ) (request : Option (ℕ × Op)) → (asked_of client group o request).0.known ≡ client.known
-asked_knows client group (Some target) (Some request) = refl
-asked_knows client group (Some target) None = refl
-asked_knows client group None request = refl
-
-pub sent_knows : (client : ClientState) (o : Option Draw) → (sent_where client o).0.known ≡ client.known
-sent_knows client None = refl
-sent_knows client (Some group) = asked_knows client group (target_in group client.known) (waiting_request client)
-
 -- one that learns of another group
 pub told_one : (ways : Ways) (groups : List Draw) (group : Draw) (arc : Arc) (succ : Link) (client : ClientState) → AreBounded ways → Among succ.group groups → way_to succ.group client.known ≡ None
     → LearnsOneGroup ways groups group arc succ client (request_sent (record client { known = learnt_from_not_mine group arc succ client.known }))
@@ -131,7 +122,7 @@ told_one ways groups group arc succ client bounded a none =
     let was : unknown_one client.known succ.group ≡ 1 = ap (λ (o : Option Way). cond (is_some o) 0 1) none in
     let fact : unknown_one (learnt_from_not_mine group arc succ client.known) succ.group ≡ 0 = known_one (learnt_from_not_mine group arc succ client.known) succ.group (learnt_known succ.group (end_of arc) succ.members middle) in
     let few = one_fewer client.known (learnt_from_not_mine group arc succ client.known) keeps groups succ.group a was fact in
-    let same = ap (unknown groups) (sent_knows after (chosen_for after (waiting_request after))) in
+    let same = request_same (λ (c : ClientState). unknown groups c.known) (λ c a. refl) after in
     (omega (arith, le), omega (arith, few, same))
   where
     middle : KnownGroups
@@ -152,7 +143,7 @@ pub gone_one : (ways : Ways) (group : Draw) (into : Route) (way : Way) (client :
     → IsSentOn ways group into client (request_sent (record client { known = learnt_from_gone group into client.known }))
 gone_one ways group into way client bounded fact =
     let le = request_owes ways ways.most after (λ g node e. bounded g node) in
-    (omega (arith, le), sent_knows after (chosen_for after (waiting_request after)) ∙ gone_known group into way client.known fact)
+    (omega (arith, le), request_same (λ (c : ClientState). c.known) (λ c a. refl) after ∙ gone_known group into way client.known fact)
   where
     after : ClientState
     after = record client { known = learnt_from_gone group into client.known }
