@@ -1,12 +1,12 @@
 -- A plain journal counts few bytes: few rows, and little mail.
-use Rattle.std.proofs.Common.{◌≡◌, ℕ, ◌+◌, ◌≤◌, eqb, leb, Bool, true, false, List, [], ◌∷◌, ◌++◌, length, map, fold, Option, Some, None, ◌⊎◌, inl, inr, refl, sym, ◌∙◌, ap, subst, arith, length-append}
+use Rattle.std.proofs.Common.{◌≡◌, ℕ, ◌+◌, ◌≤◌, eqb, Bool, true, false, List, [], ◌∷◌, ◌++◌, length, map, fold, Option, Some, None, ◌⊎◌, inl, inr, refl, sym, ◌∙◌, ap, subst, arith, length-append}
 use Rattle.std.specs.Prelude.{find}
 use Rattle.std.specs.List.{flat_map, list_any}
 use Rattle.std.proofs.lemmas.Bool.{cond_both, or_left, or_right, eq-eqb}
 use Rattle.std.proofs.lemmas.List.{length-map}
 use Rattle.sc_base.specs.Definitions.{Among, Each, client_actor, is_member}
 use Rattle.sc_base.proofs.Lemmas.{map-some}
-use Rattle.sc_node_table.specs.Values.{Draw, Op, OrderLine, Mail, MailBody, Request, Answer, Accept, Accepted, Learn, Seat, Go, Row, Node, Client}
+use Rattle.sc_node_table.specs.Values.{OrderLine, Mail, MailBody, Request, Answer, Accept, Accepted, Learn, Seat, Go, Row, Node, Client}
 use Rattle.sc_mail.specs.Definitions.{body_weight}
 use Rattle.sc_actor.specs.declared.rows.Input.TheVariants.{Go as GoInput}
 use Rattle.sc_actor.specs.declared.schedules.Line.TheVariants as line
@@ -14,8 +14,7 @@ use Rattle.sc_actor.specs.Definitions.{mails, is_delivery, System, numbers_of, r
 use Rattle.sc_actor.proofs.Lemmas.{mails-snoc, lawful-last}
 use Rattle.sc_words.proofs.PaxosProofs.PaxosLemmas.{Each-weaker, Each-from_All}
 use Rattle.sc_node_table.specs.NodeDefinitions.{numbers_from, slots_ahead}
-use Rattle.sc_client_table.specs.table.TableDefinitions.{Client as ClientState, waiting_request, ClientStep, asked_of, sent_where, chosen_for, request_sent}
-use Rattle.sc_client_table.specs.lookup.LookupDefinitions.{target_in}
+use Rattle.sc_client_table.proofs.TableProofs.TurnLemmas.{sends_in_turn}
 use Rattle.sc_scenario.specs.scenario.Definitions.{most_deliveries, IsBoundedLine, ValidScenariosAreBounded}
 use Rattle.sc_scenario.specs.declared.scenario.scenarios.Asks.{Asks}
 use Rattle.sc_scenario.specs.declared.scenario.scenarios.Scenario.{Scenario}
@@ -153,19 +152,9 @@ module _ (s : System Player Mail OrderLine) where
   walk_goes place (row ∷ rows) g = walk_goes (after_row s place row) rows (onward_goes (place.rows ++ row ∷ []) (rest_of_all place.tasks) place.skipped place.unsettled (rest_goes place.tasks g))
 
 -- a player that starts sends one mail at most
-asked_one : (client : ClientState) (group : Draw) (target : Option ℕ) (request : Option (ℕ × Op)) → length (asked_of client group target request).1 ≤ 1
-asked_one client group (Some target) (Some request) = omega arith
-asked_one client group (Some target) None = omega arith
-asked_one client group None request = omega arith
-
-where_one : (client : ClientState) (o : Option Draw) → length (sent_where client o).1 ≤ 1
-where_one client (Some group) = asked_one client group (target_in group client.known) (waiting_request client)
-where_one client None = omega arith
-
 go_one : (player : Player) → length (player_table player GoInput).1 ≤ 1
 go_one (Node node) = omega arith
-go_one (Client client) = cond_both (leb 1 (length client.requests)) (request_sent (record client { waiting = Some 1 })) (record client { waiting = None }, []) (λ (x : ClientStep). length x.1 ≤ 1)
-    (λ _. where_one (record client { waiting = Some 1 }) (chosen_for (record client { waiting = Some 1 }) (waiting_request (record client { waiting = Some 1 })))) (λ _. omega arith)
+go_one (Client client) = elim (sends_in_turn client GoInput).sends [ inl none ↦ (let few = ap length none in omega (arith, few)) | inr one ↦ (let few = ap length one.4 in omega (arith, few)) ]
 
 -- the row of one that goes delivers nothing, and sends one mail at most
 record IsGoRow (row : Row Mail OrderLine) : Type 0 where
