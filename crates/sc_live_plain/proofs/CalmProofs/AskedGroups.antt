@@ -1,5 +1,5 @@
 -- What a client that waits knows of the group that it asked, while clients ask alone, and what it learns by NotMine.
-use Rattle.std.proofs.Common.{◌≡◌, ℕ, ◌-◌, ◌<◌, Bool, false, List, [], ◌∷◌, length, map, take, drop, Some, None, ◌⊎◌, inl, inr, refl, sym, ◌∙◌, ap, subst, arith, take-append-drop}
+use Rattle.std.proofs.Common.{◌≡◌, ℕ, ◌-◌, ◌<◌, Bool, true, false, List, [], ◌∷◌, length, map, take, drop, Some, None, ◌⊎◌, inl, inr, refl, sym, ◌∙◌, ap, subst, arith, take-append-drop}
 use Rattle.std.specs.Prelude.{slice_get}
 use Rattle.std.proofs.lemmas.Option.{slice_get_within}
 use Rattle.sc_base.specs.Definitions.{Among, Arc, client_actor, key_of, pos_of}
@@ -10,7 +10,7 @@ use Rattle.sc_client_table.specs.declared.lookup.ways.Way.{Way}
 use Rattle.sc_paxos_law.proofs.Lemmas.{from_map, Among-left}
 use Rattle.sc_client_table.specs.table.TableDefinitions.{Client as ClientState}
 use Rattle.sc_scenario.specs.declared.scenario.scenarios.Asks.{Asks}
-use Rattle.sc_live_plain.specs.PlainDefinitions.{IsLinkedSetting, Knows, IsCalmClient, FollowedBy, AreRoundRing, KnowsFirst, Setting, HasGoneTo, IsSetting, IsAsideBody, IsCalmMail, Frame, IsWaiting, Requests, IsPlainBody}
+use Rattle.sc_live_plain.specs.PlainDefinitions.{IsLinkedSetting, Knows, IsCalmClient, FollowedBy, AreRoundRing, KnowsFirst, Setting, HasGoneTo, IsSetting, IsAsideBody, IsCalmMail, Frame, IsWaiting, IsResting, Requests, IsPlainBody}
 use Rattle.sc_live_plain.proofs.CalmProofs.ChosenGroups.{chosen_among}
 use Rattle.sc_live_plain.proofs.CalmProofs.KnownGroups.{name_in, id_of, learn_in_turn}
 use Rattle.sc_live_plain.proofs.PlainRowsProofs.Lists.{some_is}
@@ -32,6 +32,15 @@ calm_says begun set mail m body e = elim m [
   | inl q ↦ inl (record { frame = q.frame; is_frame = q.is_frame; says = subst (IsPlainBody begun q.frame mail.from mail.to) e q.says })
   | inr a ↦ inr (subst (IsAsideBody begun set mail.from mail.to) e a)
 ]
+
+-- a client in which a request waits has started, and asked
+pub awaiting : (client : ClientState) (gone : Bool) → IsResting gone client ⊎ ((gone ≡ true) × IsWaiting client) → (seq : ℕ) → client.waiting ≡ Some seq → (gone ≡ true) × (w : IsWaiting client) × (w.seq ≡ seq)
+awaiting client gone (inl rests) seq waits = (let bad : None ≡ Some seq = sym rests.waits ∙ waits in cc)
+awaiting client gone (inr (started, w)) seq waits = (started, w, some_is (sym w.waits ∙ waits))
+
+-- and a reply is missing
+pub reply_missing : (client : ClientState) (w : IsWaiting client) → length client.replies < length client.requests
+reply_missing client w = (let low = slice_get_within client.requests (w.seq - 1) w.op w.op_is in let number = w.number in omega (arith, low, number))
 
 -- ---- what is known of the group that was asked
 
@@ -66,13 +75,9 @@ module _ (begun : Requests) (set : Setting) (fact : IsSetting set) (linked : IsL
       by (other ∷ rest) round within = record { other = other; is_frame = within other (inr (inl refl)); after = round.next [] rest frame other refl }
 
   module _ (asks : Asks) (gone : Bool) (client : ClientState) (k : IsCalmClient set asks gone client) (w : IsWaiting client) where
-    -- a reply is missing
-    pub few : length client.replies < length client.requests
-    few = (let low = slice_get_within client.requests (w.seq - 1) w.op w.op_is in let number = w.number in omega (arith, low, number))
-
     -- where a group that stands was asked, those that are known are the first round the ring
     pub ring_known : (frame : Frame) → Among frame set.frames → w.group ≡ frame.core.id → RingKnown set frame client.known
-    ring_known frame a name = by (k.knows few)
+    ring_known frame a name = by (k.knows (reply_missing client w))
       where
         chosen_here : chosen (pos_of (key_of w.op)) client.known ≡ Some frame.core.id
         chosen_here = w.chosen_is ∙ ap Some name
@@ -93,7 +98,7 @@ module _ (begun : Requests) (set : Setting) (fact : IsSetting set) (linked : IsL
 
     -- where a group that is gone was asked, it is known alone
     pub alone : (into : Route) → HasGoneTo set w.group into → (way : Way) × (client.known ≡ (w.group, way) ∷ [])
-    alone into went = by (k.knows few)
+    alone into went = by (k.knows (reply_missing client w))
       where
         by : Knows set client.known → (way : Way) × (client.known ≡ (w.group, way) ∷ [])
         by (inl one) =

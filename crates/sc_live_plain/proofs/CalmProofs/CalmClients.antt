@@ -1,24 +1,25 @@
 -- What a client does while clients ask alone, between two orders: it stays calm, and asks nodes that have a replica.
-use Rattle.std.proofs.Common.{◌≡◌, ℕ, ◌+◌, ◌-◌, ◌<◌, ◌≤◌, eqb, Bool, true, false, cond, List, [], ◌∷◌, ◌++◌, length, map, take, Option, Some, None, ◌⊎◌, inl, inr, refl, sym, ◌∙◌, ap, subst, arith}
+use Rattle.std.proofs.Common.{◌≡◌, ℕ, ◌+◌, ◌-◌, ◌<◌, ◌≤◌, Bool, true, false, List, [], ◌∷◌, ◌++◌, length, map, take, Option, Some, None, ◌⊎◌, inl, inr, refl, sym, ◌∙◌, ap, subst, arith}
 use Rattle.std.specs.Prelude.{nat_le, slice_get, get_or, is_some}
 use Rattle.std.specs.Option.{option_map}
 use Rattle.std.specs.Map.{remove_entry}
-use Rattle.std.proofs.lemmas.Bool.{cond_both, cond-true, eqb-true, leb-true, leb-false, le-leb, and_parts, and_from, eq-eqb, both_ways}
+use Rattle.std.proofs.lemmas.Bool.{cond_both, cond-true, leb-true, leb-false, le-leb, eq-eqb}
 use Rattle.std.proofs.lemmas.List.{length_push, length-map, length-take-le}
 use Rattle.std.proofs.lemmas.Option.{slice_get-get_or, slice_get_within}
 use Rattle.sc_base.specs.Definitions.{Among, Each, Arc, end_of, client_actor, key_of, same_draw, pos_of}
 use Rattle.sc_node_table.specs.Values.{Draw, Op, Get, Reply, Got, Link, Route, AnswerBody, Value, NotLeader, NotMine, Gone, Stale, Mail, MailBody, Request, Answer}
-use Rattle.sc_base.proofs.Lemmas.{draw_is, same_name}
+use Rattle.sc_base.proofs.Lemmas.{same_name}
 use Rattle.sc_words.specs.ideal.IdealDefinitions.{holds_key}
 use Rattle.sc_actor.specs.declared.rows.Input.TheVariants.{Go}
 use Rattle.sc_client_table.specs.lookup.LookupDefinitions.{KnownGroups, way_to, chosen, target_in, changed, preferring, starting, group_learnt, learnt_from_not_mine, learnt_from_gone, new_way, target_of}
 use Rattle.sc_client_table.specs.declared.lookup.ways.Way.{Way}
-use Rattle.sc_client_table.specs.table.TableDefinitions.{Client as ClientState, request_at, waiting_request, ClientStep, asked_of, sent_to, sent_where, chosen_for, request_sent, started, waits_for, was_asked, redirected, answer_taken, got, table}
+use Rattle.sc_client_table.specs.table.TableDefinitions.{Client as ClientState, request_at, waiting_request, ClientStep, asked_of, sent_to, sent_where, chosen_for, request_sent, started, waits_for, got, table}
 use Rattle.sc_scenario.specs.declared.scenario.scenarios.Asks.{Asks}
 use Rattle.sc_live_plain.specs.PlainDefinitions.{IsLinkedSetting, Knows, CanBeAsked, IsCalmClient, BeginsBy, StaysCalm, Setting, IsHome, HasGoneTo, IsSetting, IsCalmMail, Frame, begun_ones, IsWaiting, IsResting, Requests}
 use Rattle.sc_live_plain.proofs.CalmProofs.ChosenGroups.{way_found, lookup_has, set_each, push_each, chosen_same, chosen_among}
 use Rattle.sc_live_plain.proofs.CalmProofs.KnownGroups.{name_in, id_of, one_chosen, one_of_one, preferring_names, preferring_starts, learn_in_turn}
-use Rattle.sc_live_plain.proofs.CalmProofs.AskedGroups.{CalmSays, calm_says, few as reply_missing, ring_known, alone, op_same}
+use Rattle.sc_law_walks.proofs.ClientWalks.{IgnoresBody, IgnoresAnswer, ignored_answer, AnswerWalk, mail_step}
+use Rattle.sc_live_plain.proofs.CalmProofs.AskedGroups.{CalmSays, calm_says, awaiting, reply_missing, ring_known, alone, op_same}
 use Rattle.sc_live_plain.proofs.PlainRowsProofs.Lists.{some_is}
 use Rattle.sc_live_plain.proofs.PlainRowsProofs.RepeatedMail.{mail_of}
 use Rattle.sc_live_plain.proofs.PlainProofs.BegunRequestCounts.{request_same as sent_begun}
@@ -192,11 +193,16 @@ module _ (set : Setting) where
       sends step x = (x.0, inl x.1)
 
       -- a mail that is ignored
-      ignored : ((w : IsWaiting client) (answer : AnswerBody) → EndsWait answer → mail.from ≡ w.target → mail.body ≡ Answer w.group w.seq answer → ⊥) → Keeps (client, [])
-      ignored no_end = (
+      ignored : IgnoresBody client mail.from mail.body → Keeps (client, [])
+      ignored i = (
         (record { me_is = k.me_is; requests_are = k.requests_are; knows = k.knows; targets = k.targets; state = k.state }, tt),
-        inr (record { after_is = refl; no_end = λ w answer f e. no_end w answer f (ap (λ (m : Mail). m.from) e) (ap (λ (m : Mail). m.body) e) }),
+        inr (record { after_is = refl; no_end = λ w answer f e. no_end w answer (ap (λ (m : Mail). m.from) e) f (ignored_answer client mail.from (ap (λ (m : Mail). m.body) e) i) }),
       )
+        where
+          no_end : (w : IsWaiting client) (answer : AnswerBody) → mail.from ≡ w.target → EndsWait answer → IgnoresAnswer client mail.from w.group w.seq answer → ⊥
+          no_end w (Value reply) from f i = i.no_reply reply w.waits refl
+          no_end w (Stale last) from f i = f
+          no_end w _ from f i = i.not_sent w.waits (w.asked ∙ ap (λ node. Some (w.group, node)) (sym from)) refl
 
       -- ---- an answer to the request that waits
 
@@ -213,7 +219,7 @@ module _ (set : Setting) where
           begun_later = weaker client.me w.seq w.op (subst (λ x. begun client.me w.seq x) same_op mine)
 
         few : length client.replies < length client.requests
-        few = reply_missing begun set fact linked asks gone client k w
+        few = reply_missing client w
 
         ready : (known : KnownGroups) → Knows set known → Each (CanBeAsked set) known → IsReady w.seq w.op (record client { known = known })
         ready known knows targets = record { me_is = k.me_is; requests_are = k.requests_are; knows = knows; targets = targets; waits = w.waits; number = w.number; op_is = w.op_is }
@@ -270,80 +276,33 @@ module _ (set : Setting) where
             subst (λ l. Keeps (request_sent (record client { known = l }))) (sym known_is)
             (sends (request_sent (record client { known = known })) (ready_row later gone is_gone w.seq w.op (record client { known = known }) (ready known (inl (into.group, new_way into.lo into.members, refl)) (linked.routes group into s.says, tt)) (begun_later s.client s.op s.to_is s.is_begun)))
 
-        -- whatever it says, where it comes from the node that was asked
-        redirected_calm : (group : Draw) (answer : AnswerBody) → mail.body ≡ Answer group w.seq answer → ((reply : Reply) → answer ≡ Value reply → ⊥) → w.group ≡ group → CalmSays begun set mail.from mail.to (Answer group w.seq answer) → Keeps (redirected group answer client)
-        redirected_calm group (NotLeader (Some node)) e no_ name s = hinted group node name s
-        redirected_calm group (NotLeader None) e no_ name (inl s) = absurd (s.says.1.says)
-        redirected_calm group (NotLeader None) e no_ name (inr s) = absurd (s.says)
-        redirected_calm group (NotMine arc succ) e no_ name s = sent_on group arc succ name s
-        redirected_calm group (Gone into) e no_ name s = moved group into name s
-        redirected_calm group (Value reply) e no_ name s = absurd (no_ reply refl)
-        redirected_calm group (Stale last) e no_ name s = ignored (λ w_ answer f from body. no_stale answer f (same_answer (sym e ∙ body)))
-          where
-            same_answer : {g h : Draw} {m n : ℕ} {x y : AnswerBody} → Answer g m x ≡ Answer h n y → x ≡ y
-            same_answer e = cc
-
-            no_stale : (answer : AnswerBody) → EndsWait answer → Stale last ≡ answer → ⊥
-            no_stale answer f e = subst EndsWait (sym e) f
-
-        by_asked : (group : Draw) (answer : AnswerBody) → mail.body ≡ Answer group w.seq answer → ((reply : Reply) → answer ≡ Value reply → ⊥) → Keeps (cond (was_asked client.asked mail.from group) (redirected group answer client) (client, []))
-        by_asked group answer e no_ =
-            cond_both (was_asked client.asked mail.from group) (redirected group answer client) (client, []) Keeps
-            (λ t. (let parts = and_parts (eqb w.target mail.from) (same_draw w.group group) (ap (λ (o : Option (Draw × ℕ)). was_asked o mail.from group) (sym w.asked) ∙ t) in
-            redirected_calm group answer e no_ (draw_is w.group group parts.1) (calm_says begun set mail m (Answer group w.seq answer) e)))
-            (λ f. ignored (λ w_ answer_ ends from body. (
-            let name : group ≡ w_.group = same_group (sym e ∙ body) in
-            let asked : was_asked client.asked mail.from group ≡ true =
-            ap (λ (o : Option (Draw × ℕ)). was_asked o mail.from group) w_.asked ∙ and_from (eqb w_.target mail.from) (same_draw w_.group group) (eq-eqb w_.target mail.from (sym from)) (same_name w_.group group (sym name)) in
-            both_ways (was_asked client.asked mail.from group) f asked)))
-          where
-            same_group : {g h : Draw} {m n : ℕ} {x y : AnswerBody} → Answer g m x ≡ Answer h n y → g ≡ h
-            same_group e = cc
-
-        waited : (group : Draw) (answer : AnswerBody) → mail.body ≡ Answer group w.seq answer → Keeps (answer_taken mail.from group w.seq answer client)
-        waited group (Value reply) e = replied group reply e
-        waited group (NotLeader hint) e = by_asked group (NotLeader hint) e (λ reply x. cc)
-        waited group (NotMine arc succ) e = by_asked group (NotMine arc succ) e (λ reply x. cc)
-        waited group (Gone into) e = by_asked group (Gone into) e (λ reply x. cc)
-        waited group (Stale last) e = by_asked group (Stale last) e (λ reply x. cc)
-
-      -- an answer to another request
-      not_waited : (group : Draw) (seq : ℕ) (answer : AnswerBody) → mail.body ≡ Answer group seq answer → waits_for client.waiting seq ≡ false → Keeps (client, [])
-      not_waited group seq answer e f =
-          ignored (λ w answer_ ends from body. (
-          let number : seq ≡ w.seq = same_number (sym e ∙ body) in
-          let waits : waits_for client.waiting seq ≡ true = ap (λ (o : Option ℕ). waits_for o seq) w.waits ∙ eq-eqb w.seq seq (sym number) in
-          both_ways (waits_for client.waiting seq) f waits))
+      -- any answer
+      answered : (group : Draw) (seq : ℕ) → AnswerWalk client mail.from group seq (λ answer step. mail.body ≡ Answer group seq answer → Keeps step)
+      answered group seq = record {
+        replied = λ reply waits e. (let a = awaiting client gone k.state seq waits in
+            subst (λ n. Keeps (started (n + 1) (record client { replies = client.replies ++ reply ∷ [] }))) a.2 (replied a.0 a.1 group reply (body_of a.1 a.2 e)));
+        hinted = λ hint waits asked e. (let a = awaiting client gone k.state seq waits in hinted a.0 a.1 group hint (group_of a.1 asked) (says a.1 a.2 e));
+        turned = λ waits asked e. (let a = awaiting client gone k.state seq waits in elim (says a.1 a.2 e) [ inl s ↦ absurd (s.says.1.says) | inr s ↦ absurd (s.says) ]);
+        not_mine = λ arc succ waits asked e. (let a = awaiting client gone k.state seq waits in sent_on a.0 a.1 group arc succ (group_of a.1 asked) (says a.1 a.2 e));
+        gone = λ into waits asked e. (let a = awaiting client gone k.state seq waits in moved a.0 a.1 group into (group_of a.1 asked) (says a.1 a.2 e));
+      }
         where
-          same_number : {g h : Draw} {m n : ℕ} {x y : AnswerBody} → Answer g m x ≡ Answer h n y → m ≡ n
-          same_number e = cc
+          body_of : {answer : AnswerBody} (w : IsWaiting client) → w.seq ≡ seq → mail.body ≡ Answer group seq answer → mail.body ≡ Answer group w.seq answer
+          body_of {answer} w same e = e ∙ ap (λ n. Answer group n answer) (sym same)
 
-      answered_by : (group : Draw) (seq : ℕ) (answer : AnswerBody) → mail.body ≡ Answer group seq answer → IsResting gone client ⊎ ((gone ≡ true) × IsWaiting client) → Keeps (got mail.from (Answer group seq answer) client)
-      answered_by group seq answer e (inl rests) =
-          cond_both (waits_for client.waiting seq) (answer_taken mail.from group seq answer client) (client, []) Keeps
-          (λ t. absurd (both_ways (waits_for client.waiting seq) (ap (λ (o : Option ℕ). waits_for o seq) rests.waits) t)) (λ f. not_waited group seq answer e f)
-      answered_by group seq answer e (inr (g, w)) =
-          cond_both (waits_for client.waiting seq) (answer_taken mail.from group seq answer client) (client, []) Keeps
-          (λ t. (let same : w.seq ≡ seq = eqb-true w.seq seq (ap (λ (o : Option ℕ). waits_for o seq) (sym w.waits) ∙ t) in
-          subst (λ n. Keeps (answer_taken mail.from group n answer client)) same (waited g w group answer (e ∙ ap (λ n. Answer group n answer) (sym same))))) (λ f. not_waited group seq answer e f)
+          group_of : (w : IsWaiting client) → client.asked ≡ Some (group, mail.from) → w.group ≡ group
+          group_of w asked = ap (λ (x : Draw × ℕ). x.0) (some_is (sym w.asked ∙ asked))
 
-      no_answer : (body : MailBody) → mail.body ≡ body → ((group : Draw) (seq : ℕ) (answer : AnswerBody) → body ≡ Answer group seq answer → ⊥) → Keeps (client, [])
-      no_answer body e no_ = ignored (λ w answer f from is_. no_ w.group w.seq answer (sym e ∙ is_))
-
-      takes_by : (body : MailBody) → mail.body ≡ body → Keeps (got mail.from body client)
-      takes_by (Answer group seq answer) e = answered_by group seq answer e k.state
-      takes_by body e = no_answer body e (λ g n a x. cc)
+          says : {answer : AnswerBody} (w : IsWaiting client) → w.seq ≡ seq → mail.body ≡ Answer group seq answer → CalmSays begun set mail.from mail.to (Answer group w.seq answer)
+          says {answer} w same e = calm_says begun set mail m (Answer group w.seq answer) (body_of w same e)
 
       pub takes_calm : StaysCalm later set asks gone (table client (Got mail)) × (Seeks (table client (Got mail)) ⊎ Ignores client mail (table client (Got mail)))
-      takes_calm = takes_by mail.body refl
+      takes_calm = mail_step client mail Keeps ignored answered
 
 -- where a request waits, the node that was asked has a replica
 pub waiting_home : (set : Setting) (asks : Asks) (gone : Bool) (client : ClientState) → IsCalmClient set asks gone client → (w : IsWaiting client) → IsHome set w.group w.target
 waiting_home set asks gone client k w = by (way_to w.group client.known) refl w.target_is
   where
-    few : length client.replies < length client.requests
-    few = (let low = slice_get_within client.requests (w.seq - 1) w.op w.op_is in let number = w.number in omega (arith, low, number))
-
     by : (o : Option Way) → way_to w.group client.known ≡ o → option_map target_of o ≡ Some w.target → IsHome set w.group w.target
     by None e t = cc
-    by (Some way) e t = subst (IsHome set w.group) (some_is t) (lookup_has (CanBeAsked set) client.known w.group way e (k.targets few))
+    by (Some way) e t = subst (IsHome set w.group) (some_is t) (lookup_has (CanBeAsked set) client.known w.group way e (k.targets (reply_missing client w)))

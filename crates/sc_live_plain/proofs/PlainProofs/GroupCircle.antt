@@ -1,11 +1,15 @@
 -- The groups of a valid scenario stand round the circle, each before the next.
-use Rattle.std.proofs.Common.{◌≡◌, ℕ, ◌+◌, ◌-◌, ◌%◌, ◌^◌, ◌<◌, ◌≤◌, ◌⊎◌, leb, eqb, [], length, inl, inr, refl, sym, ◌∙◌, ap, subst, arith}
-use Rattle.std.proofs.lemmas.Bool.{cond_both, cond-true, cond-false, cases_eq, cases_lt, eq-eqb, ne_eqb, le-leb, lt-leb, leb-true, leb-false}
-use Rattle.sc_base.specs.Definitions.{Among, IsArc, least_of}
-use Rattle.sc_node_table.specs.Values.{Draw}
-use Rattle.sc_scenario.specs.scenario.Definitions.{group_at, name_at, place_right, way, arc_at, base_at, IsBounded}
+use Rattle.std.proofs.Common.{◌≡◌, ℕ, ◌+◌, ◌^◌, ◌<◌, ◌⊎◌, eqb, length, None, inl, inr, refl, sym, ◌∙◌, ap, subst, arith}
+use Rattle.std.proofs.lemmas.Bool.{cond-true, cond-false, cases_eq, eq-eqb, ne_eqb}
+use Rattle.sc_base.specs.Definitions.{Among, IsArc, end_of, least_of}
+use Rattle.sc_node_table.specs.Values.{Draw, Base}
+use Rattle.sc_meaning.specs.entries.EntryDefinitions.{first_cut}
+use Rattle.sc_scenario.specs.scenario.Definitions.{name_at, place_right, base_at, bases_of, IsBounded}
 use Rattle.sc_scenario.specs.declared.scenario.scenarios.Scenario.{Scenario}
-use Rattle.sc_law_groups.proofs.WholeProofs.WholeLemmas.{in_up_to, right_in}
+use Rattle.sc_paxos_law.proofs.Lemmas.{from_map}
+use Rattle.sc_law_groups.specs.whole.WholeDefinitions.{section_op}
+use Rattle.sc_law_groups.proofs.WholeProofs.Starts.{AreStarts, starts_in_place}
+use Rattle.sc_law_groups.proofs.WholeProofs.WholeLemmas.{group_place}
 use Rattle.sc_live_plain.specs.PlainDefinitions.{FollowedBy, Frame, frame_of}
 use Rattle.sc_live_plain.proofs.PlainProofs.PlainBeginnings.{frames_of, frame_is}
 use Rattle.sc_live_plain.proofs.PlainRowsProofs.Lists.{map_among}
@@ -15,25 +19,24 @@ pub record IsBefore (frame other : Frame) : Type 0 where
   pub after : FollowedBy frame other
   pub members : frame.core.succ.members ≡ other.core.members
 
--- ---- the circle, in numbers
-
--- the next start lies ahead
-ends_ahead : (lo next : ℕ) → lo < next → next < 2 ^ 32 → (lo + (next - lo)) % 2 ^ 32 ≡ next
-ends_ahead lo next up high = omega arith
-
--- the arc ends where the next one begins, once round the circle
-ends_round : (lo next : ℕ) → next ≤ lo → lo < 2 ^ 32 → (lo + (next + 2 ^ 32 - lo)) % 2 ^ 32 ≡ next
-ends_round lo next up high = omega arith
-
 module _ (scenario : Scenario) (bounded : IsBounded scenario) where
   abbrev frame : ℕ → Frame
   frame k = frame_of (base_at bounded.starts k)
 
-  lo_fits : (k : ℕ) → k < length bounded.starts → (group_at bounded.starts k).lo < 2 ^ 32
-  lo_fits k low = (bounded.each k (record { lo = 0; members = [] }) low).lo_in
+  starts : AreStarts bounded.starts
+  starts = record { some = bounded.some; low = λ k d lt. (bounded.each k d lt).lo_in; rising = bounded.rising }
 
-  lo_rises : (j k : ℕ) → j < k → k < length bounded.starts → (group_at bounded.starts j).lo < (group_at bounded.starts k).lo
-  lo_rises j k less low = bounded.rising j k (record { lo = 0; members = [] }) less low
+  -- which base follows, and an arc, by the law of the ring
+  next_base : (base : Base) → Among base scenario.groups → (other : Base) × Among other scenario.groups × (other.core.arc.lo ≡ end_of base.core.arc) × (base.core.succ.group ≡ other.core.id)
+  next_base base a =
+      let place = starts_in_place bounded.starts starts (record { owner = λ name. None; request = section_op scenario }) (λ name unowned. refl) in
+      let next = (place.first base (subst (Among base) bounded.groups a)).between.succ in
+      (next.0, subst (Among next.0) (sym bounded.groups) next.1, next.2, next.3)
+
+  base_arc : (base : Base) → Among base scenario.groups → IsArc base.core.arc × (base.core.arc.lo < 2 ^ 32)
+  base_arc base a =
+      let place = starts_in_place bounded.starts starts (record { owner = λ name. None; request = section_op scenario }) (λ name unowned. refl) in
+      place.covers.arcs (first_cut base) (map_among first_cut (bases_of bounded.starts) base (subst (Among base) bounded.groups a))
 
   -- at the right of a place is the next one, or the first
   right_of : (k : ℕ) → ((k + 1 ≡ length bounded.starts) × (place_right bounded.starts k ≡ 0)) ⊎ ((k + 1 ≡ length bounded.starts → ⊥) × (place_right bounded.starts k ≡ k + 1))
@@ -42,46 +45,19 @@ module _ (scenario : Scenario) (bounded : IsBounded scenario) where
     | inr ne ↦ inr (ne, cond-false (eqb (k + 1) (length bounded.starts)) 0 (k + 1) (ne_eqb (k + 1) (length bounded.starts) ne))
   ]
 
-  -- each arc ends where that at its right starts
-  ends_right : (k : ℕ) → k < length bounded.starts → ((group_at bounded.starts k).lo + (arc_at bounded.starts k).len) % 2 ^ 32 ≡ (group_at bounded.starts (place_right bounded.starts k)).lo
-  ends_right k low =
-      let lo = (group_at bounded.starts k).lo in
-      elim (right_of k) [
-        | inl last ↦ (
-            let first = (group_at bounded.starts 0).lo in
-            let end = last.0 in
-            let up : first ≤ lo = elim (cases_lt 0 k) [
-              | inl some ↦ (let less = lo_rises 0 k some low in omega (arith, less))
-              | inr none ↦ (let zero_ : k ≡ 0 = omega (arith, none) in let same = ap (λ m. (group_at bounded.starts m).lo) zero_ in omega (arith, same))
-            ] in
-            let len : (arc_at bounded.starts k).len ≡ first + 2 ^ 32 - lo =
-            ap (λ m. way lo (group_at bounded.starts m).lo) last.1 ∙ cond-true (leb first lo) _ _ (le-leb first lo up) in
-            ap (λ m. (lo + m) % 2 ^ 32) len ∙ (ends_round lo first up (lo_fits k low) ∙ ap (λ m. (group_at bounded.starts m).lo) (sym last.1)))
-        | inr more ↦ (
-            let next = (group_at bounded.starts (k + 1)).lo in
-            let apart = more.0 in
-            let low_ : k + 1 < length bounded.starts = right_low k low apart in
-            let up = lo_rises k (k + 1) (omega arith) low_ in
-            let len : (arc_at bounded.starts k).len ≡ next - lo =
-            ap (λ m. way lo (group_at bounded.starts m).lo) more.1 ∙ cond-false (leb next lo) _ _ (lt-leb next lo up) in
-            ap (λ m. (lo + m) % 2 ^ 32) len ∙ (ends_ahead lo next up (lo_fits (k + 1) low_) ∙ ap (λ m. (group_at bounded.starts m).lo) (sym more.1)))
-      ]
-    where
-      right_low : (k : ℕ) → k < length bounded.starts → (k + 1 ≡ length bounded.starts → ⊥) → k + 1 < length bounded.starts
-      right_low k low apart = elim (cases_lt (k + 1) (length bounded.starts)) [ inl lt ↦ lt | inr ge ↦ absurd (apart (omega (arith, ge, low))) ]
-
-  before_right : (k : ℕ) → k < length bounded.starts → IsBefore (frame k) (frame (place_right bounded.starts k))
-  before_right k low = record { after = record { name = refl; starts = sym (ends_right k low) }; members = refl }
-
   -- each group stands before another
   pub next_frame : (one : Frame) → Among one (frames_of scenario) → (other : Frame) × Among other (frames_of scenario) × IsBefore one other
   next_frame one a =
-      let p = frame_is scenario bounded one a in
-      let right = place_right bounded.starts p.0 in (
-        frame right,
-        map_among frame_of scenario.groups (base_at bounded.starts right) (subst (Among (base_at bounded.starts right)) (sym bounded.groups) (in_up_to bounded.starts (length bounded.starts) right (right_in bounded.starts p.0 p.1))),
-        subst (λ x. IsBefore x (frame right)) p.2 (before_right p.0 p.1),
-      )
+      let b = from_map frame_of scenario.groups one a in
+      let p = group_place scenario bounded b.0 b.1 in
+      let next = next_base b.0 b.1 in
+      let q = group_place scenario bounded next.0 next.1 in
+      let names : name_at (place_right bounded.starts p.0) ≡ name_at q.0 = ap (λ (base : Base). base.core.succ.group) p.2 ∙ (next.3 ∙ ap (λ (base : Base). base.core.id) (sym q.2)) in
+      let right = ap (λ (d : Draw). d.count) names in
+      let place : place_right bounded.starts p.0 ≡ q.0 = omega (arith, right) in
+      let members : b.0.core.succ.members ≡ next.0.core.members =
+      ap (λ (base : Base). base.core.succ.members) (sym p.2) ∙ (ap (λ k. (base_at bounded.starts k).core.members) place ∙ ap (λ (base : Base). base.core.members) q.2) in
+      (frame_of next.0, map_among frame_of scenario.groups next.0 next.1, subst (λ x. IsBefore x (frame_of next.0)) b.2 (record { after = record { name = next.3; starts = next.2 }; members = members }))
 
   -- and no two before the same one
   pub one_before : (one other next : Frame) → Among one (frames_of scenario) → Among other (frames_of scenario) → Among next (frames_of scenario) → FollowedBy one next → FollowedBy other next → one ≡ other
@@ -108,16 +84,8 @@ module _ (scenario : Scenario) (bounded : IsBounded scenario) where
   -- their arcs
   pub arcs_at_birth : (one : Frame) → Among one (frames_of scenario) → IsArc one.core.arc × (one.core.arc.lo < 2 ^ 32)
   arcs_at_birth one a =
-      let p = frame_is scenario bounded one a in
-      let lo = (group_at bounded.starts p.0).lo in
-      let right = (group_at bounded.starts (place_right bounded.starts p.0)).lo in
-      let high = lo_fits p.0 p.1 in
-      let other = lo_fits (place_right bounded.starts p.0) (right_in bounded.starts p.0 p.1) in
-      let len : (1 ≤ way lo right) × (way lo right ≤ 2 ^ 32) =
-      cond_both (leb right lo) (right + 2 ^ 32 - lo) (right - lo) (λ n. (1 ≤ n) × (n ≤ 2 ^ 32))
-      (λ t. (let le = leb-true right lo t in (omega (arith, high), omega (arith, le))))
-      (λ f. (let less = leb-false right lo f in (omega (arith, less), omega (arith, other)))) in
-      subst (λ (x : Frame). IsArc x.core.arc × (x.core.arc.lo < 2 ^ 32)) p.2 (record { some = len.0; most = len.1 }, high)
+      let b = from_map frame_of scenario.groups one a in
+      subst (λ (x : Frame). IsArc x.core.arc × (x.core.arc.lo < 2 ^ 32)) b.2 (base_arc b.0 b.1)
 
   -- each is led by its least member
   pub least_leads : (one : Frame) → Among one (frames_of scenario) → one.lead ≡ least_of one.core.members

@@ -6,7 +6,7 @@ use Rattle.sc_node_table.specs.Values.{Draw, Base}
 use Rattle.sc_actor.specs.Definitions.{are_apart}
 use Rattle.sc_words.proofs.PaxosProofs.PaxosLemmas.{Each-among, Each-from_All, one_of_name}
 use Rattle.sc_node_table.specs.NodeDefinitions.{numbers_from}
-use Rattle.sc_scenario.specs.scenario.Definitions.{base_at, group_at, IsBounded, IsBoundedGroup, IsUpTo}
+use Rattle.sc_scenario.specs.scenario.Definitions.{base_at, group_at, IsBounded, IsUpTo}
 use Rattle.sc_scenario.specs.declared.scenario.scenarios.Asks.{Asks}
 use Rattle.sc_scenario.specs.declared.scenario.scenarios.Scenario.{Scenario}
 use Rattle.sc_meaning.specs.sound.SoundDefinitions.{node_seat, client_seat, client_seats, route_of, births, as_nodes}
@@ -35,9 +35,6 @@ pub record IsStage (scenario : Scenario) : Type 0 where
   pub seats_apart : are_apart (births as_nodes scenario) ≡ true
 
 module _ (scenario : Scenario) (bounded : IsBounded scenario) where
-  line_bounded : (k : ℕ) → k < length bounded.starts → IsBoundedGroup scenario.nodes (group_at bounded.starts k)
-  line_bounded k low = bounded.each k (record { lo = 0; members = [] }) low
-
   within : (k : ℕ) → k < length bounded.starts → (node : ℕ) → is_member (group_at bounded.starts k).members node ≡ true → (1 ≤ node) × (node ≤ scenario.nodes)
   within k low node m =
       let members = (group_at bounded.starts k).members in

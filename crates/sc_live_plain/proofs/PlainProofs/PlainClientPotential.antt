@@ -1,24 +1,26 @@
 -- What a client of a plain journal owes falls with each mail that it takes, and does not rise when it starts: it finds what a client of a calm journal needs.
-use Rattle.std.proofs.Common.{◌≡◌, ℕ, ◌+◌, ◌-◌, ◌<◌, ◌≤◌, eqb, Bool, true, false, cond, List, [], ◌∷◌, length, map, Option, Some, None, inl, inr, refl, sym, ◌∙◌, ap, subst, arith}
+use Rattle.std.proofs.Common.{◌≡◌, ℕ, ◌+◌, ◌-◌, ◌<◌, ◌≤◌, Bool, true, false, cond, List, [], ◌∷◌, length, map, Some, None, inl, inr, refl, sym, ◌∙◌, ap, subst, arith}
 use Rattle.std.specs.Prelude.{nat_le, slice_get, is_some}
-use Rattle.std.proofs.lemmas.Bool.{cond-true, cond-false, cases_lt, eqb-true, lt-leb, and_parts, both_ways}
+use Rattle.std.proofs.lemmas.Bool.{cond-true, cond-false, cases_lt, lt-leb}
 use Rattle.std.proofs.lemmas.List.{length-map}
 use Rattle.std.proofs.lemmas.List.Sums.{sum_by-cons}
 use Rattle.sc_base.specs.Definitions.{Among, Each, client_actor, same_draw}
-use Rattle.sc_base.proofs.Lemmas.{draw_is, same_name}
+use Rattle.sc_base.proofs.Lemmas.{same_name}
 use Rattle.sc_node_table.specs.Values.{Draw, Op, Got, AnswerBody, Value, NotLeader, NotMine, Gone, Stale, Mail, MailBody, Answer, Told}
 use Rattle.sc_actor.specs.declared.rows.Input.TheVariants.{Go}
 use Rattle.sc_client_table.specs.declared.lookup.ways.Way.{Way}
 use Rattle.sc_client_table.specs.lookup.LookupDefinitions.{KnownGroups, way_to, target_of}
-use Rattle.sc_client_table.specs.table.TableDefinitions.{Client as ClientState, ClientStep, request_sent, started, waits_for, was_asked, got, table}
+use Rattle.sc_client_table.specs.table.TableDefinitions.{Client as ClientState, ClientStep, request_sent, started, got, table}
 use Rattle.sc_scenario.specs.declared.scenario.scenarios.Asks.{Asks}
 use Rattle.sc_scenario.specs.declared.scenario.scenarios.Scenario.{Scenario}
+use Rattle.sc_law_walks.proofs.ClientWalks.{asked_last}
+use Rattle.sc_client_table.proofs.TableProofs.TurnLemmas.{waited_for}
 use Rattle.sc_live_steps.specs.calm.CalmDefinitions.{AreBounded, Reach, sent_on, search_owes, unknown, unknown_one, waiting_one, answer_owes, body_owes, client_owes, client_turn_owes, IsDelivered, IsInTurn, MayHear}
 use Rattle.sc_live_steps.specs.calm.ClientReach.{Awaits}
 use Rattle.sc_live_steps.proofs.CalmStepsProofs.NodePotential.{body_most}
 use Rattle.sc_live_steps.proofs.CalmStepsProofs.CalmStepLemmas.{clients_pay}
 use Rattle.sc_live_plain.specs.PlainDefinitions.{IsLinkedSetting, IsCalmClient, IsCalmMail, CanBeAsked, Frame, direct, reach_of, mail_owes, IsWaiting, Requests, IsPlainBody, IsPlainMail}
-use Rattle.sc_live_plain.proofs.CalmProofs.AskedGroups.{calm_says, CalmSays, new_group}
+use Rattle.sc_live_plain.proofs.CalmProofs.AskedGroups.{calm_says, CalmSays, awaiting, new_group}
 use Rattle.sc_live_plain.proofs.CalmProofs.CalmClients.{unasked, one_known}
 use Rattle.sc_live_plain.proofs.CalmProofs.KnownGroups.{id_of}
 use Rattle.sc_live_plain.proofs.PlainProofs.PlainBeginnings.{frames_of, IsStage}
@@ -79,21 +81,13 @@ module _ (scenario : Scenario) (begins : IsStage scenario) (linked : IsLinkedSet
   module _ (begun : Requests) (asks : Asks) (gone : Bool) (client : ClientState) (mail : Mail) (k : IsCalmClient (plain_setting scenario) asks gone client) (m : IsCalmMail begun (plain_setting scenario) mail) (to : mail.to ≡ client_actor client.me)
       (asked_right : (seq : ℕ) (op : Op) → begun client.me seq op → slice_get client.requests (seq - 1) ≡ Some op) where
     in_turn : IsInTurn client
-    in_turn seq e = elim (k.state) [
-      | inl rests ↦ (let bad : None ≡ Some seq = sym rests.waits ∙ e in cc)
-      | inr w ↦ (let same : w.1.seq ≡ seq = some_is (sym w.1.waits ∙ e) in let number = w.1.number in omega (arith, same, number))
-    ]
+    in_turn seq e = (let a = awaiting client gone k.state seq e in let number = a.1.number in let same = a.2 in omega (arith, number, same))
 
     -- an answer that it waits for
     awaited : (group : Draw) (seq : ℕ) → Awaits mail.from group seq client → (w : IsWaiting client) × (w.seq ≡ seq) × (w.group ≡ group)
-    awaited group seq awaits = elim (k.state) [
-      | inl rests ↦ absurd (both_ways (waits_for client.waiting seq) (ap (λ (o : Option ℕ). waits_for o seq) rests.waits) awaits.0)
-      | inr w ↦ (
-        w.1,
-        eqb-true w.1.seq seq (ap (λ (o : Option ℕ). waits_for o seq) (sym w.1.waits) ∙ awaits.0),
-        draw_is w.1.group group (and_parts (eqb w.1.target mail.from) (same_draw w.1.group group) (ap (λ (o : Option (Draw × ℕ)). was_asked o mail.from group) (sym w.1.asked) ∙ awaits.1)).1,
-      )
-    ]
+    awaited group seq awaits =
+        let a = awaiting client gone k.state seq (waited_for client.waiting seq awaits.0) in
+        (a.1, a.2, ap (λ (x : Draw × ℕ). x.0) (some_is (sym a.1.asked ∙ asked_last client.asked mail.from group awaits.1)))
 
     says : (group : Draw) (seq : ℕ) (answer : AnswerBody) → mail.body ≡ Answer group seq answer → (w : IsWaiting client) → w.seq ≡ seq → w.group ≡ group → CalmSays begun (plain_setting scenario) mail.from mail.to (Answer w.group w.seq answer)
     says group seq answer e w same name =
