@@ -3,10 +3,7 @@ use Rattle.std.proofs.Common.{◌≡◌, ℕ, nat_lt, true, List, [], ◌∷◌,
 use Rattle.std.specs.Prelude.{is_some, unwrap_or}
 use Rattle.std.specs.Option.{option_map}
 use Rattle.std.specs.List.{find}
-use Rattle.std.specs.Map.{set_value}
-use Rattle.std.proofs.lemmas.Bool.{cond_both}
-use Rattle.sc_base.specs.Definitions.{Among, Each, Arc, end_of, same_draw, is_member, least_of, next_after}
-use Rattle.sc_base.proofs.Lemmas.{draw_is}
+use Rattle.sc_base.specs.Definitions.{Among, Each, Arc, end_of, is_member, least_of, next_after}
 use Rattle.sc_words.proofs.PaxosProofs.PaxosLemmas.{Each-append, find_found}
 use Rattle.sc_words.specs.declared.commands.links.Link.{Link}
 use Rattle.sc_paxos_law.proofs.Lemmas.{among-member}
@@ -16,6 +13,7 @@ use Rattle.sc_client_table.specs.lookup.LookupDefinitions.{KnownGroups, way_to, 
 use Rattle.sc_client_table.specs.table.TableDefinitions.{Client, ClientStep, table, request_of}
 use Rattle.sc_law_walks.proofs.WalkLemmas.{either_way, ClientParts, parts_step}
 use Rattle.sc_live_plain.proofs.PlainLemmas.{some_is}
+use Rattle.sc_live_plain.proofs.CalmProofs.ChosenGroups.{lookup_has, set_each}
 use Rattle.sc_live_healed.proofs.FixedWalks.{IsMember}
 use Rattle.sc_live_healed.proofs.FixedNodes.{AreFresh}
 use Rattle.sc_live_healed.specs.HealedDefinitions.{IsFixedBody, IsFixedMail, KnowsFixed, IsFixedClient}
@@ -29,24 +27,12 @@ module _ (bases : List Base) (fresh : AreFresh bases) where
 
   -- ---- what is known of one group
 
-  found_by : (group : Draw) (known : KnownGroups) (way : Way) → All known → way_to group known ≡ Some way → KnowsFixed bases group way
-  found_by group [] way k e = absurd (cc)
-  found_by group (x ∷ known) way k e =
-      cond_both (same_draw group x.0) (Some x.1) (way_to group known) (λ (o : Option Way). o ≡ Some way → KnowsFixed bases group way)
-      (λ t q. (let same : x.1 ≡ way = cc in subst (λ (w : Way). KnowsFixed bases group w) same (subst (λ (name : Draw). KnowsFixed bases name x.1) (sym (draw_is group x.0 t)) k.0)))
-      (λ _ q. found_by group known way k.1 q) e
-
-  put_way : (group : Draw) (way : Way) (known : KnownGroups) → KnowsFixed bases group way → All known → All (set_value (same_draw group) known way)
-  put_way group way [] n k = tt
-  put_way group way (x ∷ known) n k =
-      cond_both (same_draw group x.0) ((x.0, way) ∷ known) (x ∷ set_value (same_draw group) known way) All (λ t. (subst (λ (name : Draw). KnowsFixed bases name way) (draw_is group x.0 t) n, k.1)) (λ _. (k.0, put_way group way known n k.1))
-
   changes : (change : Way → Way) (group : Draw) (known : KnownGroups) → ((way : Way) → KnowsFixed bases group way → KnowsFixed bases group (change way)) → All known → All (changed change group known (way_to group known))
   changes change group known keeps k = by (way_to group known) refl
     where
       by : (o : Option Way) → way_to group known ≡ o → All (changed change group known o)
       by None e = k
-      by (Some way) e = put_way group (change way) known (keeps way (found_by group known way k e)) k
+      by (Some way) e = set_each Knows group known (change way) (keeps way (lookup_has Knows known group way e k)) k
 
   -- a member is asked
   asked_member : (group : Draw) (way : Way) (k : KnowsFixed bases group way) → IsMember k.base (target_of way)
@@ -106,7 +92,7 @@ module _ (bases : List Base) (fresh : AreFresh bases) where
     where
       by : (o : Option Way) → way_to group client.known ≡ o → option_map target_of o ≡ Some target → IsFixedMail bases (request_of client.me group target request)
       by None e t = absurd (cc)
-      by (Some way) e t = (let w = found_by group client.known way k e in record { base = w.base; among = w.among; says = (sym w.name, subst (IsMember w.base) (some_is t) (asked_member group way w)) })
+      by (Some way) e t = (let w = lookup_has Knows client.known group way e k in record { base = w.base; among = w.among; says = (sym w.name, subst (IsMember w.base) (some_is t) (asked_member group way w)) })
 
   fixed_parts : ClientParts (IsFixedClient bases) (IsFixedMail bases) (IsFixedMail bases)
   fixed_parts = record {
