@@ -3,7 +3,7 @@ use Rattle.std.proofs.Common.{◌≡◌, ℕ, ◌+◌, ◌-◌, ◌&&◌, ◌||�
 use Rattle.std.specs.Prelude.{is_some, is_none}
 use Rattle.std.proofs.lemmas.Bool.{and_from, cond-true, cond-false}
 use Rattle.sc_base.specs.Definitions.{Each, same_draw, Drawer, next_name, is_member}
-use Rattle.sc_node_table.specs.Values.{Draw, Op, Command, Noop, Call, GiveUp, Base, Core, Lock, Free, Coordinating, Promised, Watching, Route, Order, OrderLine, OrderRefusal, Outcome, Past, AnswerBody, Mail, MailBody, Answer, Prepare, Promise, Accept, Accepted, Nack, Learn, Ask, Install, TxVote, TxElsewhere, TxWatched, Told, Must, Counted, Report}
+use Rattle.sc_node_table.specs.Values.{Draw, Op, Command, Noop, Call, GiveUp, Base, Core, Lock, Free, Coordinating, Promised, Watching, Route, Order, OrderLine, OrderRefusal, Outcome, Past, AnswerBody, Mail, MailBody, Answer, Prepare, Promise, Accept, Accepted, Nack, Learn, Ask, Install, TxVote, TxElsewhere, TxWatched, Told, Report}
 use Rattle.sc_words.specs.ideal.IdealDefinitions.{key_of, holds_key}
 use Rattle.sc_words.specs.declared.commands.orders.Order.TheVariants as An
 use Rattle.sc_words.specs.declared.commands.orders.OrderRefusal.TheVariants as Why

@@ -1,7 +1,7 @@
 -- An entry: the command of the next slot, which is chosen there, lengthens the log, and all that is told of it is so.
-use Rattle.std.proofs.Common.{◌≡◌, ℕ, ◌+◌, ◌<◌, nat_lt, Bool, true, cond, eqb, List, [], ◌∷◌, ◌++◌, length, Option, Some, None, ◌⊎◌, inl, inr, refl, sym, ◌∙◌, subst, arith}
+use Rattle.std.proofs.Common.{◌≡◌, ℕ, ◌+◌, ◌<◌, nat_lt, Bool, true, eqb, List, [], ◌∷◌, ◌++◌, length, Option, Some, None, ◌⊎◌, inl, inr, refl, sym, ◌∙◌, subst, arith}
 use Rattle.std.proofs.lemmas.Bool.{cases_Bool, eqb-true, eqb-false, cond_both}
-use Rattle.sc_base.specs.Definitions.{client_actor, is_member, Among, Each}
+use Rattle.sc_base.specs.Definitions.{client_actor, is_member, Each}
 use Rattle.sc_node_table.specs.Values.{Op, Reply, Command, Noop, Call, Join, Leave, Split, Begin, Base, Effect, AnswerBody, Mail, MailBody, Answer, OrderResult, Flight}
 use Rattle.sc_words.specs.declared.commands.effects.Effect.TheVariants as Was
 use Rattle.sc_mail.specs.declared.bodies.AnswerBody.TheVariants as Says

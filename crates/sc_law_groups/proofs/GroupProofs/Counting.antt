@@ -1,5 +1,5 @@
 -- Promises and votes that are counted.
-use Rattle.std.proofs.Common.{◌≡◌, ℕ, ◌+◌, ◌-◌, ◌<◌, ◌≤◌, ◌&&◌, not, nat_lt, Bool, true, eqb, List, [], ◌∷◌, ◌++◌, length, Option, Some, None, ◌⊎◌, inl, inr, refl, sym, ◌∙◌, ap, subst, append-nil, append_assoc}
+use Rattle.std.proofs.Common.{◌≡◌, ℕ, ◌+◌, ◌<◌, ◌&&◌, not, nat_lt, Bool, true, eqb, List, [], ◌∷◌, ◌++◌, length, Option, Some, None, ◌⊎◌, inl, inr, refl, sym, ◌∙◌, ap, subst, append-nil, append_assoc}
 use Rattle.std.specs.List.{flat_map}
 use Rattle.std.proofs.lemmas.Bool.{cases_Bool, eqb-true, eqb-false, and_parts, cond_both}
 use Rattle.sc_node_table.specs.Values.{Ballot, Command, Base, Mail, MailBody, Counted, Chosen, NotYet, Flight, Report}
@@ -8,7 +8,7 @@ use Rattle.sc_words.specs.paxos.PaxosDefinitions.{LeaderState, flight_at, withou
 use Rattle.sc_words.proofs.PaxosProofs.PaxosLemmas.{Each-among, Each-weaker, Each-append, find_found}
 use Rattle.sc_paxos_law.specs.PaxosLawDefinitions.{Prepared, Promised, Accepted, CountedPromise}
 use Rattle.sc_paxos_law.proofs.Lemmas.{Among-right}
-use Rattle.sc_node_table.specs.NodeDefinitions.{with_slot, ReplicaState, Place, next, set_at}
+use Rattle.sc_node_table.specs.NodeDefinitions.{with_slot, ReplicaState, Place, set_at}
 use Rattle.sc_meaning.specs.sound.SoundDefinitions.{Ahead}
 use Rattle.sc_law_groups.proofs.GroupProofs.Growth.{IsLearnt}
 use Rattle.sc_law_groups.proofs.GroupProofs.Invariant.{Steps, rule, IsFlying, IsTaken, IsReplica}

@@ -1,5 +1,5 @@
 -- What holds in the middle of a row of a group's replica is kept by each row in which it neither promises nor accepts: an instance of the walk over any replica's table.
-use Rattle.std.proofs.Common.{◌≡◌, ℕ, ◌-◌, ◌||◌, not, Bool, true, false, List, [], ◌∷◌, ◌++◌, Option, Some, None, is_some, refl, sym, ◌∙◌, ap, subst}
+use Rattle.std.proofs.Common.{◌≡◌, ℕ, ◌-◌, ◌||◌, not, Bool, true, false, List, [], ◌∷◌, ◌++◌, Some, None, is_some, refl, sym, ◌∙◌, ap, subst}
 use Rattle.sc_base.specs.Definitions.{client_actor, is_member, Among, Each, Drawer, next_name}
 use Rattle.sc_base.proofs.Lemmas.{same_name}
 use Rattle.sc_node_table.specs.Values.{Ballot, Draw, Command, Noop, Call, GiveUp, Base, OrderLine, Refused, Mail, MailBody, Request, Answer, Prepare, Promise, Accept, Accepted as AcceptedMail, Nack, Learn, Ask, Install, TxPrepare, TxVote, TxOutcome, TxElsewhere, TxWatch, TxWatched, Told}

@@ -1,10 +1,10 @@
 -- Of what a replica says again or refuses: an entry that it holds was chosen, what it has in flight was offered, and what it answers where it takes no request names no entry.
-use Rattle.std.proofs.Common.{◌≡◌, ℕ, ◌+◌, ◌-◌, ◌<◌, ◌&&◌, not, nat_lt, eqb, Bool, List, ◌++◌, drop, Option, Some, None, sym, ◌∙◌, ap, subst, arith}
+use Rattle.std.proofs.Common.{◌≡◌, ℕ, ◌+◌, ◌-◌, ◌<◌, ◌&&◌, not, nat_lt, eqb, List, drop, Option, Some, None, sym, ◌∙◌, ap, subst, arith}
 use Rattle.std.specs.Prelude.{slice_get}
 use Rattle.std.proofs.lemmas.Bool.{eqb-true, ltb-true, cond_both}
 use Rattle.std.proofs.lemmas.Option.{slice_get_within}
 use Rattle.sc_base.specs.Definitions.{Among}
-use Rattle.sc_node_table.specs.Values.{Ballot, Op, Route, Command, Base, AnswerBody, Flight}
+use Rattle.sc_node_table.specs.Values.{Op, Route, Command, Base, AnswerBody, Flight}
 use Rattle.sc_words.specs.ideal.IdealDefinitions.{key_of, holds_key}
 use Rattle.sc_mail.specs.declared.bodies.AnswerBody.TheVariants as Says
 use Rattle.sc_words.specs.paxos.PaxosDefinitions.{entry_at, flight_at}

@@ -1,5 +1,5 @@
 -- A state that is sent: a replica that takes it over, and one that is made of it.
-use Rattle.std.proofs.Common.{◌≡◌, ℕ, ◌+◌, ◌≤◌, true, false, List, [], ◌∷◌, ◌++◌, length, Some, refl, sym, ◌∙◌, ap, subst, arith}
+use Rattle.std.proofs.Common.{◌≡◌, ℕ, ◌+◌, ◌≤◌, true, false, List, [], ◌++◌, length, Some, refl, sym, ◌∙◌, ap, subst, arith}
 use Rattle.std.proofs.lemmas.List.{drop_all}
 use Rattle.sc_node_table.specs.Values.{Ballot, Draw, Command, Base, Mail, MailBody}
 use Rattle.sc_group_table.specs.machine.MachineDefinitions.{Group, group_of}

@@ -1,5 +1,5 @@
 -- What a leader offers: by its promises, at slots that its ballot has not offered before.
-use Rattle.std.proofs.Common.{◌≡◌, ℕ, ◌+◌, ◌-◌, ◌<◌, ◌≤◌, ◌||◌, not, Bool, true, false, eqb, List, [], ◌∷◌, ◌++◌, length, take, Option, Some, None, is_some, ◌⊎◌, inl, inr, refl, sym, ◌∙◌, ap, subst, arith}
+use Rattle.std.proofs.Common.{◌≡◌, ℕ, ◌+◌, ◌<◌, ◌≤◌, ◌||◌, not, Bool, true, false, eqb, List, [], ◌∷◌, ◌++◌, length, take, Option, Some, None, is_some, ◌⊎◌, inl, inr, refl, sym, ◌∙◌, ap, subst, arith}
 use Rattle.std.specs.Option.{option_map}
 use Rattle.std.specs.List.{find}
 use Rattle.std.proofs.lemmas.Bool.{eq-eqb, and_parts, or_cases, cond-true, cond_both}
@@ -12,7 +12,7 @@ use Rattle.sc_words.specs.paxos.PaxosDefinitions.{below, choice, names_above, mu
 use Rattle.sc_words.proofs.PaxosProofs.PaxosLemmas.{choice_among, Each-among, Each-weaker, Each-append}
 use Rattle.sc_paxos_law.specs.PaxosLawDefinitions.{Step, Offered, needed, members_of, CountedPromise, MayOffer}
 use Rattle.sc_paxos_law.proofs.Lemmas.{Among-left, Among-right, from_flat_map, was_offered, report_accepted, elected_by}
-use Rattle.sc_node_table.specs.NodeDefinitions.{refused_by, turned_down, offered, sent_all, at_slot, ReplicaState, Place, name_of, next, flying, either, taken_at}
+use Rattle.sc_node_table.specs.NodeDefinitions.{refused_by, turned_down, offered, sent_all, at_slot, ReplicaState, Place, name_of, flying, either, taken_at}
 use Rattle.sc_meaning.specs.sound.SoundDefinitions.{Ahead}
 use Rattle.sc_law_groups.proofs.GroupProofs.Growth.{later_learnt}
 use Rattle.sc_law_groups.proofs.GroupProofs.Invariant.{Steps, rule, first, later_has, IsTaken, IsReplica, next_after, queued_replica, IsTrueAnswer, later_flying}

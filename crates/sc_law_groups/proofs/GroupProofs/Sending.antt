@@ -1,5 +1,5 @@
 -- Mails that a row sends, and elections.
-use Rattle.std.proofs.Common.{◌≡◌, ℕ, ◌+◌, ◌≤◌, ◌-◌, true, false, cond, nat_lt, List, [], ◌∷◌, ◌++◌, length, Option, Some, inl, refl, ◌∙◌, ap, subst, arith}
+use Rattle.std.proofs.Common.{◌≡◌, ℕ, ◌+◌, ◌≤◌, ◌-◌, true, cond, nat_lt, List, [], ◌∷◌, ◌++◌, length, Option, Some, inl, refl, ◌∙◌, ap, subst, arith}
 use Rattle.std.proofs.lemmas.Bool.{cond-true, cond_both}
 use Rattle.sc_base.specs.Definitions.{client_actor, same_draw, Among}
 use Rattle.sc_node_table.specs.Values.{Ballot, Draw, Command, Call, Base, OrderResult, Refused, AnswerBody, Mail, MailBody, Answer, Prepare, Accept, Learn, Install, Told}

@@ -1,18 +1,17 @@
 -- The participant of a merge is not its watcher: a participant that stands behind another group is not its own successor.
-use Rattle.std.proofs.Common.{◌≡◌, ℕ, ◌&&◌, not, true, List, [], ◌∷◌, Option, Some, None, refl, sym, ◌∙◌, ap, subst, option_map}
+use Rattle.std.proofs.Common.{◌≡◌, ℕ, true, List, Option, Some, None, refl, sym, ◌∙◌, ap, subst}
 use Rattle.std.proofs.lemmas.Bool.{cond_both}
 use Rattle.std.proofs.lemmas.Option.{same_Some}
-use Rattle.sc_base.specs.Definitions.{same_draw}
-use Rattle.sc_node_table.specs.Values.{Draw, Body, Offer, Watch, Command, Noop, Call, Join, Leave, Split, Begin, Prepared, RecordVote, GiveUp, Finish, Watched, RecordWatch, Base, Coordinating, Effect, Frozen, Heard, Outcome, Past, Vote}
+use Rattle.sc_node_table.specs.Values.{Draw, Body, Offer, Watch, Prepared, RecordVote, GiveUp, RecordWatch, Base, Coordinating, Effect, Frozen, Heard, Outcome, Past, Vote}
 use Rattle.sc_words.specs.declared.commands.bodies.Body.TheVariants as At
 use Rattle.sc_words.specs.declared.commands.effects.Effect.TheVariants as Was
 use Rattle.sc_words.specs.declared.commands.votes.Vote.TheVariants as Vows
-use Rattle.sc_words.specs.commands.CommandDefinitions.{is_changed, decided_in, is_alone}
+use Rattle.sc_words.specs.commands.CommandDefinitions.{is_changed, decided_in}
 use Rattle.sc_group_table.specs.machine.MachineDefinitions.{Group, applied}
-use Rattle.sc_meaning.specs.entries.EntryDefinitions.{after_outcome, named_group}
+use Rattle.sc_meaning.specs.entries.EntryDefinitions.{after_outcome}
 use Rattle.sc_meaning.specs.declared.entries.LogEntry.{LogEntry}
-use Rattle.sc_law_entries.specs.ring.RingDefinitions.{Sources, IsVoteCast, IsAllowed, AreAllowed, StoryWorld, first_recorded, recorded_next, recorded_after, recorded_stories, Groups, LockOk, IsCoordinating, IsPromised, BeginInPlace, stories_of, Story, Stories, put, with_story, unsigned, new_story, vote_in, watch_vote_in, with_vote, with_watch_vote, with_decision, with_asked, with_answer, stories_after}
-use Rattle.sc_law_entries.proofs.RingProofs.RingLemmas.{Decisions, decisions, outcome_of, settle_by, living, living_by, eff, view_of, arc_of, succ_of, Old, IsPair, not_back, at_start, Kept, Ring, KeptWorld, kept_on}
+use Rattle.sc_law_entries.specs.ring.RingDefinitions.{Sources, IsVoteCast, AreAllowed, first_recorded, Groups, LockOk, IsCoordinating, IsPromised, BeginInPlace, stories_of, Story, Stories, unsigned, new_story, vote_in, with_vote, with_watch_vote, with_decision, with_asked}
+use Rattle.sc_law_entries.proofs.RingProofs.RingLemmas.{Decisions, decisions, outcome_of, settle_by, living, living_by, eff, view_of, arc_of, succ_of, Old, IsPair, not_back, Kept, Ring}
 use Rattle.sc_law_groups.specs.whole.WholeDefinitions.{PartiesAreApart}
 use Rattle.sc_law_groups.proofs.WholeProofs.Coming.{IsDull, comes}
 use Rattle.sc_law_groups.proofs.WholeProofs.StoryWalks.{StoryParts, stories_hold}

@@ -1,23 +1,21 @@
 -- Where the participant of a merge has voted Yes, both groups have at most nine members together.
-use Rattle.std.proofs.Common.{◌≡◌, ℕ, ◌≤◌, ◌&&◌, not, nat_lt, eqb, List, [], ◌∷◌, length, map, Option, Some, None, inl, inr, refl, sym, ◌∙◌, ap, subst, option_map, option_to_list, arith}
+use Rattle.std.proofs.Common.{◌≡◌, ℕ, ◌≤◌, nat_lt, eqb, List, [], ◌∷◌, length, map, Option, Some, None, inl, inr, refl, sym, ◌∙◌, ap, subst, option_to_list, arith}
 use Rattle.std.proofs.lemmas.Bool.{ltb-false, cond_both}
 use Rattle.std.proofs.lemmas.Option.{same_Some}
-use Rattle.sc_base.specs.Definitions.{Among, Each, same_draw, end_of, IsRoster, united}
-use Rattle.sc_base.proofs.Lemmas.{draw_is}
-use Rattle.sc_node_table.specs.Values.{Draw, Body, Offer, Command, Noop, Call, Join, Leave, Split, Begin, Prepared, RecordVote, GiveUp, Finish, Watched, RecordWatch, Base, Core, Effect, Route, Frozen, No, Outcome, Past, Vote}
+use Rattle.sc_base.specs.Definitions.{Among, Each, end_of, IsRoster, united}
+use Rattle.sc_node_table.specs.Values.{Draw, Body, Offer, Command, Prepared, RecordVote, GiveUp, RecordWatch, Base, Core, Effect, Route, Frozen, No, Outcome, Past, Vote}
 use Rattle.sc_words.specs.declared.commands.bodies.Body.TheVariants as At
 use Rattle.sc_words.specs.declared.commands.votes.No.TheVariants as Why
 use Rattle.sc_words.specs.declared.commands.votes.Past.TheVariants as Cast
 use Rattle.sc_words.specs.declared.commands.votes.Vote.TheVariants as Vows
-use Rattle.sc_words.specs.commands.CommandDefinitions.{is_changed, decided_in, is_alone}
+use Rattle.sc_words.specs.commands.CommandDefinitions.{is_changed, decided_in}
 use Rattle.sc_group_table.specs.machine.MachineDefinitions.{Group, group_of, applied, locked_in, frozen_of, has_voted, size_no, body_no, offer_no, no_of, vote_of, past_of}
 use Rattle.sc_meaning.specs.entries.EntryDefinitions.{birth_of, is_named, named_group, with_group, groups_after, after_command}
 use Rattle.sc_meaning.specs.declared.entries.LogEntry.{LogEntry}
 use Rattle.sc_meaning.proofs.EntriesProofs.EntryLemmas.{births_are_children}
 use Rattle.sc_words.proofs.PaxosProofs.PaxosLemmas.{Each-among, Each-append, find_found}
-use Rattle.sc_law_entries.specs.ring.RingDefinitions.{Sources, IsAllowed, AreAllowed, StoryWorld, first_recorded, recorded_next, recorded_after, recorded_stories, stories_of, Story, Stories, put, with_story, unsigned, new_story, vote_by, vote_in, watch_vote_in, with_vote, with_watch_vote, with_decision, with_asked, stories_after}
+use Rattle.sc_law_entries.specs.ring.RingDefinitions.{Sources, IsAllowed, AreAllowed, StoryWorld, first_recorded, recorded_next, recorded_after, recorded_stories, stories_of, Story, Stories, unsigned, new_story, vote_by, vote_in, with_vote, with_watch_vote, with_decision, with_asked, stories_after}
 use Rattle.sc_law_groups.specs.whole.WholeDefinitions.{IsFresh, MergesFit}
-pub use Rattle.sc_law_groups.proofs.WholeProofs.StoryWalks.{put_so, with_story_so}
 use Rattle.sc_law_groups.proofs.WholeProofs.StoryWalks.{stories_keep}
 use Rattle.sc_law_groups.proofs.WholeProofs.FreshChildren.{fresh_child}
 use Rattle.sc_law_groups.proofs.WholeProofs.Members.{members_after}

@@ -17,11 +17,11 @@ module _ (P : Draw → Story → Type 0) where
   AllSo ys = (tx : Draw) (y : Story) → ys tx ≡ Some y → P tx y
 
   -- one story more keeps what holds of each
-  pub put_so : (ys : Stories) (tx : Draw) (o : Option Story) → ((y : Story) → o ≡ Some y → P tx y) → AllSo ys → AllSo (put ys tx o)
+  put_so : (ys : Stories) (tx : Draw) (o : Option Story) → ((y : Story) → o ≡ Some y → P tx y) → AllSo ys → AllSo (put ys tx o)
   put_so ys tx o new old t story = cond_both (same_draw t tx) o (ys t) (λ (x : Option Story). x ≡ Some story → P t story) (λ q e. subst (λ n. P n story) (sym (draw_is t tx q)) (new story e)) (λ _ e. old t story e)
 
   -- so does one that goes on
-  pub with_story_so : (ys : Stories) (tx : Draw) (f : Story → Story) → ((y : Story) → ys tx ≡ Some y → P tx (f y)) → AllSo ys → AllSo (with_story ys tx f)
+  with_story_so : (ys : Stories) (tx : Draw) (f : Story → Story) → ((y : Story) → ys tx ≡ Some y → P tx (f y)) → AllSo ys → AllSo (with_story ys tx f)
   with_story_so ys tx f new old = by (ys tx) refl
     where
       by : (o : Option Story) → ys tx ≡ o → AllSo (put ys tx (option_map f o))

@@ -16,6 +16,7 @@ pub use Rattle.sc_law_groups.proofs.WholeProofs.Seats.{all_apart}
 pub use Rattle.sc_law_groups.proofs.WholeProofs.LawfulSoundness.{lawful_journals_decide_in_turn, fewer_orders}
 pub use Rattle.sc_law_groups.proofs.WholeProofs.Speaking.{stands_heard, stands_offer, stands_watch}
 pub use Rattle.sc_law_groups.proofs.WholeProofs.Starts.{bases_from, first_and_others}
+pub use Rattle.sc_law_groups.proofs.WholeProofs.StoryWalks.{StoryParts, stories_hold}
 pub use Rattle.sc_law_groups.proofs.WholeProofs.JournalsInTurn.{newborn_is_new, Holds}
 pub use Rattle.sc_law_groups.proofs.WholeProofs.LineGroups.{of_up_to, in_up_to, group_place, right_in}
 pub use Rattle.sc_law_groups.proofs.WholeProofs.WholeLaws.{lawful_journals_are_sound, valid_journals_are_sound, valid_entries_are_logs}

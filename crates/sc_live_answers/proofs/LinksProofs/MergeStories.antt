@@ -1,21 +1,19 @@
 -- What logs record of a transaction: its name was drawn for its coordinator, which is not its participant; and where it merges a group, that goes into its coordinator.
-use Rattle.std.proofs.Common.{◌≡◌, ℕ, ◌&&◌, not, true, true≢false, List, [], ◌∷◌, Option, Some, None, refl, sym, ◌∙◌, ap, subst}
+use Rattle.std.proofs.Common.{◌≡◌, ℕ, true, true≢false, List, Option, Some, None, refl, sym, ◌∙◌, ap, subst}
 use Rattle.std.proofs.lemmas.Bool.{cond_both}
 use Rattle.std.proofs.lemmas.Option.{same_Some}
-use Rattle.sc_node_table.specs.Values.{Draw, Body, Offer, Command, Noop, Call, Join, Leave, Split, Begin, Prepared, RecordVote, GiveUp, Finish, Watched, RecordWatch, Base, Core, Coordinating, Effect, Route, Frozen, Heard, Outcome, Past, Vote}
+use Rattle.sc_node_table.specs.Values.{Draw, Body, Offer, Command, Begin, Prepared, RecordVote, GiveUp, RecordWatch, Base, Core, Coordinating, Effect, Route, Frozen, Heard, Outcome, Past, Vote}
 use Rattle.sc_base.proofs.Lemmas.{same_name}
 use Rattle.sc_words.specs.commands.CommandDefinitions.{is_alone, decided_in, is_changed}
 use Rattle.sc_words.specs.declared.commands.bodies.Body.TheVariants as At
 use Rattle.sc_words.specs.declared.commands.effects.Effect.TheVariants as Was
 use Rattle.sc_words.specs.declared.commands.votes.Outcome.TheVariants as Is
 use Rattle.sc_words.specs.declared.commands.votes.Vote.TheVariants as Vows
-use Rattle.sc_meaning.specs.entries.EntryDefinitions.{named_group}
 use Rattle.sc_meaning.specs.declared.entries.LogEntry.{LogEntry}
 use Rattle.sc_group_table.specs.machine.MachineDefinitions.{Group, applied, begin_refused, refused_in, locked_in, merged_route, part_gift, decided}
-use Rattle.sc_law_entries.specs.ring.RingDefinitions.{AreAllowed, IsAllowed, Sources, StoryWorld, first_recorded, recorded_stories, recorded_after, recorded_next, Groups, IsCoordinating, LockOk, BeginInPlace, stories_of, Stories, Story, new_story, put, stories_after, vote_in, watch_vote_in, with_answer, with_asked, with_decision, with_vote, with_watch_vote}
-use Rattle.sc_law_entries.proofs.RingProofs.RingLemmas.{arcs_in, at_start, Kept, groups_in, Ring, KeptWorld, kept_on}
-use Rattle.sc_law_groups.proofs.WholeProofs.WholeLemmas.{comes, dull_same}
-use Rattle.sc_law_groups.proofs.WholeProofs.Fitting.{put_so, with_story_so}
+use Rattle.sc_law_entries.specs.ring.RingDefinitions.{AreAllowed, Sources, first_recorded, Groups, IsCoordinating, LockOk, BeginInPlace, stories_of, Stories, Story, new_story, vote_in, with_asked, with_decision, with_vote, with_watch_vote}
+use Rattle.sc_law_entries.proofs.RingProofs.RingLemmas.{Kept, Ring}
+use Rattle.sc_law_groups.proofs.WholeProofs.WholeLemmas.{comes, dull_same, StoryParts, stories_hold}
 use Rattle.sc_live_answers.proofs.LinksProofs.FittingGroups.{none_of}
 use Rattle.sc_law_walks.proofs.WalkLemmas.{MachineWalk, machine_step, EndsIt, ChangesNothing}
 
@@ -113,44 +111,40 @@ pub record IsHomeStory (owner : Option Draw) (y : Story) : Type 0 where
   pub apart : (offer : Offer) → y.offer ≡ Some offer → offer.part ≡ y.coordinator → ⊥
   pub home : (into : Route) → y.outcome ≡ Some (Is.Merged into) → into.group ≡ y.coordinator
 
-module _ (owner : Draw → Option Draw) where
-  abbrev AllHome : Stories → Type 0
-  AllHome ys = (tx : Draw) (y : Story) → ys tx ≡ Some y → IsHomeStory (owner tx) y
+-- a story that goes on keeps whom it asks
+voted_home : (o : Option Draw) (v : Option Vote) (y : Story) → IsHomeStory o y → IsHomeStory o (with_vote v y)
+voted_home o None y k = k
+voted_home o (Some vote) y k = record { drawn = k.drawn; apart = k.apart; home = k.home }
 
-  -- a story that goes on keeps whom it asks
-  voted_home : (o : Option Draw) (v : Option Vote) (y : Story) → IsHomeStory o y → IsHomeStory o (with_vote v y)
-  voted_home o None y k = k
-  voted_home o (Some vote) y k = record { drawn = k.drawn; apart = k.apart; home = k.home }
+watch_home : (o : Option Draw) (v : Option Past) (y : Story) → IsHomeStory o y → IsHomeStory o (with_watch_vote v y)
+watch_home o None y k = k
+watch_home o (Some past) y k = record { drawn = k.drawn; apart = k.apart; home = k.home }
 
-  watch_home : (o : Option Draw) (v : Option Past) (y : Story) → IsHomeStory o y → IsHomeStory o (with_watch_vote v y)
-  watch_home o None y k = k
-  watch_home o (Some past) y k = record { drawn = k.drawn; apart = k.apart; home = k.home }
+decided_home : (o : Option Draw) (d : Option Outcome) (y : Story) → IsHomeStory o y → ((into : Route) → d ≡ Some (Is.Merged into) → into.group ≡ y.coordinator) → IsHomeStory o (with_decision d y)
+decided_home o None y k leads = k
+decided_home o (Some outcome) y k leads = record { drawn = k.drawn; apart = k.apart; home = leads }
 
-  decided_home : (o : Option Draw) (d : Option Outcome) (y : Story) → IsHomeStory o y → ((into : Route) → d ≡ Some (Is.Merged into) → into.group ≡ y.coordinator) → IsHomeStory o (with_decision d y)
-  decided_home o None y k leads = k
-  decided_home o (Some outcome) y k leads = record { drawn = k.drawn; apart = k.apart; home = leads }
+asked_home : (o : Option Draw) (core : Core) (vote : Vote) (y : Story) → IsHomeStory o y → IsHomeStory o (with_asked core vote y)
+asked_home o core (Vows.Yes frozen) y k = record { drawn = k.drawn; apart = k.apart; home = k.home }
+asked_home o core (Vows.No why) y k = k
 
-  asked_home : (o : Option Draw) (core : Core) (vote : Vote) (y : Story) → IsHomeStory o y → IsHomeStory o (with_asked core vote y)
-  asked_home o core (Vows.Yes frozen) y k = record { drawn = k.drawn; apart = k.apart; home = k.home }
-  asked_home o core (Vows.No why) y k = k
+-- one that begins
+new_home : (o : Option Draw) (s : Group) (body : Body) → o ≡ Some s.core.id → (s.core.succ.group ≡ s.core.id → ⊥) → IsHomeStory o (new_story s body)
+new_home o s body fact apart = record { drawn = fact; apart = asked body; home = λ into e. no_outcome (Is.Merged into) _ e }
+  where
+    asked : (b : Body) (offer : Offer) → (new_story s b).offer ≡ Some offer → offer.part ≡ s.core.id → ⊥
+    asked At.Merge offer e same = apart (ap (λ (x : Offer). x.part) (same_Some _ offer e) ∙ same)
+    asked (At.Repart at) offer e same = apart (ap (λ (x : Offer). x.part) (same_Some _ offer e) ∙ same)
+    asked (At.Migrate node) offer e same = apart (ap (λ (x : Offer). x.part) (same_Some _ offer e) ∙ same)
+    asked (At.Split at child) offer e same = absurd (let bad : None ≡ Some offer = e in cc)
 
-  -- one that begins
-  new_home : (o : Option Draw) (s : Group) (body : Body) → o ≡ Some s.core.id → (s.core.succ.group ≡ s.core.id → ⊥) → IsHomeStory o (new_story s body)
-  new_home o s body fact apart = record { drawn = fact; apart = asked body; home = λ into e. no_outcome (Is.Merged into) _ e }
-    where
-      asked : (b : Body) (offer : Offer) → (new_story s b).offer ≡ Some offer → offer.part ≡ s.core.id → ⊥
-      asked At.Merge offer e same = apart (ap (λ (x : Offer). x.part) (same_Some _ offer e) ∙ same)
-      asked (At.Repart at) offer e same = apart (ap (λ (x : Offer). x.part) (same_Some _ offer e) ∙ same)
-      asked (At.Migrate node) offer e same = apart (ap (λ (x : Offer). x.part) (same_Some _ offer e) ∙ same)
-      asked (At.Split at child) offer e same = absurd (let bad : None ≡ Some offer = e in cc)
-
-  -- a split asks none
-  split_home : (o : Option Draw) (s : Group) (at : ℕ) (child : Draw) → o ≡ Some s.core.id → IsHomeStory o (new_story s (At.Split at child))
-  split_home o s at child fact = record { drawn = fact; apart = λ offer e same. (let bad : None ≡ Some offer = e in cc); home = λ into e. no_outcome (Is.Merged into) _ e }
+-- a split asks none
+split_home : (o : Option Draw) (s : Group) (at : ℕ) (child : Draw) → o ≡ Some s.core.id → IsHomeStory o (new_story s (At.Split at child))
+split_home o s at child fact = record { drawn = fact; apart = λ offer e same. (let bad : None ≡ Some offer = e in cc); home = λ into e. no_outcome (Is.Merged into) _ e }
 
 -- ---- entries
 
-module _ (sources : Sources) (ring : Ring) (gs : Groups) (ys : Stories) (g : Draw) (s : Group) (k : Kept sources.owner ring gs ys) (fact : gs g ≡ Some s) (old : AllHome sources.owner ys) where
+module _ (sources : Sources) (ring : Ring) (gs : Groups) (ys : Stories) (g : Draw) (s : Group) (k : Kept sources.owner ring gs ys) (fact : gs g ≡ Some s) where
   named : s.core.id ≡ g
   named = (k.0.group g s fact).named
 
@@ -161,54 +155,23 @@ module _ (sources : Sources) (ring : Ring) (gs : Groups) (ys : Stories) (g : Dra
       let own : IsCoordinating ys g s tx l.1 l.3 = subst (LockOk ys g s) l.4 (k.0.group g s fact).lock_ok in
       l.0 ∙ (named ∙ (sym own.coordinator ∙ ap (λ (z : Story). z.coordinator) (same_Some own.story y (sym own.fact ∙ e))))
 
-  answer_home : (tx : Draw) (vote : Vote) (by : ℕ) (y : Story) → ys tx ≡ Some y → IsHomeStory (sources.owner tx) (with_answer s.core vote (applied s (RecordVote tx vote by)).1 y)
-  answer_home tx vote by y e =
-      cond_both (is_changed (applied s (RecordVote tx vote by)).1) (with_asked s.core vote y) (with_decision (decided_in (applied s (RecordVote tx vote by)).1) y) (IsHomeStory (sources.owner tx))
-      (λ _. asked_home sources.owner (sources.owner tx) s.core vote y (old tx y e))
-      (λ _. decided_home sources.owner (sources.owner tx) (decided_in (applied s (RecordVote tx vote by)).1) y (old tx y e) (decider tx y e (applied s (RecordVote tx vote by)) (leads_so s (RecordVote tx vote by) tx refl)))
+  decided_so : (tx : Draw) (c : Command) → EndsIt tx c → (y : Story) → ys tx ≡ Some y → IsHomeStory (sources.owner tx) y → IsHomeStory (sources.owner tx) (with_decision (decided_in (applied s c).1) y)
+  decided_so tx c ends y e k = decided_home (sources.owner tx) (decided_in (applied s c).1) y k (decider tx y e (applied s c) (leads_so s c tx ends))
 
-  begun_home : (tx : Draw) (body : Body) (order : ℕ) → sources.owner tx ≡ Some g → AllHome sources.owner (stories_after s (Begin tx body order) (applied s (Begin tx body order)).1 ys)
-  begun_home tx body order mine =
-      cond_both (is_changed (applied s (Begin tx body order)).1) (put ys tx (Some (new_story s body))) ys (AllHome sources.owner)
-      (λ t. put_so (λ n. IsHomeStory (sources.owner n)) ys tx (Some (new_story s body)) (λ y e. subst (IsHomeStory (sources.owner tx)) (same_Some (new_story s body) y e) (new_home sources.owner (sources.owner tx) s body (mine ∙ ap Some (sym named)) (begins_apart s tx body order t))) old)
-      (λ _. old)
+  parts : StoryParts sources ys g s (λ n y. IsHomeStory (sources.owner n) y)
+  parts = record {
+    splits = λ at child order a. split_home (sources.owner child) s at child (a.0 ∙ ap Some (sym named));
+    begins = λ tx body order a changed. new_home (sources.owner tx) s body (a.0 ∙ ap Some (sym named)) (begins_apart s tx body order changed);
+    votes = λ tx offer a y e k. voted_home (sources.owner tx) (vote_in s (applied s (Prepared tx offer)).1) y k;
+    watches = λ o tx y k. watch_home (sources.owner tx) o y k;
+    answers = λ tx vote by a y e k. (let c = RecordVote tx vote by in
+        cond_both (is_changed (applied s c).1) (with_asked s.core vote y) (with_decision (decided_in (applied s c).1) y) (IsHomeStory (sources.owner tx))
+        (λ _. asked_home (sources.owner tx) s.core vote y k) (λ _. decided_so tx c refl y e k));
+    releases = λ tx vote by y e k. decided_so tx (RecordWatch tx vote by) refl y e k;
+    gives_up = λ tx y e k. decided_so tx (GiveUp tx) refl y e k;
+  }
 
-  split_so : (at : ℕ) (child : Draw) (order : ℕ) → sources.owner child ≡ Some g → AllHome sources.owner (stories_after s (Split at child order) (applied s (Split at child order)).1 ys)
-  split_so at child order mine =
-      cond_both (is_changed (applied s (Split at child order)).1 && not (is_alone s.core)) (put ys child (Some (new_story s (At.Split at child)))) ys (AllHome sources.owner)
-      (λ _. put_so (λ n. IsHomeStory (sources.owner n)) ys child (Some (new_story s (At.Split at child)))
-      (λ y e. subst (IsHomeStory (sources.owner child)) (same_Some (new_story s (At.Split at child)) y e) (split_home sources.owner (sources.owner child) s at child (mine ∙ ap Some (sym named)))) old)
-      (λ _. old)
-
-  entry_home : (c : Command) → IsAllowed sources ys g c → AllHome sources.owner (stories_after s c (applied s c).1 ys)
-  entry_home Noop a = old
-  entry_home (Call client seq op) a = old
-  entry_home (Join node order) a = old
-  entry_home (Leave node order) a = old
-  entry_home (Finish tx outcome) a = old
-  entry_home (Split at child order) a = split_so at child order a.0
-  entry_home (Begin tx body order) a = begun_home tx body order a.0
-  entry_home (Prepared tx offer) a = with_story_so (λ n. IsHomeStory (sources.owner n)) ys tx _ (λ y e. voted_home sources.owner (sources.owner tx) (vote_in s (applied s (Prepared tx offer)).1) y (old tx y e)) old
-  entry_home (Watched tx watch) a = with_story_so (λ n. IsHomeStory (sources.owner n)) ys tx _ (λ y e. watch_home sources.owner (sources.owner tx) (watch_vote_in (applied s (Watched tx watch)).1) y (old tx y e)) old
-  entry_home (RecordVote tx vote by) a = with_story_so (λ n. IsHomeStory (sources.owner n)) ys tx _ (answer_home tx vote by) old
-  entry_home (RecordWatch tx vote by) a = with_story_so (λ n. IsHomeStory (sources.owner n)) ys tx _
-      (λ y e. decided_home sources.owner (sources.owner tx) (decided_in (applied s (RecordWatch tx vote by)).1) y (old tx y e) (decider tx y e (applied s (RecordWatch tx vote by)) (leads_so s (RecordWatch tx vote by) tx refl))) old
-  entry_home (GiveUp tx) a = with_story_so (λ n. IsHomeStory (sources.owner n)) ys tx _
-      (λ y e. decided_home sources.owner (sources.owner tx) (decided_in (applied s (GiveUp tx)).1) y (old tx y e) (decider tx y e (applied s (GiveUp tx)) (leads_so s (GiveUp tx) tx refl))) old
-
--- ---- all entries
-
-told_home : (sources : Sources) (w : StoryWorld) (e : LogEntry) → KeptWorld sources.owner w → IsAllowed sources w.stories e.group e.command → AllHome sources.owner w.stories → AllHome sources.owner (recorded_next w e).stories
-told_home sources w e k a old = by (named_group e.group w.store.groups) refl
-  where
-    by : (o : Option Group) → named_group e.group w.store.groups ≡ o → AllHome sources.owner (recorded_stories w.stories o e.command)
-    by None fact = old
-    by (Some s) fact = entry_home sources (arcs_in w.store.ring) (groups_in w.store.groups) w.stories e.group s k.kept fact old e.command a
-
-all_home : (sources : Sources) (w : StoryWorld) (list : List LogEntry) → KeptWorld sources.owner w → AreAllowed sources w list → AllHome sources.owner w.stories → AllHome sources.owner (recorded_after w list).stories
-all_home sources w [] k a old = old
-all_home sources w (e ∷ list) k a old = all_home sources (recorded_next w e) list (kept_on sources w e k a.0) a.1 (told_home sources w e k a.0 old)
-
+-- after allowed entries
 pub stories_home : (sources : Sources) (bases : List Base) (list : List LogEntry) → BeginInPlace sources bases → AreAllowed sources (first_recorded bases) list
     → (tx : Draw) (y : Story) → stories_of bases list tx ≡ Some y → IsHomeStory (sources.owner tx) y
-stories_home sources bases list start allowed = all_home sources (first_recorded bases) list (at_start sources bases start) allowed (λ t z e. cc)
+stories_home sources bases list start allowed = stories_hold sources (λ n y. IsHomeStory (sources.owner n) y) (λ ring gs ys g s k fact old. parts sources ring gs ys g s k fact) bases start list allowed

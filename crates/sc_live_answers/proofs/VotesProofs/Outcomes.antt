@@ -1,27 +1,25 @@
 -- What a coordinator decides its participant can carry out: a boundary that it moves lies in one of two arcs that meet, and a member comes where there is room.
-use Rattle.std.proofs.Common.{◌≡◌, ℕ, ◌+◌, ◌^◌, ◌<◌, ◌≤◌, true, false, List, [], ◌∷◌, Option, Some, None, refl, sym, ◌∙◌, ap, subst}
+use Rattle.std.proofs.Common.{◌≡◌, ℕ, ◌+◌, ◌^◌, ◌<◌, ◌≤◌, true, false, List, ◌∷◌, [], Option, Some, None, refl, sym, ◌∙◌, ap, subst}
 use Rattle.std.specs.Prelude.{length, ◌&&◌, ◌==◌, not, nat_le}
 use Rattle.std.specs.FinMap.{entries}
 use Rattle.std.proofs.lemmas.Bool.{and_from, and_parts, cond-true, cond_both, eq-eqb, le-leb}
 use Rattle.std.proofs.lemmas.Option.{same_Some}
 use Rattle.sc_base.specs.Definitions.{Arc, end_of, from, holds, before, offset, same_draw, is_member, united}
-use Rattle.sc_node_table.specs.Values.{Draw, Body, Offer, Command, Noop, Call, Join, Leave, Split, Begin, Prepared, RecordVote, GiveUp, Finish, Watched, RecordWatch, Lock, Coordinating, Free, Promised, Watching, Effect, Frozen, Gift, Heard, Outcome, Past, Vote}
+use Rattle.sc_node_table.specs.Values.{Draw, Body, Offer, Prepared, RecordVote, Lock, Coordinating, Free, Promised, Watching, Effect, Frozen, Gift, Heard, Outcome, Past, Vote}
 use Rattle.sc_base.proofs.Lemmas.{draw_is}
-use Rattle.sc_words.specs.commands.CommandDefinitions.{is_alone, decided_in, is_changed}
+use Rattle.sc_words.specs.commands.CommandDefinitions.{decided_in}
 use Rattle.sc_words.specs.declared.commands.bodies.Body.TheVariants as At
 use Rattle.sc_words.specs.declared.commands.effects.Effect.TheVariants as Was
 use Rattle.sc_words.specs.declared.commands.votes.Outcome.TheVariants as Is
 use Rattle.sc_words.specs.declared.commands.votes.Past.TheVariants as Cast
 use Rattle.sc_words.specs.declared.commands.votes.Vote.TheVariants as Vows
 use Rattle.sc_words.specs.ideal.IdealDefinitions.{Contents, part_of}
-use Rattle.sc_meaning.specs.entries.EntryDefinitions.{named_group}
 use Rattle.sc_meaning.specs.declared.entries.LogEntry.{LogEntry}
 use Rattle.sc_group_table.specs.machine.MachineDefinitions.{can_gain, gained_group, lost_group, participant_after, welcomed_group, Group, applied, Plan, can_cut, can_join, can_migrate, can_repart, can_split, closing_group, giving_group, giving_plan, has_key_of, may_merge, merged_group, merged_route, migrated_group, part_gift, taken, taking_group, taking_plan, left_group, asks_watcher, committed, decided_group, granted, released, vote_recorded, watch_answered, watch_recorded, has_voted}
-use Rattle.sc_law_entries.specs.ring.RingDefinitions.{AreAllowed, IsAllowed, IsVoteCast, Sources, StoryWorld, first_recorded, recorded_stories, recorded_after, recorded_next, Groups, BeginInPlace, stories_of, Stories, Story, new_story, put, with_story, stories_after, unsigned, vote_in, watch_vote_in, with_answer, with_decision, with_vote, with_watch_vote}
-use Rattle.sc_law_entries.proofs.RingProofs.RingLemmas.{end_right, right_is, apart_of, mine_old, own_is, part_eff, arcs_in, mine_open, Old, arc_of, succ_of, view_of, inside_part, no_shared, outside_next, room_of, IsPair, pair_meets, cut_is, Ends, part_is, at_start, Kept, groups_in, IsOnRing, Ring, KeptWorld, kept_on, less_room as rest_room}
+use Rattle.sc_law_entries.specs.ring.RingDefinitions.{AreAllowed, IsAllowed, IsVoteCast, Sources, first_recorded, Groups, BeginInPlace, stories_of, Stories, Story, new_story, unsigned, vote_in, with_answer, with_decision, with_vote, with_watch_vote}
+use Rattle.sc_law_entries.proofs.RingProofs.RingLemmas.{end_right, right_is, apart_of, mine_old, own_is, part_eff, mine_open, Old, arc_of, succ_of, view_of, inside_part, no_shared, outside_next, room_of, IsPair, pair_meets, cut_is, Ends, part_is, Kept, IsOnRing, Ring, less_room as rest_room}
 use Rattle.sc_live_answers.specs.AnswerDefinitions.{HasOwnKeys, IsTakenBy}
-use Rattle.sc_law_groups.proofs.WholeProofs.WholeLemmas.{no_vote}
-use Rattle.sc_law_groups.proofs.WholeProofs.Fitting.{put_so, with_story_so}
+use Rattle.sc_law_groups.proofs.WholeProofs.WholeLemmas.{no_vote, StoryParts, stories_hold}
 
 -- ---- what a participant takes
 
@@ -66,9 +64,6 @@ merges into offer frozen group own f o keys = (_, refl)
 abbrev OutcomeFits : Story → Type 0
 OutcomeFits y = (outcome : Outcome) → y.outcome ≡ Some outcome → (offer : Offer) → y.offer ≡ Some offer → (frozen : Frozen) → y.vote ≡ Some (Vows.Yes frozen) → IsTakenBy outcome offer frozen
 
-abbrev AllFit : Stories → Type 0
-AllFit ys = (tx : Draw) (y : Story) → ys tx ≡ Some y → OutcomeFits y
-
 no_outcome : (outcome : Outcome) → None ≡ Some outcome → ⊥
 no_outcome outcome e = cc
 
@@ -84,9 +79,6 @@ same_none vote frozen e v = no_vote frozen (sym e ∙ v)
 new_fits : (s : Group) (body : Body) → OutcomeFits (new_story s body)
 new_fits s body outcome e = absurd (no_outcome outcome e)
 
-new_put : (ys : Stories) (tx : Draw) (s : Group) (body : Body) → AllFit ys → AllFit (put ys tx (Some (new_story s body)))
-new_put ys tx s body old = put_so (λ t y. OutcomeFits y) ys tx (Some (new_story s body)) (λ y e. subst OutcomeFits (same_Some (new_story s body) y e) (new_fits s body)) old
-
 watched_fits : (o : Option Past) (y : Story) → OutcomeFits y → OutcomeFits (with_watch_vote o y)
 watched_fits None y k = k
 watched_fits (Some past) y k = k
@@ -101,7 +93,7 @@ changed_fits s (Vows.No why) y k = k
 
 -- ---- entries
 
-module _ (sources : Sources) (ring : Ring) (gs : Groups) (ys : Stories) (g : Draw) (s : Group) (k : Kept sources.owner ring gs ys) (fact : gs g ≡ Some s) (old : AllFit ys) where
+module _ (sources : Sources) (ring : Ring) (gs : Groups) (ys : Stories) (g : Draw) (s : Group) (k : Kept sources.owner ring gs ys) (fact : gs g ≡ Some s) (old : (tx : Draw) (y : Story) → ys tx ≡ Some y → OutcomeFits y) where
   -- a participant's vote
   module _ (tx : Draw) (offer : Offer) (a : IsAllowed sources ys g (Prepared tx offer)) where
     -- it votes once
@@ -126,9 +118,6 @@ module _ (sources : Sources) (ring : Ring) (gs : Groups) (ys : Stories) (g : Dra
     with_cast y e None v was c = old tx y e
     with_cast y e (Some vote) (Some before) was c = absurd (let none : None ≡ Some vote = sym (once y e before was) ∙ c in cc)
     with_cast y e (Some vote) None was c = λ outcome out own o frozen _. early y e was outcome out own o frozen
-
-    prepared_fits : AllFit (with_story ys tx (with_vote (vote_in s (applied s (Prepared tx offer)).1)))
-    prepared_fits = with_story_so (λ t y. OutcomeFits y) ys tx (with_vote (vote_in s (applied s (Prepared tx offer)).1)) (λ y e. with_cast y e (vote_in s (applied s (Prepared tx offer)).1) y.vote refl refl) old
 
   -- ---- what a coordinator decides
 
@@ -270,38 +259,24 @@ module _ (sources : Sources) (ring : Ring) (gs : Groups) (ys : Stories) (g : Dra
       cond_both (same_draw t tx) _ _ (Denied tx (Vows.No why))
       (λ q. cond_both (asks_watcher body heard) _ _ (Denied tx (Vows.No why)) (λ _ y e. old tx y e) (λ _ y e. decided_fits Is.Abort y (λ offer o frozen v. aborts offer frozen))) (λ _ y e. old tx y e)
 
+  voted_at : (tx : Draw) (vote : Vote) (by : ℕ) → IsAllowed sources ys g (RecordVote tx vote by) → Denied tx vote (applied s (RecordVote tx vote by))
+  voted_at tx (Vows.Yes f) by a = recorded_so tx f a by s.core.lock refl
+  voted_at tx (Vows.No why) by a = denied_at tx why by s.core.lock
+
   -- ---- each entry
 
-  pub entry_fits : (c : Command) → IsAllowed sources ys g c → AllFit (stories_after s c (applied s c).1 ys)
-  entry_fits Noop a = old
-  entry_fits (Call client seq op) a = old
-  entry_fits (Join node order) a = old
-  entry_fits (Leave node order) a = old
-  entry_fits (Finish tx outcome) a = old
-  entry_fits (Split at child order) a =
-      cond_both (is_changed (applied s (Split at child order)).1 && not (is_alone s.core)) (put ys child (Some (new_story s (At.Split at child)))) ys AllFit (λ _. new_put ys child s (At.Split at child) old) (λ _. old)
-  entry_fits (Begin tx body order) a = cond_both (is_changed (applied s (Begin tx body order)).1) (put ys tx (Some (new_story s body))) ys AllFit (λ _. new_put ys tx s body old) (λ _. old)
-  entry_fits (Prepared tx offer) a = prepared_fits tx offer a
-  entry_fits (Watched tx watch) a = with_story_so (λ t y. OutcomeFits y) ys tx _ (λ y e. watched_fits (watch_vote_in (applied s (Watched tx watch)).1) y (old tx y e)) old
-  entry_fits (RecordVote tx (Vows.Yes f) by) a = with_story_so (λ t y. OutcomeFits y) ys tx (with_answer s.core (Vows.Yes f) (applied s (RecordVote tx (Vows.Yes f) by)).1) (recorded_so tx f a by s.core.lock refl) old
-  entry_fits (RecordVote tx (Vows.No why) by) a = with_story_so (λ t y. OutcomeFits y) ys tx (with_answer s.core (Vows.No why) (applied s (RecordVote tx (Vows.No why) by)).1) (denied_at tx why by s.core.lock) old
-  entry_fits (RecordWatch tx vote by) a = with_story_so (λ t y. OutcomeFits y) ys tx (with_decision (decided_in (applied s (RecordWatch tx vote by)).1)) (watch_recorded_at tx vote s.core.lock refl) old
-  entry_fits (GiveUp tx) a = with_story_so (λ t y. OutcomeFits y) ys tx (with_decision (decided_in (applied s (GiveUp tx)).1))
-      (cond_both (Rattle.sc_group_table.specs.machine.Transactions.is_coordinating s.core.lock tx) _ _ (Decided_so tx) (λ _. abort_at tx) (λ _. idle_at tx)) old
+  parts : StoryParts sources ys g s (λ t y. OutcomeFits y)
+  parts = record {
+    splits = λ at child order a. new_fits s (At.Split at child);
+    begins = λ tx body order a changed. new_fits s body;
+    votes = λ tx offer a y e k. with_cast tx offer a y e (vote_in s (applied s (Prepared tx offer)).1) y.vote refl refl;
+    watches = λ o tx y k. watched_fits o y k;
+    answers = λ tx vote by a y e k. voted_at tx vote by a y e;
+    releases = λ tx vote by y e k. watch_recorded_at tx vote s.core.lock refl y e;
+    gives_up = λ tx y e k. cond_both (Rattle.sc_group_table.specs.machine.Transactions.is_coordinating s.core.lock tx) _ _ (Decided_so tx) (λ _. abort_at tx) (λ _. idle_at tx) y e;
+  }
 
--- ---- all entries
-
-told_fits : (sources : Sources) (w : StoryWorld) (e : LogEntry) → KeptWorld sources.owner w → IsAllowed sources w.stories e.group e.command → AllFit w.stories → AllFit (recorded_next w e).stories
-told_fits sources w e k a old = by (named_group e.group w.store.groups) refl
-  where
-    by : (o : Option Group) → named_group e.group w.store.groups ≡ o → AllFit (recorded_stories w.stories o e.command)
-    by None fact = old
-    by (Some s) fact = entry_fits sources (arcs_in w.store.ring) (groups_in w.store.groups) w.stories e.group s k.kept fact old e.command a
-
-all_fits : (sources : Sources) (w : StoryWorld) (list : List LogEntry) → KeptWorld sources.owner w → AreAllowed sources w list → AllFit w.stories → AllFit (recorded_after w list).stories
-all_fits sources w [] k a old = old
-all_fits sources w (e ∷ list) k a old = all_fits sources (recorded_next w e) list (kept_on sources w e k a.0) a.1 (told_fits sources w e k a.0 old)
-
+-- after allowed entries
 pub outcomes_fit : (sources : Sources) (bases : List _) (list : List LogEntry) → BeginInPlace sources bases → AreAllowed sources (first_recorded bases) list
     → (tx : Draw) (y : Story) → stories_of bases list tx ≡ Some y → (outcome : Outcome) → y.outcome ≡ Some outcome → (offer : Offer) → y.offer ≡ Some offer → (frozen : Frozen) → y.vote ≡ Some (Vows.Yes frozen) → IsTakenBy outcome offer frozen
-outcomes_fit sources bases list start allowed tx y fact = all_fits sources (first_recorded bases) list (at_start sources bases start) allowed (λ t z e. cc) tx y fact
+outcomes_fit sources bases list start allowed = stories_hold sources (λ t y. OutcomeFits y) (λ ring gs ys g s k fact old. parts sources ring gs ys g s k fact old) bases start list allowed
