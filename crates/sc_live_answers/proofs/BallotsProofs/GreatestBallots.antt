@@ -72,10 +72,10 @@ module _ (r : ReplicaState) where
 
   -- what waits, and what it sends, is nothing to it
   pub order_idly : (drawer : Drawer) (line : OrderLine) → r.running ≡ false → Idly (ordered_row drawer line (r, []))
-  order_idly drawer line off = beside.order_keeps Idly (beside.still_pumps Idly (λ place k. k.0)) (λ q mails acts backlog k. k) (λ q. grows q.me (λ mails. Idly (q, mails)) (λ mails mail k. k)) drawer line (r, []) (off, refl)
+  order_idly drawer line off = beside.order_keeps Idly (beside.still_pumps Idly (λ place k. k.0) (λ q mails acts backlog k. k)) (λ q. grows q.me (λ mails. Idly (q, mails)) (λ mails mail k. k)) drawer line (r, []) (off, refl)
 
   beside_idly : (from : ℕ) (body : MailBody) → beside.IsBeside body → r.running ≡ false → Idly (mailed from body (r, [])).0
-  beside_idly from body a off = beside.beside_keeps Idly (beside.still_pumps Idly (λ place k. k.0)) (λ q mails acts backlog k. k) (λ q. grows q.me (λ mails. Idly (q, mails)) (λ mails mail k. k)) from body (r, []) a (off, refl)
+  beside_idly from body a off = beside.beside_keeps Idly (beside.still_pumps Idly (λ place k. k.0) (λ q mails acts backlog k. k)) (λ q. grows q.me (λ mails. Idly (q, mails)) (λ mails mail k. k)) from body (r, []) a (off, refl)
 
   -- ---- votes and promises
 

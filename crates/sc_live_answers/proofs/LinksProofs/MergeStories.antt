@@ -2,7 +2,7 @@
 use Rattle.std.proofs.Common.{◌≡◌, ℕ, ◌&&◌, not, true, true≢false, List, [], ◌∷◌, Option, Some, None, refl, sym, ◌∙◌, ap, subst}
 use Rattle.std.proofs.lemmas.Bool.{cond_both}
 use Rattle.std.proofs.lemmas.Option.{same_Some}
-use Rattle.sc_node_table.specs.Values.{Draw, Body, Offer, Command, Noop, Call, Join, Leave, Split, Begin, Prepared, RecordVote, GiveUp, Finish, Watched, RecordWatch, Base, Core, Coordinating, Effect, Route, Frozen, Heard, Outcome, Past, Vote}
+use Rattle.sc_node_table.specs.Values.{Draw, Body, Offer, Command, Split, Begin, Prepared, RecordVote, GiveUp, Watched, RecordWatch, Base, Core, Coordinating, Effect, Route, Frozen, Heard, Outcome, Past, Vote}
 use Rattle.sc_base.proofs.Lemmas.{same_name}
 use Rattle.sc_words.specs.commands.CommandDefinitions.{is_alone, decided_in, is_changed}
 use Rattle.sc_words.specs.declared.commands.bodies.Body.TheVariants as At
@@ -181,11 +181,6 @@ module _ (sources : Sources) (ring : Ring) (gs : Groups) (ys : Stories) (g : Dra
       (λ _. old)
 
   entry_home : (c : Command) → IsAllowed sources ys g c → AllHome sources.owner (stories_after s c (applied s c).1 ys)
-  entry_home Noop a = old
-  entry_home (Call client seq op) a = old
-  entry_home (Join node order) a = old
-  entry_home (Leave node order) a = old
-  entry_home (Finish tx outcome) a = old
   entry_home (Split at child order) a = split_so at child order a.0
   entry_home (Begin tx body order) a = begun_home tx body order a.0
   entry_home (Prepared tx offer) a = with_story_so (λ n. IsHomeStory (sources.owner n)) ys tx _ (λ y e. voted_home sources.owner (sources.owner tx) (vote_in s (applied s (Prepared tx offer)).1) y (old tx y e)) old
@@ -195,6 +190,7 @@ module _ (sources : Sources) (ring : Ring) (gs : Groups) (ys : Stories) (g : Dra
       (λ y e. decided_home sources.owner (sources.owner tx) (decided_in (applied s (RecordWatch tx vote by)).1) y (old tx y e) (decider tx y e (applied s (RecordWatch tx vote by)) (leads_so s (RecordWatch tx vote by) tx refl))) old
   entry_home (GiveUp tx) a = with_story_so (λ n. IsHomeStory (sources.owner n)) ys tx _
       (λ y e. decided_home sources.owner (sources.owner tx) (decided_in (applied s (GiveUp tx)).1) y (old tx y e) (decider tx y e (applied s (GiveUp tx)) (leads_so s (GiveUp tx) tx refl))) old
+  entry_home _ a = old
 
 -- ---- all entries
 

@@ -2,26 +2,25 @@
 use Rattle.std.proofs.Common.{◌≡◌, ℕ, ◌+◌, ◌^◌, ◌<◌, ◌≤◌, true, false, List, [], ◌∷◌, Option, Some, None, refl, sym, ◌∙◌, ap, subst}
 use Rattle.std.specs.Prelude.{length, ◌&&◌, ◌==◌, not, nat_le}
 use Rattle.std.specs.FinMap.{entries}
-use Rattle.std.proofs.lemmas.Bool.{and_from, and_parts, cond-true, cond_both, eq-eqb, le-leb}
+use Rattle.std.proofs.lemmas.Bool.{and_from, and_parts, cond-true, cond-false, cond_both, eq-eqb, le-leb}
 use Rattle.std.proofs.lemmas.Option.{same_Some}
-use Rattle.sc_base.specs.Definitions.{Arc, end_of, from, holds, before, offset, same_draw, is_member, united}
-use Rattle.sc_node_table.specs.Values.{Draw, Body, Offer, Command, Noop, Call, Join, Leave, Split, Begin, Prepared, RecordVote, GiveUp, Finish, Watched, RecordWatch, Lock, Coordinating, Free, Promised, Watching, Effect, Frozen, Gift, Heard, Outcome, Past, Vote}
-use Rattle.sc_base.proofs.Lemmas.{draw_is}
+use Rattle.sc_base.specs.Definitions.{Arc, end_of, from, holds, before, offset, is_member, united}
+use Rattle.sc_node_table.specs.Values.{Draw, Body, Offer, Command, Split, Begin, Prepared, RecordVote, GiveUp, Watched, RecordWatch, Coordinating, Effect, Frozen, Gift, Heard, Outcome, Past, Route, Vote}
 use Rattle.sc_words.specs.commands.CommandDefinitions.{is_alone, decided_in, is_changed}
 use Rattle.sc_words.specs.declared.commands.bodies.Body.TheVariants as At
 use Rattle.sc_words.specs.declared.commands.effects.Effect.TheVariants as Was
 use Rattle.sc_words.specs.declared.commands.votes.Outcome.TheVariants as Is
-use Rattle.sc_words.specs.declared.commands.votes.Past.TheVariants as Cast
 use Rattle.sc_words.specs.declared.commands.votes.Vote.TheVariants as Vows
 use Rattle.sc_words.specs.ideal.IdealDefinitions.{Contents, part_of}
 use Rattle.sc_meaning.specs.entries.EntryDefinitions.{named_group}
 use Rattle.sc_meaning.specs.declared.entries.LogEntry.{LogEntry}
-use Rattle.sc_group_table.specs.machine.MachineDefinitions.{can_gain, gained_group, lost_group, participant_after, welcomed_group, Group, applied, Plan, can_cut, can_join, can_migrate, can_repart, can_split, closing_group, giving_group, giving_plan, has_key_of, may_merge, merged_group, merged_route, migrated_group, part_gift, taken, taking_group, taking_plan, left_group, asks_watcher, committed, decided_group, granted, released, vote_recorded, watch_answered, watch_recorded, has_voted}
+use Rattle.sc_group_table.specs.machine.MachineDefinitions.{can_gain, gained_group, lost_group, participant_after, welcomed_group, Group, applied, can_cut, can_join, can_migrate, can_repart, closing_group, giving_group, has_key_of, merged_group, merged_route, migrated_group, part_gift, taken, taking_group, left_group, decided_group, has_voted}
 use Rattle.sc_law_entries.specs.ring.RingDefinitions.{AreAllowed, IsAllowed, IsVoteCast, Sources, StoryWorld, first_recorded, recorded_stories, recorded_after, recorded_next, Groups, BeginInPlace, stories_of, Stories, Story, new_story, put, with_story, stories_after, unsigned, vote_in, watch_vote_in, with_answer, with_decision, with_vote, with_watch_vote}
 use Rattle.sc_law_entries.proofs.RingProofs.RingLemmas.{end_right, right_is, apart_of, mine_old, own_is, part_eff, arcs_in, mine_open, Old, arc_of, succ_of, view_of, inside_part, no_shared, outside_next, room_of, IsPair, pair_meets, cut_is, Ends, part_is, at_start, Kept, groups_in, IsOnRing, Ring, KeptWorld, kept_on, less_room as rest_room}
 use Rattle.sc_live_answers.specs.AnswerDefinitions.{HasOwnKeys, IsTakenBy}
 use Rattle.sc_law_groups.proofs.WholeProofs.WholeLemmas.{no_vote}
 use Rattle.sc_law_groups.proofs.WholeProofs.Fitting.{put_so, with_story_so}
+use Rattle.sc_law_walks.proofs.WalkLemmas.{VoteWalk, vote_step, WatchWalk, watch_step}
 
 -- ---- what a participant takes
 
@@ -117,10 +116,7 @@ module _ (sources : Sources) (ring : Ring) (gs : Groups) (ys : Stories) (g : Dra
     -- where it is decided before the vote it is an abort
     early : (y : Story) → ys tx ≡ Some y → y.vote ≡ None → (outcome : Outcome) → y.outcome ≡ Some outcome → (own : Offer) → y.offer ≡ Some own → (frozen : Frozen) → IsTakenBy outcome own frozen
     early y e none Is.Abort out own o frozen = aborts own frozen
-    early y e none (Is.Merged into) out own o frozen = absurd (let v = ((k.0.story tx y e).earned (Is.Merged into) out (λ q. cc)).0 own o in same_none y.vote v.0 none v.1)
-    early y e none (Is.Moved at gift) out own o frozen = absurd (let v = ((k.0.story tx y e).earned (Is.Moved at gift) out (λ q. cc)).0 own o in same_none y.vote v.0 none v.1)
-    early y e none (Is.Migrated node) out own o frozen = absurd (let v = ((k.0.story tx y e).earned (Is.Migrated node) out (λ q. cc)).0 own o in same_none y.vote v.0 none v.1)
-    early y e none Is.Divided out own o frozen = absurd (let v = ((k.0.story tx y e).earned Is.Divided out (λ q. cc)).0 own o in same_none y.vote v.0 none v.1)
+    early y e none outcome out own o frozen = absurd (let v = ((k.0.story tx y e).earned outcome out (λ q. cc)).0 own o in same_none y.vote v.0 none v.1)
 
     with_cast : (y : Story) → ys tx ≡ Some y → (o : Option Vote) → (v : Option Vote) → y.vote ≡ v → vote_in s (applied s (Prepared tx offer)).1 ≡ o → OutcomeFits (with_vote o y)
     with_cast y e None v was c = old tx y e
@@ -132,6 +128,16 @@ module _ (sources : Sources) (ring : Ring) (gs : Groups) (ys : Stories) (g : Dra
 
   -- ---- what a coordinator decides
 
+  -- what is decided can be carried out
+  abbrev Decided_so : Draw → Group × Effect → Type 0
+  Decided_so tx r = (y : Story) → ys tx ≡ Some y → OutcomeFits (with_decision (decided_in r.1) y)
+
+  abort_at : (tx : Draw) → Decided_so tx (decided_group s tx Is.Abort, Was.Decided Is.Abort)
+  abort_at tx y e = decided_fits Is.Abort y (λ offer o frozen v. aborts offer frozen)
+
+  merge_at : (tx : Draw) (into : Route) (made : Group) → Decided_so tx (made, Was.Decided (Is.Merged into))
+  merge_at tx into made y e = decided_fits (Is.Merged into) y (λ offer o frozen v. merges into offer frozen)
+
   module _ (tx : Draw) (f : Frozen) (told : IsVoteCast ys tx (Vows.Yes f)) where
     its_vote : (y : Story) → ys tx ≡ Some y → y.vote ≡ Some (Vows.Yes f)
     its_vote y e = ap (λ (z : Story). z.vote) (same_Some y told.0 (sym e ∙ told.1)) ∙ told.2
@@ -139,14 +145,8 @@ module _ (sources : Sources) (ring : Ring) (gs : Groups) (ys : Stories) (g : Dra
     voted_is : (y : Story) → ys tx ≡ Some y → (frozen : Frozen) → y.vote ≡ Some (Vows.Yes frozen) → f ≡ frozen
     voted_is y e frozen v = same_vote f frozen (sym (its_vote y e) ∙ v)
 
-    abbrev Answer : Group × Effect → Type 0
-    Answer r = (y : Story) → ys tx ≡ Some y → OutcomeFits (with_answer s.core (Vows.Yes f) r.1 y)
-
-    idle_so : (y : Story) → ys tx ≡ Some y → OutcomeFits (with_answer s.core (Vows.Yes f) (Was.NoEffect tx) y)
-    idle_so y e = old tx y e
-
     module _ (at order : ℕ) (lock : s.core.lock ≡ Coordinating tx (At.Repart at) order None) where
-      gives_so : can_cut s.core.arc at ≡ true → Answer (decided_group (giving_group s at f) tx (Is.Moved at (Some (part_gift s at))), Was.Decided (Is.Moved at (Some (part_gift s at))))
+      gives_so : can_cut s.core.arc at ≡ true → Decided_so tx (decided_group (giving_group s at f) tx (Is.Moved at (Some (part_gift s at))), Was.Decided (Is.Moved at (Some (part_gift s at))))
       gives_so cut y e = decided_fits (Is.Moved at (Some (part_gift s at))) y (λ offer o frozen v group own same signed keys. (
           let out : Outcome = Is.Moved at (Some (part_gift s at)) in
           let open_it = mine_open sources.owner ring gs ys g s k fact tx (At.Repart at) order None lock in
@@ -171,123 +171,60 @@ module _ (sources : Sources) (ring : Ring) (gs : Groups) (ys : Stories) (g : Dra
           let near : AreNear s.core.arc b.core.arc = record { on = ok; its_on = its; meet = meet; room = room } in
           gains group own at (subst (λ x. AreNear own.arc x) its_arc (subst (λ x. AreNear x b.core.arc) arc near)) own_it.own (subst (λ x. can_cut x at ≡ true) arc cut) keys (part_gift s at) s.pairs (ap (λ x. entries (part_of (from x at) s.pairs)) arc)))
 
-      takes_so : can_cut f.arc at ≡ true → Answer (decided_group (taking_group s at f) tx (Is.Moved at None), Was.Decided (Is.Moved at None))
+      takes_so : can_cut f.arc at ≡ true → Decided_so tx (decided_group (taking_group s at f) tx (Is.Moved at None), Was.Decided (Is.Moved at None))
       takes_so cut y e = decided_fits (Is.Moved at None) y (λ offer o frozen v group own same signed keys.
           loses group own at (subst (λ (x : Frozen). can_cut x.arc at ≡ true) (voted_is y e frozen v ∙ sym same) cut))
 
-      repart_so : Answer (committed (Rattle.sc_group_table.specs.machine.Plans.repart_plan s at f) s tx)
-      repart_so =
-          cond_both (holds s.core.arc at) (giving_plan s at f) (taking_plan s at f) (λ (plan : Plan). Answer (committed plan s tx))
-          (λ held. cond_both (can_repart s.core at f) (Some (giving_group s at f, Is.Moved at (Some (part_gift s at)))) None (λ (plan : Plan). Answer (committed plan s tx))
-          (λ c. gives_so (sym (cond-true (holds s.core.arc at) (can_cut s.core.arc at) (can_cut f.arc at && can_join s.core.arc (before f.arc at)) held) ∙ c)) (λ _. idle_so))
-          (λ out. cond_both (can_repart s.core at f && not (has_key_of s.pairs (taken at f).pairs)) (Some (taking_group s at f, Is.Moved at None)) None (λ (plan : Plan). Answer (committed plan s tx))
-          (λ c. takes_so (and_parts (can_cut f.arc at) (can_join s.core.arc (before f.arc at))
-          (sym (Rattle.std.proofs.lemmas.Bool.cond-false (holds s.core.arc at) (can_cut s.core.arc at) (can_cut f.arc at && can_join s.core.arc (before f.arc at)) out) ∙ (and_parts (can_repart s.core at f) (not (has_key_of s.pairs (taken at f).pairs)) c).0)).0)
-          (λ _. idle_so))
-
-    migrate_so : (node : ℕ) → Answer (committed (Rattle.sc_group_table.specs.machine.Plans.migrate_plan s node f) s tx)
-    migrate_so node =
-        cond_both (can_migrate s.core node f) (Some (migrated_group s node f, Is.Migrated node)) None (λ (plan : Plan). Answer (committed plan s tx))
-        (λ c y e. decided_fits (Is.Migrated node) y (λ offer o frozen v group own same signed keys.
+    migrate_so : (node : ℕ) → can_migrate s.core node f ≡ true → Decided_so tx (decided_group (migrated_group s node f) tx (Is.Migrated node), Was.Decided (Is.Migrated node))
+    migrate_so node c y e = decided_fits (Is.Migrated node) y (λ offer o frozen v group own same signed keys.
         welcomes group own node (subst (λ (x : Frozen). nat_le (length (united x.members (node ∷ []))) 9 ≡ true) (voted_is y e frozen v ∙ sym same)
-        (and_parts (is_member s.core.members node && nat_le 2 (length s.core.members)) (nat_le (length (united f.members (node ∷ []))) 9) c).1)))
-        (λ _. idle_so)
+        (and_parts (is_member s.core.members node && nat_le 2 (length s.core.members)) (nat_le (length (united f.members (node ∷ []))) 9) c).1))
 
-    merge_so : (order by : ℕ) → Answer (granted At.Merge s tx order f by)
-    merge_so order by =
-        cond_both (same_draw f.succ.group s.core.id) _ _ Answer
-        (λ _. cond_both (may_merge s f) (Some (closing_group s f, Is.Merged (merged_route s.core f))) None (λ (plan : Plan). Answer (committed plan s tx))
-        (λ _ y e. decided_fits (Is.Merged (merged_route s.core f)) y (λ offer o frozen v. merges (merged_route s.core f) offer frozen)) (λ _. idle_so))
-        (λ _ y e. changed_fits s (Vows.Yes f) y (old tx y e))
+  -- a recorded vote of a participant
+  abbrev Answered : Draw → Vote → Group × Effect → Type 0
+  Answered tx vote r = (y : Story) → ys tx ≡ Some y → OutcomeFits (with_answer s.core vote r.1 y)
 
-    answered_so : (by order : ℕ) (body : Body) (heard : Option Heard) → s.core.lock ≡ Coordinating tx body order heard → Answer (Rattle.std.specs.Prelude.cond (asks_watcher body heard) (s, Was.NoEffect tx) (granted body s tx order f by))
-    answered_so by order At.Merge None lock = merge_so order by
-    answered_so by order At.Merge (Some h) lock = idle_so
-    answered_so by order (At.Repart at) None lock = repart_so at order lock
-    answered_so by order (At.Repart at) (Some h) lock = idle_so
-    answered_so by order (At.Migrate node) None lock = migrate_so node
-    answered_so by order (At.Migrate node) (Some h) lock = idle_so
-    answered_so by order (At.Split at child) heard lock = idle_so
+  vote_walk : (tx : Draw) (vote : Vote) (by : ℕ) → IsVoteCast ys tx vote → VoteWalk s tx vote by (Answered tx vote)
+  vote_walk tx vote by told = record {
+    quiet = λ y e. old tx y e;
+    hears = λ order lock frozen votes other y e. changed_fits s vote y (old tx y e);
+    aborts = λ body order lock why no. abort_at tx;
+    closes = λ order lock frozen votes two may. merge_at tx (merged_route s.core frozen) (closing_group s frozen);
+    gives = λ at order lock frozen votes here can. gives_so tx frozen (subst (IsVoteCast ys tx) votes told) at order lock
+        (sym (cond-true (holds s.core.arc at) (can_cut s.core.arc at) (can_cut frozen.arc at && can_join s.core.arc (before frozen.arc at)) here) ∙ can);
+    takes = λ at order lock frozen votes there can. takes_so tx frozen (subst (IsVoteCast ys tx) votes told) at order lock (and_parts (can_cut frozen.arc at) (can_join s.core.arc (before frozen.arc at))
+        (sym (cond-false (holds s.core.arc at) (can_cut s.core.arc at) (can_cut frozen.arc at && can_join s.core.arc (before frozen.arc at)) there) ∙ (and_parts (can_repart s.core at frozen) (not (has_key_of s.pairs (taken at frozen).pairs)) can).0)).0;
+    migrates = λ node order lock frozen votes can. migrate_so tx frozen (subst (IsVoteCast ys tx) votes told) node can;
+  }
 
-    recorded_so : (by : ℕ) (l : Lock) → s.core.lock ≡ l → Answer (vote_recorded l s tx (Vows.Yes f) by)
-    recorded_so by Free e = idle_so
-    recorded_so by (Promised t offer) e = idle_so
-    recorded_so by (Watching t watch) e = idle_so
-    recorded_so by (Coordinating t body order heard) e =
-        cond_both (same_draw t tx) _ _ Answer (λ q. answered_so by order body heard (e ∙ ap (λ x. Coordinating x body order heard) (draw_is t tx q))) (λ _. idle_so)
-
-  -- ---- other decisions
-
-  abbrev Decided_so : Draw → Group × Effect → Type 0
-  Decided_so tx r = (y : Story) → ys tx ≡ Some y → OutcomeFits (with_decision (decided_in r.1) y)
-
-  idle_at : (tx : Draw) → Decided_so tx (s, Was.NoEffect tx)
-  idle_at tx y e = old tx y e
-
-  abort_at : (tx : Draw) → Decided_so tx (decided_group s tx Is.Abort, Was.Decided Is.Abort)
-  abort_at tx y e = decided_fits Is.Abort y (λ offer o frozen v. aborts offer frozen)
-
+  -- .. and of a watcher
   split_at : (tx : Draw) (at : ℕ) (child : Draw) (order : ℕ) (heard : Option Heard) → s.core.lock ≡ Coordinating tx (At.Split at child) order heard → (made : Group) → Decided_so tx (made, Was.Decided Is.Divided)
   split_at tx at child order heard lock made y e = decided_fits Is.Divided y (λ offer o frozen v. absurd (
       let open_it = mine_open sources.owner ring gs ys g s k fact tx (At.Split at child) order heard lock in
       let own = own_is sources.owner gs ys g s tx (At.Split at child) heard open_it.story open_it.deciding in
       no_offer offer (sym own.offer ∙ (ap (λ (x : Story). x.offer) (same_Some open_it.story y (sym open_it.deciding.there ∙ e)) ∙ o))))
 
-  released_at : (tx : Draw) (order : ℕ) (body : Body) (heard : Option Heard) → s.core.lock ≡ Coordinating tx body order heard → Decided_so tx (released body heard s tx)
-  released_at tx order At.Merge None lock = idle_at tx
-  released_at tx order At.Merge (Some h) lock =
-      cond_both (may_merge s h.frozen) (Some (merged_group s h.frozen, Is.Merged (merged_route s.core h.frozen))) None (λ (plan : Plan). Decided_so tx (committed plan s tx))
-      (λ _ y e. decided_fits (Is.Merged (merged_route s.core h.frozen)) y (λ offer o frozen v. merges (merged_route s.core h.frozen) offer frozen)) (λ _. idle_at tx)
-  released_at tx order (At.Repart at) heard lock = idle_at tx
-  released_at tx order (At.Migrate node) heard lock = idle_at tx
-  released_at tx order (At.Split at child) heard lock =
-      cond_both (can_split s.core at) (Some (left_group s at child, Is.Divided)) None (λ (plan : Plan). Decided_so tx (committed plan s tx))
-      (λ _. split_at tx at child order heard lock (decided_group (left_group s at child) tx Is.Divided)) (λ _. idle_at tx)
-
-  watched_at : (tx : Draw) (order : ℕ) (body : Body) (heard : Option Heard) (past : Past) → s.core.lock ≡ Coordinating tx body order heard → Decided_so tx (watch_answered past body heard s tx)
-  watched_at tx order body heard Cast.Yes lock = released_at tx order body heard lock
-  watched_at tx order body heard (Cast.No why) lock = abort_at tx
-  watched_at tx order body heard Cast.Ended lock = abort_at tx
-
-  watch_recorded_at : (tx : Draw) (past : Past) (l : Lock) → s.core.lock ≡ l → Decided_so tx (watch_recorded l s tx past)
-  watch_recorded_at tx past Free e = idle_at tx
-  watch_recorded_at tx past (Promised t offer) e = idle_at tx
-  watch_recorded_at tx past (Watching t watch) e = idle_at tx
-  watch_recorded_at tx past (Coordinating t body order heard) e =
-      cond_both (same_draw t tx) _ _ (Decided_so tx)
-      (λ q. cond_both (asks_watcher body heard) _ _ (Decided_so tx) (λ _. watched_at tx order body heard past (e ∙ ap (λ x. Coordinating x body order heard) (draw_is t tx q))) (λ _. idle_at tx))
-      (λ _. idle_at tx)
-
-  -- a No aborts
-  abbrev Denied : Draw → Vote → Group × Effect → Type 0
-  Denied tx vote r = (y : Story) → ys tx ≡ Some y → OutcomeFits (with_answer s.core vote r.1 y)
-
-  denied_at : (tx : Draw) (why : _) (by : ℕ) (l : Lock) → Denied tx (Vows.No why) (vote_recorded l s tx (Vows.No why) by)
-  denied_at tx why by Free = λ y e. old tx y e
-  denied_at tx why by (Promised t offer) = λ y e. old tx y e
-  denied_at tx why by (Watching t watch) = λ y e. old tx y e
-  denied_at tx why by (Coordinating t body order heard) =
-      cond_both (same_draw t tx) _ _ (Denied tx (Vows.No why))
-      (λ q. cond_both (asks_watcher body heard) _ _ (Denied tx (Vows.No why)) (λ _ y e. old tx y e) (λ _ y e. decided_fits Is.Abort y (λ offer o frozen v. aborts offer frozen))) (λ _ y e. old tx y e)
+  watch_walk : (tx : Draw) (past : Past) → WatchWalk s tx past (Decided_so tx)
+  watch_walk tx past = record {
+    quiet = λ y e. old tx y e;
+    aborts = λ body order got lock no. abort_at tx;
+    divides = λ at child order got lock votes can. split_at tx at child order got lock (left_group s at child);
+    merges = λ order heard lock votes may. merge_at tx (merged_route s.core heard.frozen) (merged_group s heard.frozen);
+  }
 
   -- ---- each entry
 
   pub entry_fits : (c : Command) → IsAllowed sources ys g c → AllFit (stories_after s c (applied s c).1 ys)
-  entry_fits Noop a = old
-  entry_fits (Call client seq op) a = old
-  entry_fits (Join node order) a = old
-  entry_fits (Leave node order) a = old
-  entry_fits (Finish tx outcome) a = old
   entry_fits (Split at child order) a =
       cond_both (is_changed (applied s (Split at child order)).1 && not (is_alone s.core)) (put ys child (Some (new_story s (At.Split at child)))) ys AllFit (λ _. new_put ys child s (At.Split at child) old) (λ _. old)
   entry_fits (Begin tx body order) a = cond_both (is_changed (applied s (Begin tx body order)).1) (put ys tx (Some (new_story s body))) ys AllFit (λ _. new_put ys tx s body old) (λ _. old)
   entry_fits (Prepared tx offer) a = prepared_fits tx offer a
   entry_fits (Watched tx watch) a = with_story_so (λ t y. OutcomeFits y) ys tx _ (λ y e. watched_fits (watch_vote_in (applied s (Watched tx watch)).1) y (old tx y e)) old
-  entry_fits (RecordVote tx (Vows.Yes f) by) a = with_story_so (λ t y. OutcomeFits y) ys tx (with_answer s.core (Vows.Yes f) (applied s (RecordVote tx (Vows.Yes f) by)).1) (recorded_so tx f a by s.core.lock refl) old
-  entry_fits (RecordVote tx (Vows.No why) by) a = with_story_so (λ t y. OutcomeFits y) ys tx (with_answer s.core (Vows.No why) (applied s (RecordVote tx (Vows.No why) by)).1) (denied_at tx why by s.core.lock) old
-  entry_fits (RecordWatch tx vote by) a = with_story_so (λ t y. OutcomeFits y) ys tx (with_decision (decided_in (applied s (RecordWatch tx vote by)).1)) (watch_recorded_at tx vote s.core.lock refl) old
+  entry_fits (RecordVote tx vote by) a = with_story_so (λ t y. OutcomeFits y) ys tx (with_answer s.core vote (applied s (RecordVote tx vote by)).1) (vote_step s tx vote by (Answered tx vote) (vote_walk tx vote by a)) old
+  entry_fits (RecordWatch tx vote by) a = with_story_so (λ t y. OutcomeFits y) ys tx (with_decision (decided_in (applied s (RecordWatch tx vote by)).1)) (watch_step s tx vote (Decided_so tx) (watch_walk tx vote)) old
   entry_fits (GiveUp tx) a = with_story_so (λ t y. OutcomeFits y) ys tx (with_decision (decided_in (applied s (GiveUp tx)).1))
-      (cond_both (Rattle.sc_group_table.specs.machine.Transactions.is_coordinating s.core.lock tx) _ _ (Decided_so tx) (λ _. abort_at tx) (λ _. idle_at tx)) old
+      (cond_both (Rattle.sc_group_table.specs.machine.Transactions.is_coordinating s.core.lock tx) _ _ (Decided_so tx) (λ _. abort_at tx) (λ _ y e. old tx y e)) old
+  entry_fits _ a = old
 
 -- ---- all entries
 

@@ -1,5 +1,5 @@
 -- What a replica has in flight and ready stays from its next slot on by the parts of its rows.
-use Rattle.std.proofs.Common.{◌≡◌, ℕ, ◌+◌, ◌-◌, ◌^◌, ◌≤◌, ◌&&◌, nat_le, eqb, Bool, true, false, true≢false, cond, List, [], ◌∷◌, ◌++◌, length, Option, Some, None, refl, sym, ◌∙◌, ap, subst, arith}
+use Rattle.std.proofs.Common.{◌≡◌, ℕ, ◌+◌, ◌-◌, ◌^◌, ◌≤◌, ◌&&◌, nat_le, eqb, Bool, true, false, true≢false, cond, List, [], ◌∷◌, length, Option, Some, None, refl, sym, ◌∙◌, ap, subst, arith}
 use Rattle.std.specs.Prelude.{is_some}
 use Rattle.std.specs.List.{list_any}
 use Rattle.std.proofs.lemmas.Bool.{cond_both, and_parts}
@@ -9,7 +9,7 @@ use Rattle.sc_base.specs.Definitions.{is_member, least_of}
 use Rattle.sc_group_table.specs.machine.MachineDefinitions.{applied}
 use Rattle.sc_words.specs.declared.paxos.answers.Must.TheVariants.{Value, Free as Open}
 use Rattle.sc_words.specs.paxos.PaxosDefinitions.{below, must, flight_at, new_leader, without_flight}
-use Rattle.sc_node_table.specs.NodeDefinitions.{has_act, with_act, act_queued, elected, ended, stopped, saw, entered, answer_of, answered_or_put_back, order_result, effect_reported, announced, learnt_to, welcomed, landed, left_gone, left, is_among, looked_for, looked, executed_one, has_room, next_ready, next_child, ending, executed_ready, all_ready, executed, install_to, asked_to_promise, welcomed_all, Found, is_act, from_backlog, from_acts, from_queues, found_by, found_for, offered, pumped_from, pumped, put_back, ReplicaState, Place, Executed, childless, flying, next, members, settled, may_offer, first_set, taken_at, under_way, is_idle, last_slot, forgotten, at_slot, without_slot, before_of, spoken}
+use Rattle.sc_node_table.specs.NodeDefinitions.{elected, ended, stopped, saw, entered, answer_of, answered_or_put_back, order_result, effect_reported, announced, learnt_to, welcomed, landed, left_gone, left, is_among, looked_for, looked, executed_one, has_room, next_ready, next_child, ending, executed_ready, all_ready, executed, install_to, asked_to_promise, welcomed_all, Found, is_act, from_backlog, from_acts, from_queues, found_by, found_for, offered, pumped_from, pumped, put_back, ReplicaState, Place, Executed, childless, flying, next, members, settled, may_offer, first_set, taken_at, under_way, is_idle, last_slot, forgotten, at_slot, without_slot, before_of, spoken}
 use Rattle.sc_node_table.specs.declared.Before.{Before}
 use Rattle.sc_law_walks.proofs.WalkLemmas.{entered_next, welcomed_place, landed_place, either_way}
 use Rattle.sc_live_journals.specs.groups.GroupDefinitions.{HasFrom, IsSlotKept}
@@ -260,10 +260,6 @@ unfolding executed
 executed_well counted command place k = (let after : Place = executed_one counted command place in pumps (all_ready after).0 (ready_well after.0.ready after (one_well counted command place k) (omega arith)))
 
 -- ---- parts of rows
-
-pub acts_kept : (act : Command) (place : Place) → K place → K (act_queued act place)
-unfolding act_queued
-acts_kept act (r, mails) k = pumps (with_act act r, mails) (either_way (λ (x : ReplicaState). IsSlotKept x) (has_act act r) r (record r { acts = r.acts ++ act ∷ [] }) k k)
 
 pub ends : (hint : Option ℕ) (answer : AnswerBody) (place : Place) → K place → K (ended hint answer place)
 ends hint answer place k = from_parts (next place.0) (ended hint answer place) (ended_well (next place.0) (next place.0) true hint answer place (to_parts place k))

@@ -2,7 +2,7 @@
 use Rattle.std.proofs.Common.{◌≡◌, ℕ, ◌+◌, ◌≤◌, ◌-◌, ◌^◌, not, eqb, Bool, true, false, cond, List, [], ◌∷◌, ◌++◌, filter, Option, Some, None, refl, sym, ◌∙◌, ap, subst, arith}
 use Rattle.std.proofs.lemmas.Bool.{eq-eqb}
 use Rattle.sc_base.specs.Definitions.{client_actor, is_member, least_of}
-use Rattle.sc_node_table.specs.Values.{Draw, Command, Noop, Call, Join, Leave, Split, Begin, Prepared, RecordVote, GiveUp, Finish, Watched, RecordWatch, Effect, Route, OrderResult, AnswerBody, Mail, MailBody, Answer, Prepare, Learn, Told}
+use Rattle.sc_node_table.specs.Values.{Draw, Command, Call, Effect, Route, OrderResult, AnswerBody, Mail, MailBody, Answer, Prepare, Learn, Told}
 use Rattle.sc_mail.specs.declared.bodies.AnswerBody.TheVariants as Says
 use Rattle.sc_group_table.specs.machine.MachineDefinitions.{Group, applied}
 use Rattle.sc_node_table.specs.NodeDefinitions.{elected, ended, stopped, open_nodes, entered, answer_of, answered_or_put_back, order_result, effect_reported, announced, learnt_to, welcomed, slot_lost, landed, left_gone, left, is_among, looked_for, looked, executed_one, executed, install_to, asked_to_promise, welcomed_all, sent, sent_all, sent_others, answered, answered_all, dismissed, dismissed_all, order_reported, result_sent, order_number, pumped, ReplicaState, Place, Executed, name_of, next, members, flying, under_way, forgotten, without_slot, before_of, begun_result, result_reported, begun_reported, went_on, spoken_mails, spoken}
@@ -67,18 +67,8 @@ module _ (name : Draw) where
 -- a command that is a work is no call: no client gets an answer for it
 not_call : (o : Option AnswerBody) (command : Command) (work : Work) (place : Place) → work_by command ≡ Some work → answered_or_put_back o command place ≡ place
 unfolding answered_or_put_back
-not_call o Noop work place e = cc
 not_call o (Call client seq op) work place e = cc
-not_call (Some answer) (Join node order) work place e = refl
-not_call (Some answer) (Leave node order) work place e = refl
-not_call (Some answer) (Split at child order) work place e = refl
-not_call (Some answer) (Begin tx body order) work place e = refl
-not_call (Some answer) (Prepared tx offer) work place e = refl
-not_call (Some answer) (RecordVote tx vote by) work place e = refl
-not_call (Some answer) (GiveUp tx) work place e = refl
-not_call (Some answer) (Finish tx outcome) work place e = refl
-not_call (Some answer) (Watched tx watch) work place e = refl
-not_call (Some answer) (RecordWatch tx vote by) work place e = refl
+not_call (Some answer) _ work place e = refl
 not_call None _ work place e = refl
 
 -- ---- the parts of an execution
