@@ -245,6 +245,8 @@ module _ (client seq : ℕ) where
   back_held (Split at child order) r low (Queued c a ours) = Queued c (inr a) ours
   back_held (Begin tx body order) r low (Queued c a ours) = Queued c (inr a) ours
   back_held _ r low (Queued c a ours) = Queued c a ours
+  back_held Noop r low (Flying flight a ours) = Flying flight a ours
+  back_held Noop r low (Ready entry a ours) = Ready entry a ours
   back_held _ r low (Flying flight a ours) = Flying flight a ours
   back_held _ r low (Ready entry a ours) = Ready entry a ours
 
