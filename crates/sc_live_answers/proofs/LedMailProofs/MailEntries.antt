@@ -6,8 +6,9 @@ use Rattle.sc_group_table.specs.machine.MachineDefinitions.{child_by, Group, sta
 use Rattle.sc_words.specs.paxos.PaxosDefinitions.{LeaderState, without_flight_at, counted, AcceptorState}
 use Rattle.sc_node_table.specs.NodeDefinitions.{elected, ended, entered, announced, learnt_to, welcomed, landed, left, looked, executed_one, child_at, next_child, has_room, next_ready, ending, executed_ready, executed, sent, pumped, ReplicaState, Place, Executed, childless, name_of, next, members, flying, set_at, last_slot, forgotten, learn_row, mailed, with_slot, without_slot, before_of, spoken, leads, readied, vote_tallied, voted, accepted_row}
 use Rattle.sc_law_walks.proofs.WalkLemmas.{entered_ready, entered_next, either_way, grows}
+use Rattle.sc_live_steps.proofs.ExecutionParts.{entry_reported, slot_lost_kept, leaving_kept, looking_kept}
 use Rattle.sc_live_journals.proofs.RowsProofs.StillReplicas as beside
-use Rattle.sc_live_answers.proofs.ReplicasProofs.Parts.{pumps, tells, loses, leaves, looks, prepare_rests, accept_rests, promise_rests, nack_rests, ask_rests}
+use Rattle.sc_live_answers.proofs.ReplicasProofs.Parts.{pumps, prepare_rests, accept_rests, promise_rests, nack_rests, ask_rests}
 
 -- the children that some entries make at a node, from the group before them
 abbrev pub kids_of : ℕ → Group → List Command → List Base
@@ -30,7 +31,7 @@ landed_is : (c : Bool) (slot : ℕ) (command : Command) (g : Group) (me n : ℕ)
     → At g me n (landed c slot command place).0 × ((landed c slot command place).0.ready ≡ without_slot rs slot)
 unfolding landed
 landed_is c slot command g me n rs (r, mails) k =
-    loses (λ x. At g me n x × (x.ready ≡ without_slot rs slot)) (λ x acts backlog q. q) c command (flying r slot) (record r { leader = without_flight_at slot r.leader; ready = without_slot r.ready slot })
+    slot_lost_kept (λ x. At g me n x × (x.ready ≡ without_slot rs slot)) (λ x acts backlog q. q) c command (flying r slot) (record r { leader = without_flight_at slot r.leader; ready = without_slot r.ready slot })
     (k.0, ap (λ (es : List (ℕ × Command)). without_slot es slot) k.1)
 
 -- it then leads on, or nothing is ready any more
@@ -47,7 +48,7 @@ module _ (g : Group) (me n : ℕ) (rs : List (ℕ × Command)) where
   elected_left (r, mails) k = either_way Left (eqb r.top.round (2 ^ 32 - 1)) _ _ k (k.0, inr refl)
 
   goes_left : (place : Place) → Left place → Left (looked (left place))
-  goes_left place k = looks Left ended_left elected_left (λ hint r mails q. q) (left place) (leaves Left ended_left elected_left (λ hint r mails q. q) place k)
+  goes_left place k = looking_kept Left elected_left (λ hint r mails q. q) (left place) (leaving_kept Left ended_left place k)
 
 entered_at : (command : Command) (r : ReplicaState) → At (applied r.group command).0 r.me (next r + 1) (entered command r)
 unfolding entered forgotten
@@ -62,7 +63,7 @@ one_is c command r mails =
     let place0 : Place = (entered command r, mails) in
     let told : Place = welcomed c (members r) (learnt_to c (members r) (next r) command (spoken c (before_of r.group.core) effect command (announced c effect command place0))) in
     let k : At g r.me n told.0 × (told.0.ready ≡ r.ready) =
-    tells (λ x. At g r.me n x × (x.ready ≡ r.ready)) (λ x acts backlog q. q) c (before_of r.group.core) effect (members r) (next r) command place0 (entered_at command r, entered_ready command r) in
+    entry_reported (λ x. At g r.me n x × (x.ready ≡ r.ready)) (λ x acts backlog q. q) c (before_of r.group.core) effect (members r) (next r) command place0 (entered_at command r, entered_ready command r) in
     let after = landed_is c (next r) command g r.me n r.ready told k in
     let all = goes_left g r.me n (without_slot r.ready (next r)) (landed c (next r) command told) (after.0, inl after.1) in
     record { fact = all.0; ready = all.1 }

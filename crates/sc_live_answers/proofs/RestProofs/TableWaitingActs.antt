@@ -1,16 +1,17 @@
 -- After each row of a replica's table no act waits where nothing is in flight: the row ends with the pump, or leaves what the replica leads with and what waits, or nothing waits.
 use Rattle.std.proofs.Common.{◌≡◌, ℕ, ◌≤◌, ◌&&◌, ◌||◌, not, nat_le, nat_lt, eqb, refl, Bool, true, false, true≢false, cond, List, [], ◌∷◌, length, Option, Some, None, sym, ◌∙◌, ap, subst}
 use Rattle.std.proofs.lemmas.Bool.{and_parts, and_from}
-use Rattle.sc_base.specs.Definitions.{Drawer, is_majority, is_member, least_of, same_ballot}
-use Rattle.sc_node_table.specs.Values.{Ballot, Draw, Command, Base, Route, OrderLine, AnswerBody, Mail, MailBody, Prepare, Promise, Accept, Accepted, Nack, Learn, Ask, Install, Counted, Chosen, NotYet, Flight, Report}
+use Rattle.sc_base.specs.Definitions.{Drawer, is_majority, is_member, same_ballot}
+use Rattle.sc_node_table.specs.Values.{Ballot, Draw, Command, Base, OrderLine, AnswerBody, Mail, MailBody, Prepare, Promise, Accept, Accepted, Nack, Learn, Ask, Install, Counted, Chosen, NotYet, Flight, Report}
 use Rattle.sc_words.specs.declared.paxos.answers.AcceptAnswer.TheVariants as Asked
 use Rattle.sc_words.specs.declared.paxos.answers.PrepareAnswer.TheVariants as Prepared
 use Rattle.sc_words.specs.paxos.PaxosDefinitions.{accepted as accepted_by, AcceptorState, may_promise, after_promise, after_accept, reports_from, below, IsAtLeast, LeaderState, flight_at, promise_counted, without_flight_at, prepared, counted, kept_voters, voters_after, with_voters, vote_at}
 use Rattle.sc_words.proofs.PaxosProofs.PaxosLemmas.{at_least_from_below, at_least_trans}
-use Rattle.sc_node_table.specs.NodeDefinitions.{elected, ended, stopped, saw, all_ready, executed, executed_one, has_room, is_among, looked, looked_for, install_to, named, jumped, sent, ordered_row, pumped, ReplicaState, Place, Executed, childless, first_set, forgotten, installed_replica, last_slot, may_offer, members, name_of, next, set_at, settled, learn_row, ask_row, looked_up, took_over, install_row, made_by, mailed, with_slot, hinted, promise_to, prepare_row, accepted_to, took, accept_row, leads, promise_row, readied, vote_tallied, voted, accepted_row, nack_row}
+use Rattle.sc_node_table.specs.NodeDefinitions.{elected, ended, stopped, saw, all_ready, executed, executed_one, has_room, looked, install_to, named, jumped, sent, ordered_row, pumped, ReplicaState, Place, Executed, childless, first_set, forgotten, installed_replica, last_slot, may_offer, members, name_of, next, set_at, settled, learn_row, ask_row, looked_up, took_over, install_row, made_by, mailed, with_slot, hinted, promise_to, prepare_row, accepted_to, took, accept_row, leads, promise_row, readied, vote_tallied, voted, accepted_row, nack_row}
 use Rattle.sc_law_walks.proofs.WalkLemmas.{promised_place, asked_place, either_way, Talk, grows}
 use Rattle.sc_live_steps.specs.pump.Waiting.{HasNoneWaiting, PumpsLeaveNone}
 use Rattle.sc_live_steps.proofs.CalmStepsProofs.PumpInvariants.{pump_kept}
+use Rattle.sc_live_steps.proofs.ExecutionParts.{looking_kept}
 use Rattle.sc_live_journals.proofs.RowsProofs.StillReplicas as beside
 
 -- ---- what leaves a replica so
@@ -193,14 +194,7 @@ module _ (pump_law : PumpsLeaveNone) where
   elected_acts r mails = either_way (λ (p : Place). p.0.acts ≡ r.acts) (eqb r.top.round _) (r, mails) _ refl refl
 
   looked_acts : (place : Place) → (looked place).0.acts ≡ place.0.acts
-  unfolding looked
-  looked_acts (r, mails) = either_way (λ (p : Place). p.0.acts ≡ r.acts) r.running (r, mails) (looked_for r.group.core.gone (r, mails)) refl (looks r.group.core.gone)
-    where
-      looks : (o : Option Route) → (looked_for o (r, mails)).0.acts ≡ r.acts
-      looks (Some into) = refl
-      looks None =
-          either_way (λ (p : Place). p.0.acts ≡ r.acts) (is_among (members r) r.hint) (r, mails) _ refl
-          (either_way (λ (p : Place). p.0.acts ≡ r.acts) (eqb (least_of (members r)) r.me) _ (record r { hint = Some (least_of (members r)) }, mails) (elected_acts (record r { hint = Some r.me }) mails) refl)
+  looked_acts place = looking_kept (λ (p : Place). p.0.acts ≡ place.0.acts) (λ p k. elected_acts p.0 p.1 ∙ k) (λ hint r mails k. k) place refl
 
   looked_up_acts : (from : ℕ) (place : Place) → (looked_up from place).0.acts ≡ place.0.acts
   unfolding looked_up
