@@ -11,6 +11,7 @@ pub mod ChildReplicas
 pub mod Lineage
 pub mod YoungGroupRows
 pub mod UnknownChildren
+pub mod ChildDivisions
 pub mod KnownChildren
 pub mod YoungMembers
 pub mod ChildrenInLogs

@@ -67,15 +67,7 @@ module _ (words : ℕ → ℕ → ℕ × ℕ) (scenario : Scenario) (journal : R
 
       one : (line : SchedLine) → IsBoundedLine scenario.nodes scenario.clients line → Spares {O = OrderLine} (client_actor asks.client) (line_of line)
       one (Crash node) b = (let high = b.1 in let most = bounded.nodes.1 in let up = least in ne_eqb node (client_actor asks.client) (λ e. absurd (omega (arith, high, most, up, e))))
-      one (Go client) b = tt
-      one (Deliver who k) b = tt
-      one (Drop who k) b = tt
-      one (Again mail) b = tt
-      one (Tick who) b = tt
-      one (Told node order) b = tt
-      one (Settle most) b = tt
-      one (Free most workers) b = tt
-      one (Storm number most) b = tt
+      one _ b = tt
 
       by : (lines : List SchedLine) → Each (IsBoundedLine scenario.nodes scenario.clients) lines → Each (Spares {O = OrderLine} (client_actor asks.client)) (map line_of lines)
       by [] b = tt

@@ -81,15 +81,7 @@ pub record HasCrash (node : ℕ) (lines : List SchedLine) : Type 0 where
 
 crash_is : (node : ℕ) (line : SchedLine) → crashes node line ≡ true → line ≡ Crash node
 crash_is node (Crash other) e = ap Crash (eqb-true other node e)
-crash_is node (Go client) e = absurd (true≢false (sym e))
-crash_is node (Deliver who k) e = absurd (true≢false (sym e))
-crash_is node (Drop who k) e = absurd (true≢false (sym e))
-crash_is node (Again mail) e = absurd (true≢false (sym e))
-crash_is node (Tick who) e = absurd (true≢false (sym e))
-crash_is node (Told other order) e = absurd (true≢false (sym e))
-crash_is node (Settle most) e = absurd (true≢false (sym e))
-crash_is node (Free most workers) e = absurd (true≢false (sym e))
-crash_is node (Storm number most) e = absurd (true≢false (sym e))
+crash_is node _ e = absurd (true≢false (sym e))
 
 pub has_crash : (node : ℕ) (lines : List SchedLine) → list_any (crashes node) lines ≡ true → HasCrash node lines
 has_crash node [] e = absurd (true≢false (sym e))

@@ -1,6 +1,7 @@
 -- A node keeps its replicas of groups that are not reshaped, and sends mail of these groups alone, in each of its steps but orders, where it has no policy.
 use Rattle.std.proofs.Common.{◌≡◌, ℕ, Bool, true, false, List, [], ◌∷◌, ◌++◌, Option, Some, None, refl, sym, ◌∙◌, ap, subst, inl, inr, append-nil}
 use Rattle.std.proofs.lemmas.Bool.{cond_both, cond-true, cond-false, cases_Bool}
+use Rattle.std.proofs.lemmas.Option.{none-some, same_Some}
 use Rattle.sc_base.specs.Definitions.{Among, Each, Drawer, same_draw, is_member, least_of}
 use Rattle.sc_base.proofs.Lemmas.{draw_is}
 use Rattle.sc_words.proofs.PaxosProofs.PaxosLemmas.{Each-among, Each-append, Each-weaker, find_found}
@@ -54,6 +55,20 @@ put_has name group new (r ∷ replicas) same h =
     (λ t. has_for name new r replicas replicas (same ∙ sym (draw_is (name_of r) group t)) (λ q. q) h)
     (λ _. has_for name r r replicas (with_replica group new replicas) refl (λ q. put_has name group new replicas same q) h)
 
+-- a mail of a group that is not reshaped names the group and goes to a member
+pub names_group : (base : Base) (from to : ℕ) (group : Draw) (body : MailBody) → group_of_mail body ≡ Some group → IsFixedBody base from to body → (base.core.id ≡ group) × IsMember base to
+names_group base from to group (Request of client seq op) e h = (sym h.0 ∙ same_Some of group e, h.1)
+names_group base from to group (Prepare of ballot from_slot) e h = (sym h.0 ∙ same_Some of group e, h.1.1)
+names_group base from to group (Promise of ballot reports) e h = (sym h.0 ∙ same_Some of group e, h.1.1)
+names_group base from to group (Accept of ballot slot command) e h = (sym h.0 ∙ same_Some of group e, h.1.1)
+names_group base from to group (Accepted of ballot slot) e h = (sym h.0 ∙ same_Some of group e, h.1.1)
+names_group base from to group (Nack of promised) e h = (sym h.0 ∙ same_Some of group e, h.1.1)
+names_group base from to group (Learn of slot command) e h = (sym h.0 ∙ same_Some of group e, h.1.1)
+names_group base from to group (Ask of from_slot) e h = (sym h.0 ∙ same_Some of group e, h.1.1)
+names_group base from to group (Install of slot sent sets) e h = (sym h.0 ∙ same_Some of group e, h.1.1)
+names_group base from to group (Answer of seq answer) e h = absurd (none-some group e)
+names_group base from to group _ e h = absurd h
+
 module _ (bases : List Base) (fresh : AreFresh bases) (me : ℕ) where
   -- a replica of one of these groups
   abbrev pub IsOne : ReplicaState → Type 0
@@ -77,43 +92,11 @@ module _ (bases : List Base) (fresh : AreFresh bases) (me : ℕ) where
 
   -- the mail of a group names it
   pub group_is : (base : Base) (from to : ℕ) (group : Draw) (body : MailBody) → group_of_mail body ≡ Some group → IsFixedBody base from to body → base.core.id ≡ group
-  group_is base from to group (Request of client seq op) e h = (let same : of ≡ group = cc in sym h.0 ∙ same)
-  group_is base from to group (Prepare of ballot from_slot) e h = (let same : of ≡ group = cc in sym h.0 ∙ same)
-  group_is base from to group (Promise of ballot reports) e h = (let same : of ≡ group = cc in sym h.0 ∙ same)
-  group_is base from to group (Accept of ballot slot command) e h = (let same : of ≡ group = cc in sym h.0 ∙ same)
-  group_is base from to group (Accepted of ballot slot) e h = (let same : of ≡ group = cc in sym h.0 ∙ same)
-  group_is base from to group (Nack of promised) e h = (let same : of ≡ group = cc in sym h.0 ∙ same)
-  group_is base from to group (Learn of slot command) e h = (let same : of ≡ group = cc in sym h.0 ∙ same)
-  group_is base from to group (Ask of from_slot) e h = (let same : of ≡ group = cc in sym h.0 ∙ same)
-  group_is base from to group (Install of slot sent sets) e h = (let same : of ≡ group = cc in sym h.0 ∙ same)
-  group_is base from to group (Answer of seq answer) e h = absurd (cc)
-  group_is base from to group (TxPrepare tx offer) e h = absurd h
-  group_is base from to group (TxVote tx coord part vote) e h = absurd h
-  group_is base from to group (TxOutcome tx part outcome) e h = absurd h
-  group_is base from to group (TxElsewhere tx coord hint) e h = absurd h
-  group_is base from to group (TxWatch tx watch) e h = absurd h
-  group_is base from to group (TxWatched tx coord part vote) e h = absurd h
-  group_is base from to group (Told order result) e h = absurd h
+  group_is base from to group body e h = (names_group base from to group body e h).0
 
   -- and it goes to a member
   pub to_member : (base : Base) (from to : ℕ) (group : Draw) (body : MailBody) → group_of_mail body ≡ Some group → IsFixedBody base from to body → IsMember base to
-  to_member base from to group (Request of client seq op) e h = h.1
-  to_member base from to group (Prepare of ballot from_slot) e h = h.1.1
-  to_member base from to group (Promise of ballot reports) e h = h.1.1
-  to_member base from to group (Accept of ballot slot command) e h = h.1.1
-  to_member base from to group (Accepted of ballot slot) e h = h.1.1
-  to_member base from to group (Nack of promised) e h = h.1.1
-  to_member base from to group (Learn of slot command) e h = h.1.1
-  to_member base from to group (Ask of from_slot) e h = h.1.1
-  to_member base from to group (Install of slot sent sets) e h = h.1.1
-  to_member base from to group (Answer of seq answer) e h = absurd (cc)
-  to_member base from to group (TxPrepare tx offer) e h = absurd h
-  to_member base from to group (TxVote tx coord part vote) e h = absurd h
-  to_member base from to group (TxOutcome tx part outcome) e h = absurd h
-  to_member base from to group (TxElsewhere tx coord hint) e h = absurd h
-  to_member base from to group (TxWatch tx watch) e h = absurd h
-  to_member base from to group (TxWatched tx coord part vote) e h = absurd h
-  to_member base from to group (Told order result) e h = absurd h
+  to_member base from to group body e h = (names_group base from to group body e h).1
 
   -- the name of a replica of one of these groups
   pub name_one : (r : ReplicaState) (k : IsOne r) → name_of r ≡ k.0.core.id

@@ -49,16 +49,10 @@ module _ {A M O : Type 0} (s : System A M O) (h : Harm O) where
   storm_tasks words step (suc most) = (tt, storm_tasks words (suc step) most)
 
   line_tasks : (line : Line O) → IsHarmless h line → Harmless (tasks_of s.words line)
-  line_tasks (Settle most) p = (tt, tt)
-  line_tasks (Free most workers) p = (tt, tt)
   line_tasks (Storm number most) p = storm_tasks (s.words number) 0 most
-  line_tasks (GoLine who) p = (tt, tt)
-  line_tasks (DeliverLine who k) p = (tt, tt)
-  line_tasks (DropLine who k) p = (tt, tt)
-  line_tasks (AgainLine mail) p = (tt, tt)
-  line_tasks (TickLine who) p = (tt, tt)
   line_tasks (CrashLine who) p = (p, tt)
   line_tasks (ToldLine who order) p = (p, tt)
+  line_tasks _ p = (tt, tt)
 
   lines_tasks : (lines : List (Line O)) → Each (IsHarmless h) lines → Harmless (flat_map (tasks_of s.words) lines)
   lines_tasks [] p = tt

@@ -75,15 +75,7 @@ or_none true b e = absurd (cc)
 
 line_untold : (line : SchedLine) → is_order line ≡ false → IsWithoutOrders (line_of line)
 line_untold (Told node order) e = absurd (cc)
-line_untold (Go client) e = refl
-line_untold (Deliver who k) e = refl
-line_untold (Drop who k) e = refl
-line_untold (Again mail) e = refl
-line_untold (Tick who) e = refl
-line_untold (Crash node) e = refl
-line_untold (Settle most) e = refl
-line_untold (Free most workers) e = refl
-line_untold (Storm number most) e = refl
+line_untold _ e = refl
 
 lines_untold : (lines : List SchedLine) → list_any is_order lines ≡ false → Each IsWithoutOrders (map line_of lines)
 lines_untold [] e = tt
@@ -107,15 +99,7 @@ healed_untold scenario h =
 
 line_spares : (who : ℕ) (line : SchedLine) → crashes who line ≡ false → Spares who (line_of line)
 line_spares who (Crash node) e = e
-line_spares who (Told node order) e = tt
-line_spares who (Go client) e = tt
-line_spares who (Deliver other k) e = tt
-line_spares who (Drop other k) e = tt
-line_spares who (Again mail) e = tt
-line_spares who (Tick other) e = tt
-line_spares who (Settle most) e = tt
-line_spares who (Free most workers) e = tt
-line_spares who (Storm number most) e = tt
+line_spares who _ e = tt
 
 pub lines_spare : (who : ℕ) (lines : List SchedLine) → list_any (crashes who) lines ≡ false → Each (Spares who) (map line_of lines)
 lines_spare who [] e = tt

@@ -9,7 +9,7 @@ use Rattle.sc_node_table.specs.NodeDefinitions.{NodeState, ReplicaState, Execute
 use Rattle.sc_live_steps.proofs.CalmStepsProofs.CalmStepLemmas.{put_found, put_others}
 use Rattle.sc_live_healed.proofs.FixedWalks.{IsFresh, IsMember, IsSaid, IsFixedPlace}
 use Rattle.sc_live_healed.proofs.FixedPlaces.{mailed_fixed}
-use Rattle.sc_live_healed.proofs.FixedNodes.{AreFresh, IsOne, into, group_is, to_member, name_one}
+use Rattle.sc_live_healed.proofs.FixedNodes.{AreFresh, IsOne, names_group, into, group_is, to_member, name_one}
 use Rattle.sc_live_healed.specs.HealedDefinitions.{IsFixedBody, IsFixedMail, IsFixedNode}
 
 -- a mail of a group that is not reshaped may come
@@ -24,36 +24,11 @@ comes bases fresh base a from to (Nack group promised) h = fresh.within base a f
 comes bases fresh base a from to (Learn group slot command) h = fresh.within base a from h.1.0
 comes bases fresh base a from to (Ask group from_slot) h = fresh.within base a from h.1.0
 comes bases fresh base a from to (Install group slot state sets) h = fresh.within base a from h.1.0
-comes bases fresh base a from to (TxPrepare tx offer) h = absurd h
-comes bases fresh base a from to (TxVote tx coord part vote) h = absurd h
-comes bases fresh base a from to (TxOutcome tx part outcome) h = absurd h
-comes bases fresh base a from to (TxElsewhere tx coord hint) h = absurd h
-comes bases fresh base a from to (TxWatch tx watch) h = absurd h
-comes bases fresh base a from to (TxWatched tx coord part vote) h = absurd h
-comes bases fresh base a from to (Told order result) h = absurd h
+comes bases fresh base a from to _ h = absurd h
 
 -- what a member sends of its group is of no other
 pub said_of : (base : Base) (me : ℕ) (mail : Mail) (name : Draw) → (base.core.id ≡ name → ⊥) → IsSaid base me mail → group_of_mail mail.body ≡ Some name → ⊥
-said_of base me mail name other s e = by mail.body s.1 e
-  where
-    by : (body : MailBody) → IsFixedBody base me mail.to body → group_of_mail body ≡ Some name → ⊥
-    by (Request of client seq op) h g = other (sym h.0 ∙ (let same : of ≡ name = cc in same))
-    by (Prepare of ballot from_slot) h g = other (sym h.0 ∙ (let same : of ≡ name = cc in same))
-    by (Promise of ballot reports) h g = other (sym h.0 ∙ (let same : of ≡ name = cc in same))
-    by (Accept of ballot slot command) h g = other (sym h.0 ∙ (let same : of ≡ name = cc in same))
-    by (Accepted of ballot slot) h g = other (sym h.0 ∙ (let same : of ≡ name = cc in same))
-    by (Nack of promised) h g = other (sym h.0 ∙ (let same : of ≡ name = cc in same))
-    by (Learn of slot command) h g = other (sym h.0 ∙ (let same : of ≡ name = cc in same))
-    by (Ask of from_slot) h g = other (sym h.0 ∙ (let same : of ≡ name = cc in same))
-    by (Install of slot state sets) h g = other (sym h.0 ∙ (let same : of ≡ name = cc in same))
-    by (Answer of seq answer) h g = absurd (cc)
-    by (TxPrepare tx offer) h g = absurd h
-    by (TxVote tx coord part vote) h g = absurd h
-    by (TxOutcome tx part outcome) h g = absurd h
-    by (TxElsewhere tx coord hint) h g = absurd h
-    by (TxWatch tx watch) h g = absurd h
-    by (TxWatched tx coord part vote) h g = absurd h
-    by (Told order result) h g = absurd h
+said_of base me mail name other s e = other (names_group base me mail.to name mail.body e s.1).0
 
 module _ (bases : List Base) (fresh : AreFresh bases) (base : Base) (among : Among base bases) (node : NodeState) (k : IsFixedNode bases node) where
   -- The replica of the group takes the mail.

@@ -25,14 +25,7 @@ untold_harmless (line ∷ lines) u = (by line u.0, untold_harmless lines u.1)
     by : {O : Type 0} (x : Line O) → gives_order x ≡ false → IsHarmless orders x
     by (Crash who) e = refl
     by (Told who order) e = absurd (cc)
-    by (Go who) e = tt
-    by (Deliver who k) e = tt
-    by (Drop who k) e = tt
-    by (Again mail) e = tt
-    by (Tick who) e = tt
-    by (Settle most) e = tt
-    by (Free most workers) e = tt
-    by (Storm number most) e = tt
+    by _ e = tt
 
 pub rows_untold : {A M O : Type 0} (s : System A M O) (lines : List (Line O)) (journal : List (Row M O)) → Each IsWithoutOrders lines → IsLawful s lines journal → Each (λ (row : Row M O). is_told row.event ≡ false) journal
 unfolding orders

@@ -244,15 +244,7 @@ module _ (client seq : ℕ) where
   back_held (Leave node order) r low (Queued c a ours) = Queued c (inr a) ours
   back_held (Split at child order) r low (Queued c a ours) = Queued c (inr a) ours
   back_held (Begin tx body order) r low (Queued c a ours) = Queued c (inr a) ours
-  back_held Noop r low (Queued c a ours) = Queued c a ours
-  back_held (Prepared tx offer) r low (Queued c a ours) = Queued c a ours
-  back_held (RecordVote tx vote by) r low (Queued c a ours) = Queued c a ours
-  back_held (GiveUp tx) r low (Queued c a ours) = Queued c a ours
-  back_held (Finish tx outcome) r low (Queued c a ours) = Queued c a ours
-  back_held (Watched tx watch) r low (Queued c a ours) = Queued c a ours
-  back_held (RecordWatch tx vote by) r low (Queued c a ours) = Queued c a ours
-  back_held (Call who number op) r low (Flying flight a ours) = Flying flight a ours
-  back_held (Call who number op) r low (Ready entry a ours) = Ready entry a ours
+  back_held _ r low (Queued c a ours) = Queued c a ours
   back_held Noop r low (Flying flight a ours) = Flying flight a ours
   back_held Noop r low (Ready entry a ours) = Ready entry a ours
   back_held _ r low (Flying flight a ours) = Flying flight a ours

@@ -1,3 +1,4 @@
+pub mod ExecutionParts
 pub mod PumpProofs
 pub mod FollowingProofs
 pub mod OrderStepsProofs

@@ -28,15 +28,7 @@ pub orders_same : (lines : List SchedLine) → orders_given (map line_of lines) 
 orders_same [] = refl
 orders_same (Told node order ∷ lines) =
     one_more order_line (line.Told node order) (map line_of lines) refl ∙ ap (λ n. 1 + n) (orders_same lines) ∙ sym (one_more gives_order (Told node order) lines refl)
-orders_same (Go client ∷ lines) = orders_same lines
-orders_same (Deliver who k ∷ lines) = orders_same lines
-orders_same (Drop who k ∷ lines) = orders_same lines
-orders_same (Again mail ∷ lines) = orders_same lines
-orders_same (Tick who ∷ lines) = orders_same lines
-orders_same (Crash node ∷ lines) = orders_same lines
-orders_same (Settle most ∷ lines) = orders_same lines
-orders_same (Free most workers ∷ lines) = orders_same lines
-orders_same (Storm number most ∷ lines) = orders_same lines
+orders_same (_ ∷ lines) = orders_same lines
 
 -- a line with room for more has room for less
 room_for : (less more : ℕ) → less ≤ more → (line : Line OrderLine) → HasRoom more line → HasRoom less line

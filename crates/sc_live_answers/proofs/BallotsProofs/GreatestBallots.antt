@@ -3,11 +3,12 @@ use Rattle.std.proofs.Common.{◌≡◌, ℕ, ◌-◌, ◌^◌, ◌<◌, ◌≤�
 use Rattle.std.proofs.lemmas.Bool.{cond_both, and_parts, eqb-true, eq-eqb}
 use Rattle.sc_base.specs.Definitions.{Drawer, same_ballot, is_member, least_of}
 use Rattle.sc_node_table.specs.Values.{Ballot, Draw, Command, Base, Route, OrderLine, Mail, MailBody, Promise, Accepted, Learn, Install, Report}
-use Rattle.sc_node_table.specs.NodeDefinitions.{elected, stopped, entered, is_among, looked_for, looked, executed_one, executed_ready, executed, named, jumped, ordered_row, pumped, ReplicaState, Place, Executed, childless, next, members, set_at, last_slot, forgotten, first_ballot, installed_replica, looked_up, took_over, install_row, mailed, made_by, leads, promise_row, voted, accepted_row}
+use Rattle.sc_node_table.specs.NodeDefinitions.{elected, stopped, entered, is_among, looked, executed_one, executed_ready, executed, named, jumped, ordered_row, pumped, ReplicaState, Place, Executed, childless, next, members, set_at, last_slot, forgotten, first_ballot, installed_replica, looked_up, took_over, install_row, mailed, made_by, leads, promise_row, voted, accepted_row}
 use Rattle.sc_law_walks.proofs.WalkLemmas.{idle_ready, idle_pump, either_way}
 use Rattle.sc_law_walks.proofs.WalkLemmas.{grows}
 use Rattle.sc_live_journals.proofs.RowsProofs.StillReplicas as beside
 use Rattle.sc_live_steps.specs.following.FollowingDefinitions.{Stays, MayElect}
+use Rattle.sc_live_steps.proofs.ExecutionParts.{looking_kept}
 use Rattle.sc_live_steps.proofs.FollowingProofs.FollowingLemmas.{looked_same, place2, over, over_off, looks, told_is}
 
 -- ---- one that looks for a leader keeps what it saw, or runs then
@@ -15,19 +16,12 @@ use Rattle.sc_live_steps.proofs.FollowingProofs.FollowingLemmas.{looked_same, pl
 abbrev pub Keeps : Ballot → Place → Type 0
 Keeps top place = (place.0.running ≡ true) ⊎ (place.0.top ≡ top)
 
-elects_or : (r : ReplicaState) (mails : List Mail) → Keeps r.top (elected (r, mails))
+elects_or : (top : Ballot) (place : Place) → Keeps top place → Keeps top (elected place)
 unfolding elected
-elects_or r mails = either_way (Keeps r.top) (eqb r.top.round (2 ^ 32 - 1)) _ _ (inr refl) (inl refl)
-
-looks_for : (gone : Option Route) (r : ReplicaState) (mails : List Mail) → Keeps r.top (looked_for gone (r, mails))
-looks_for (Some into) r mails = inr refl
-looks_for None r mails =
-    either_way (Keeps r.top) (is_among (members r) r.hint) (r, mails) _ (inr refl)
-    (either_way (Keeps r.top) (eqb (least_of (members r)) r.me) (elected (record r { hint = Some r.me }, mails)) (record r { hint = Some (least_of (members r)) }, mails) (elects_or (record r { hint = Some r.me }) mails) (inr refl))
+elects_or top (r, mails) k = either_way (Keeps top) (eqb r.top.round (2 ^ 32 - 1)) _ _ k (inl refl)
 
 looks_or : (r : ReplicaState) (mails : List Mail) → Keeps r.top (looked (r, mails))
-unfolding looked
-looks_or r mails = either_way (Keeps r.top) r.running (r, mails) (looked_for r.group.core.gone (r, mails)) (inr refl) (looks_for r.group.core.gone r mails)
+looks_or r mails = looking_kept (Keeps r.top) (elects_or r.top) (λ hint s sent k. k) (r, mails) (inr refl)
 
 looks_up_or : (from : ℕ) (r : ReplicaState) (mails : List Mail) → Keeps r.top (looked_up from (r, mails))
 unfolding looked_up
@@ -72,10 +66,10 @@ module _ (r : ReplicaState) where
 
   -- what waits, and what it sends, is nothing to it
   pub order_idly : (drawer : Drawer) (line : OrderLine) → r.running ≡ false → Idly (ordered_row drawer line (r, []))
-  order_idly drawer line off = beside.order_keeps Idly (beside.still_pumps Idly (λ place k. k.0)) (λ q mails acts backlog k. k) (λ q. grows q.me (λ mails. Idly (q, mails)) (λ mails mail k. k)) drawer line (r, []) (off, refl)
+  order_idly drawer line off = beside.order_keeps Idly (beside.still_pumps Idly (λ place k. k.0) (λ q mails acts backlog k. k)) (λ q. grows q.me (λ mails. Idly (q, mails)) (λ mails mail k. k)) drawer line (r, []) (off, refl)
 
   beside_idly : (from : ℕ) (body : MailBody) → beside.IsBeside body → r.running ≡ false → Idly (mailed from body (r, [])).0
-  beside_idly from body a off = beside.beside_keeps Idly (beside.still_pumps Idly (λ place k. k.0)) (λ q mails acts backlog k. k) (λ q. grows q.me (λ mails. Idly (q, mails)) (λ mails mail k. k)) from body (r, []) a (off, refl)
+  beside_idly from body a off = beside.beside_keeps Idly (beside.still_pumps Idly (λ place k. k.0) (λ q mails acts backlog k. k)) (λ q. grows q.me (λ mails. Idly (q, mails)) (λ mails mail k. k)) from body (r, []) a (off, refl)
 
   -- ---- votes and promises
 

@@ -1,104 +1,19 @@
 -- A mail that brings no state takes a replica's group on by entries, and makes their children.
-use Rattle.std.proofs.Common.{◌≡◌, ◌⊎◌, ℕ, suc, ◌+◌, ◌-◌, ◌^◌, ◌&&◌, not, nat_lt, eqb, Bool, true, false, cond, List, [], ◌∷◌, ◌++◌, length, Option, Some, None, inl, inr, refl, ◌∙◌, ap, subst, arith}
-use Rattle.std.specs.List.{filter}
+use Rattle.std.proofs.Common.{◌≡◌, ◌⊎◌, ℕ, suc, ◌+◌, ◌-◌, ◌^◌, ◌&&◌, nat_lt, eqb, Bool, true, false, cond, List, [], ◌∷◌, ◌++◌, length, Option, Some, None, inl, inr, refl, ◌∙◌, ap, subst, arith}
 use Rattle.std.proofs.lemmas.Bool.{cond_both, eqb-true, eq-eqb, and_parts}
-use Rattle.sc_node_table.specs.Values.{Ballot, Command, Call, Base, Effect, Route, OrderResult, AnswerBody, Mail, MailBody, Request, Answer, Prepare, Promise, Accept, Accepted, Nack, Learn, Ask, Install, TxPrepare, TxVote, TxOutcome, TxElsewhere, TxWatch, TxWatched, Told, Counted, Chosen, NotYet}
-use Rattle.sc_mail.specs.declared.bodies.AnswerBody.TheVariants as Answers
-use Rattle.sc_base.specs.Definitions.{is_member, least_of}
+use Rattle.sc_node_table.specs.Values.{Ballot, Command, Base, Effect, AnswerBody, Mail, MailBody, Request, Answer, Prepare, Promise, Accept, Accepted, Nack, Learn, Ask, Install, TxPrepare, TxVote, TxOutcome, TxElsewhere, TxWatch, TxWatched, Told, Counted, Chosen, NotYet}
 use Rattle.sc_group_table.specs.machine.MachineDefinitions.{child_by, Group, state_after, applied}
 use Rattle.sc_words.specs.paxos.PaxosDefinitions.{LeaderState, without_flight_at, counted, AcceptorState}
-use Rattle.sc_node_table.specs.NodeDefinitions.{elected, ended, stopped, entered, answer_of, answered_or_put_back, order_result, effect_reported, announced, learnt_to, welcomed, slot_lost, landed, left_gone, left, is_among, looked_for, looked, executed_one, child_at, next_child, has_room, next_ready, ending, executed_ready, executed, install_to, asked_to_promise, welcomed_all, sent, pumped, put_back, ReplicaState, Place, Executed, childless, name_of, next, members, flying, set_at, last_slot, forgotten, learn_row, mailed, with_slot, without_slot, before_of, spoken, leads, readied, vote_tallied, voted, accepted_row}
-use Rattle.sc_node_table.specs.declared.Before.{Before}
+use Rattle.sc_node_table.specs.NodeDefinitions.{elected, ended, entered, announced, learnt_to, welcomed, landed, left, looked, executed_one, child_at, next_child, has_room, next_ready, ending, executed_ready, executed, sent, pumped, ReplicaState, Place, Executed, childless, name_of, next, members, flying, set_at, last_slot, forgotten, learn_row, mailed, with_slot, without_slot, before_of, spoken, leads, readied, vote_tallied, voted, accepted_row}
 use Rattle.sc_law_walks.proofs.WalkLemmas.{entered_ready, entered_next, either_way, grows}
+use Rattle.sc_live_steps.proofs.ExecutionParts.{entry_reported, slot_lost_kept, leaving_kept, looking_kept}
 use Rattle.sc_live_journals.proofs.RowsProofs.StillReplicas as beside
-use Rattle.sc_live_answers.proofs.ReplicasProofs.Parts.{pumps, announces, speaks, teaches, welcomes, loses, leaves, looks, prepare_rests, accept_rests, promise_rests, nack_rests, ask_rests}
-use Rattle.sc_law_walks.proofs.WalkLemmas.{back_any, entered_ready}
+use Rattle.sc_live_answers.proofs.ReplicasProofs.Parts.{pumps, prepare_rests, accept_rests, promise_rests, nack_rests, ask_rests}
 
 -- the children that some entries make at a node, from the group before them
 abbrev pub kids_of : ℕ → Group → List Command → List Base
 kids_of me group [] = []
 kids_of me group (command ∷ log) = child_at me (child_by group command) ++ kids_of me (applied group command).0 log
-
--- ---- what is ready
-
-module _ (rs : List (ℕ × Command)) where
-  abbrev R : Place → Type 0
-  R place = place.0.ready ≡ rs
-
-  ready_called : (answer : Option AnswerBody) (command : Command) (place : Place) → R place → R (answered_or_put_back answer command place)
-  unfolding answered_or_put_back
-  ready_called (Some answer) (Call client seq op) (r, mails) k = k
-  ready_called None (Call client seq op) (r, mails) k = back_any (λ (x : ReplicaState). x.ready ≡ rs) (λ s acts backlog q. q) (Call client seq op) r k
-  ready_called (Some answer) _ place k = k
-  ready_called None _ place k = k
-
-  ready_effect : (result : Option OrderResult) (command : Command) (place : Place) → R place → R (effect_reported result command place)
-  unfolding effect_reported
-  ready_effect None command place k = k
-  ready_effect (Some result) command (r, mails) k = k
-
-  ready_announced : (c : Bool) (effect : Effect) (command : Command) (place : Place) → R place → R (announced c effect command place)
-  unfolding announced
-  ready_announced c effect command place k =
-      ready_effect (order_result command effect) command (cond c (answered_or_put_back (answer_of effect) command place) place) (either_way R c (answered_or_put_back (answer_of effect) command place) place (ready_called (answer_of effect) command place k) k)
-
-  ready_spoken : (c : Bool) (before : Before) (effect : Effect) (command : Command) (place : Place) → R place → R (spoken c before effect command place)
-  unfolding spoken
-  ready_spoken c before effect command (r, mails) k = k
-
-  ready_learnt : (c : Bool) (nodes : List ℕ) (slot : ℕ) (command : Command) (place : Place) → R place → R (learnt_to c nodes slot command place)
-  unfolding learnt_to
-  ready_learnt c nodes slot command (r, mails) k = either_way R c _ (r, mails) k k
-
-  ready_asked : (node : ℕ) (place : Place) → R place → R (asked_to_promise node place)
-  ready_asked node (r, mails) k = either_way R r.leader.is_first (r, mails) _ k k
-
-  ready_installed : (node : ℕ) (place : Place) → R place → R (install_to node place)
-  unfolding install_to
-  ready_installed node (r, mails) k = k
-
-  ready_all : (nodes : List ℕ) (place : Place) → R place → R (welcomed_all nodes place)
-  unfolding welcomed_all
-  ready_all [] place k = k
-  ready_all (node ∷ nodes) place k = ready_all nodes (asked_to_promise node (install_to node place)) (ready_asked node (install_to node place) (ready_installed node place k))
-
-  ready_welcomed : (c : Bool) (before : List ℕ) (place : Place) → R place → R (welcomed c before place)
-  unfolding welcomed
-  ready_welcomed c before (r, mails) k = either_way R c _ (r, mails) (ready_all (filter (λ node. not (is_member before node)) (members r)) (r, mails) k) k
-
-  ready_lost : (c : Bool) (command : Command) (o : Option Command) (r : ReplicaState) → r.ready ≡ rs → (slot_lost c command o r).ready ≡ rs
-  ready_lost c command None r k = k
-  ready_lost c command (Some other) r k = either_way (λ (x : ReplicaState). x.ready ≡ rs) _ r (put_back other r) k (back_any (λ (x : ReplicaState). x.ready ≡ rs) (λ s acts backlog q. q) other r k)
-
-  -- or nothing is ready any more
-  abbrev RE : Place → Type 0
-  RE place = (place.0.ready ≡ rs) ⊎ (place.0.ready ≡ [])
-
-  ready_ended : (hint : Option ℕ) (answer : AnswerBody) (place : Place) → RE (ended hint answer place)
-  unfolding ended
-  ready_ended hint answer (r, mails) = inr refl
-
-  ready_gone : (gone : Option Route) (place : Place) → RE place → RE (left_gone gone place)
-  ready_gone (Some into) place k = ready_ended None (Answers.Gone into) place
-  ready_gone None (r, mails) k = either_way RE (is_member (members r) r.me) (r, mails) (stopped (Some (least_of (members r))) (r, mails)) k (ready_ended (Some (least_of (members r))) (Answers.NotLeader (Some (least_of (members r)))) (r, mails))
-
-  ready_left : (place : Place) → RE place → RE (left place)
-  unfolding left
-  ready_left (r, mails) k = either_way RE r.running (left_gone r.group.core.gone (r, mails)) (r, mails) (ready_gone r.group.core.gone (r, mails) k) k
-
-  ready_elected : (place : Place) → RE place → RE (elected place)
-  unfolding elected
-  ready_elected (r, mails) k = either_way RE (eqb r.top.round (2 ^ 32 - 1)) _ _ k (inr refl)
-
-  ready_looked_for : (gone : Option Route) (place : Place) → RE place → RE (looked_for gone place)
-  ready_looked_for (Some into) place k = k
-  ready_looked_for None (r, mails) k =
-      either_way RE (is_among (members r) r.hint) (r, mails) _ k
-      (either_way RE (eqb (least_of (members r)) r.me) (elected (record r { hint = Some r.me }, mails)) (record r { hint = Some (least_of (members r)) }, mails) (ready_elected (record r { hint = Some r.me }, mails) k) k)
-
-  ready_looked : (place : Place) → RE place → RE (looked place)
-  unfolding looked
-  ready_looked (r, mails) k = either_way RE r.running (r, mails) (looked_for r.group.core.gone (r, mails)) k (ready_looked_for r.group.core.gone (r, mails) k)
 
 -- ---- one entry
 
@@ -112,14 +27,28 @@ pub record IsOne (r : ReplicaState) (command : Command) (after : ReplicaState) :
   pub fact : At (applied r.group command).0 r.me (next r + 1) after
   pub ready : (after.ready ≡ without_slot r.ready (next r)) ⊎ (after.ready ≡ [])
 
-landed_at : (c : Bool) (slot : ℕ) (command : Command) (g : Group) (me n : ℕ) (place : Place) → At g me n place.0 → At g me n (landed c slot command place).0
+landed_is : (c : Bool) (slot : ℕ) (command : Command) (g : Group) (me n : ℕ) (rs : List (ℕ × Command)) (place : Place) → At g me n place.0 × (place.0.ready ≡ rs)
+    → At g me n (landed c slot command place).0 × ((landed c slot command place).0.ready ≡ without_slot rs slot)
 unfolding landed
-landed_at c slot command g me n (r, mails) k =
-    loses (At g me n) (λ x acceptor hint top running leader ready acts backlog waits q. q) c command (flying r slot) (record r { leader = without_flight_at slot r.leader; ready = without_slot r.ready slot }) k
+landed_is c slot command g me n rs (r, mails) k =
+    slot_lost_kept (λ x. At g me n x × (x.ready ≡ without_slot rs slot)) (λ x acts backlog q. q) c command (flying r slot) (record r { leader = without_flight_at slot r.leader; ready = without_slot r.ready slot })
+    (k.0, ap (λ (es : List (ℕ × Command)). without_slot es slot) k.1)
 
-landed_ready : (c : Bool) (slot : ℕ) (command : Command) (rs : List (ℕ × Command)) (place : Place) → place.0.ready ≡ rs → (landed c slot command place).0.ready ≡ without_slot rs slot
-unfolding landed
-landed_ready c slot command rs (r, mails) k = ready_lost (without_slot rs slot) c command (flying r slot) (record r { leader = without_flight_at slot r.leader; ready = without_slot r.ready slot }) (ap (λ (es : List (ℕ × Command)). without_slot es slot) k)
+-- it then leads on, or nothing is ready any more
+module _ (g : Group) (me n : ℕ) (rs : List (ℕ × Command)) where
+  abbrev Left : Place → Type 0
+  Left place = At g me n place.0 × ((place.0.ready ≡ rs) ⊎ (place.0.ready ≡ []))
+
+  ended_left : (hint : Option ℕ) (answer : AnswerBody) (place : Place) → Left place → Left (ended hint answer place)
+  unfolding ended
+  ended_left hint answer (r, mails) k = (k.0, inr refl)
+
+  elected_left : (place : Place) → Left place → Left (elected place)
+  unfolding elected
+  elected_left (r, mails) k = either_way Left (eqb r.top.round (2 ^ 32 - 1)) _ _ k (k.0, inr refl)
+
+  goes_left : (place : Place) → Left place → Left (looked (left place))
+  goes_left place k = looking_kept Left elected_left (λ hint r mails q. q) (left place) (leaving_kept Left ended_left place k)
 
 entered_at : (command : Command) (r : ReplicaState) → At (applied r.group command).0 r.me (next r + 1) (entered command r)
 unfolding entered forgotten
@@ -132,25 +61,12 @@ one_is c command r mails =
     let n : ℕ = next r + 1 in
     let effect : Effect = (applied r.group command).1 in
     let place0 : Place = (entered command r, mails) in
-    let place1 : Place = announced c effect command place0 in
-    let place2 : Place = spoken c (before_of r.group.core) effect command place1 in
-    let place3 : Place = learnt_to c (members r) (next r) command place2 in
-    let place4 : Place = welcomed c (members r) place3 in
-    let place5 : Place = landed c (next r) command place4 in
-    let any : (x : ReplicaState) (acceptor : AcceptorState Command) (hint : Option ℕ) (top : Ballot) (running : Bool) (leader : LeaderState Command) (ready : List (ℕ × Command)) (acts backlog : List Command) (waits : ℕ) → At g r.me n x
-    → At g r.me n (record x { acceptor = acceptor; hint = hint; top = top; running = running; leader = leader; ready = ready; acts = acts; backlog = backlog; waits = waits }) = λ x acceptor hint top running leader ready acts backlog waits q. q in
-    let k1 : At g r.me n place1.0 = announces (At g r.me n) any c effect command place0 (entered_at command r) in
-    let k2 : At g r.me n place2.0 = speaks (At g r.me n) any c (before_of r.group.core) effect command place1 k1 in
-    let k3 : At g r.me n place3.0 = teaches (At g r.me n) any c (members r) (next r) command place2 k2 in
-    let k4 : At g r.me n place4.0 = welcomes (At g r.me n) any c (members r) place3 k3 in
-    let k5 : At g r.me n place5.0 = landed_at c (next r) command g r.me n place4 k4 in
-    let r4 : place4.0.ready ≡ r.ready =
-    ready_welcomed r.ready c (members r) place3 (ready_learnt r.ready c (members r) (next r) command place2 (ready_spoken r.ready c (before_of r.group.core) effect command place1 (ready_announced r.ready c effect command place0 (entered_ready command r)))) in
-    let r5 : place5.0.ready ≡ without_slot r.ready (next r) = landed_ready c (next r) command r.ready place4 r4 in
-    record {
-      fact = looks (At g r.me n) any (left place5) (leaves (At g r.me n) any place5 k5);
-      ready = ready_looked (without_slot r.ready (next r)) (left place5) (ready_left (without_slot r.ready (next r)) place5 (inl r5));
-    }
+    let told : Place = welcomed c (members r) (learnt_to c (members r) (next r) command (spoken c (before_of r.group.core) effect command (announced c effect command place0))) in
+    let k : At g r.me n told.0 × (told.0.ready ≡ r.ready) =
+    entry_reported (λ x. At g r.me n x × (x.ready ≡ r.ready)) (λ x acts backlog q. q) c (before_of r.group.core) effect (members r) (next r) command place0 (entered_at command r, entered_ready command r) in
+    let after = landed_is c (next r) command g r.me n r.ready told k in
+    let all = goes_left g r.me n (without_slot r.ready (next r)) (landed c (next r) command told) (after.0, inl after.1) in
+    record { fact = all.0; ready = all.1 }
 
 -- ---- all entries
 
@@ -316,7 +232,7 @@ module _ (r : ReplicaState) (mails : List Mail) where
 
   beside_rests : (from : ℕ) (body : MailBody) → beside.IsBeside body → P (mailed from body (r, mails)).0.0
   beside_rests from body b =
-      beside.beside_keeps (λ place. P place.0) (pumps P any) (λ x ms acts backlog q. any x x.acceptor x.hint x.top x.running x.leader x.ready acts backlog x.waits q) (λ x. grows x.me (λ ms. P x) (λ ms m q. q)) from body (r, mails) b here
+      beside.beside_keeps (λ place. P place.0) (λ x ms acts backlog q. pumps P any (record x { acts = acts; backlog = backlog }, ms) q) (λ x. grows x.me (λ ms. P x) (λ ms m q. q)) from body (r, mails) b here
 
   pub mailed_goes : (from : ℕ) (body : MailBody) → IsStateless body → GoesOn r (mailed from body (r, mails))
   unfolding mailed

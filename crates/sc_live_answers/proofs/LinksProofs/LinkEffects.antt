@@ -16,6 +16,7 @@ use Rattle.sc_law_entries.specs.ring.RingDefinitions.{vote_in, watch_vote_in, wi
 use Rattle.sc_law_entries.proofs.RingProofs.RingLemmas.{from_at, own_story}
 use Rattle.sc_law_entries.proofs.RingProofs.Rings.{no_division as no_child}
 use Rattle.sc_law_walks.proofs.WalkLemmas.{MachineWalk, machine_step, EndsIt, ChangesNothing}
+use Rattle.sc_live_answers.proofs.ChildrenProofs.ChildDivisions.{undivided}
 use Rattle.sc_live_answers.proofs.LinksProofs.LinkOutcomes.{Good, IsLinkedSo, GivesAllowedOrder, good_come, more_good, kept_links}
 
 -- ---- what is said of nodes
@@ -109,9 +110,7 @@ module _ (Were Come : Draw → ℕ → Type 0) (come : (name : Draw) (node : ℕ
     same_told _ effect q t z e = all_told t z e
 
     same_births : (c : Command) (effect : Effect) → AddsNothing effect → division_of s.core c effect ≡ None
-    same_births (Split at child order) effect q = ap (λ b. cond (b && is_alone s.core) (Some (record { at = at; child = child })) None) q.0
-    same_births (RecordWatch tx vote by) effect q = ap (λ b. cond b (division_in s.core.lock) None) q.4
-    same_births _ effect q = refl
+    same_births c effect q = undivided s c effect q.0 q.4
 
     -- ---- a split
 

@@ -1,10 +1,10 @@
 -- What is known of a prefix of a lawful journal.
-use Rattle.std.proofs.Common.{◌≡◌, ℕ, ◌≤◌, ◌+◌, ◌<◌, ◌&&◌, leb, eqb, Bool, zero, suc, List, [], ◌∷◌, ◌++◌, map, Option, Some, None, inl, inr, refl, sym, ◌∙◌, ap, subst, arith}
+use Rattle.std.proofs.Common.{◌≡◌, ℕ, ◌≤◌, ◌+◌, ◌<◌, ◌&&◌, leb, eqb, Bool, zero, suc, List, [], ◌∷◌, map, Option, Some, None, inl, inr, refl, sym, ◌∙◌, ap, subst, arith}
 use Rattle.std.specs.Prelude.{find}
-use Rattle.std.proofs.lemmas.Bool.{cases_Bool, cond_both, cond-true, eqb-true, and_from, and_parts, le-leb, leb-true, both_ways}
+use Rattle.std.proofs.lemmas.Bool.{cases_Bool, cond-true, eqb-true, and_from, and_parts, le-leb, leb-true, both_ways}
 use Rattle.std.proofs.lemmas.Option.{none-some}
-use Rattle.sc_base.specs.Definitions.{Among, most_nodes, same_draw}
-use Rattle.sc_node_table.specs.Values.{Draw, Base, Node, Client, Seat, OrderLine, Mail, Input, Row}
+use Rattle.sc_base.specs.Definitions.{Among, same_draw}
+use Rattle.sc_node_table.specs.Values.{Draw, Base, Node, Client, Seat}
 use Rattle.sc_base.proofs.Lemmas.{draw_is}
 use Rattle.sc_actor.specs.Definitions.{value}
 use Rattle.sc_actor.proofs.Lemmas.{lawful-prefix}

@@ -1,16 +1,11 @@
 -- What of a replica's table leaves its group and its log, and so is no entry.
-use Rattle.std.proofs.Common.{ℕ, ◌-◌, ◌^◌, ◌&&◌, not, nat_le, eqb, Bool, true, false, cond, List, [], ◌∷◌, Option, Some, None, ◌+◌}
-use Rattle.std.specs.List.{filter, list_any}
-use Rattle.sc_node_table.specs.Values.{Ballot, Command, Noop, Call, Join, Leave, Split, Begin, Prepared, RecordVote, GiveUp, Finish, Watched, RecordWatch, Effect, Route, OrderResult, AnswerBody, PrepareAnswer, AcceptAnswer, Report, Nack, Accepted, Promise, Mail, Must, Gap}
-use Rattle.std.specs.Prelude.{is_some}
+use Rattle.std.proofs.Common.{ℕ, ◌&&◌, nat_le, Bool, false, cond, List, [], Option, Some}
+use Rattle.sc_node_table.specs.Values.{Ballot, Command, AnswerBody, PrepareAnswer, AcceptAnswer, Report, Nack, Accepted, Promise, Mail}
 use Rattle.sc_mail.specs.declared.bodies.AnswerBody.TheVariants as Answers
-use Rattle.sc_base.specs.Definitions.{is_member, least_of}
 use Rattle.sc_words.specs.declared.paxos.answers.PrepareAnswer.TheVariants as Prepared
 use Rattle.sc_words.specs.declared.paxos.answers.AcceptAnswer.TheVariants as Asked
-use Rattle.sc_words.specs.paxos.PaxosDefinitions.{AcceptorState, accepted as accepted_by, below, LeaderState, promise_counted, prepared, must}
-use Rattle.sc_node_table.specs.NodeDefinitions.{elected, ended, stopped, saw, answer_of, answered_or_put_back, order_result, effect_reported, announced, learnt_to, welcomed, slot_lost, left_gone, left, is_among, looked_for, looked, install_to, asked_to_promise, welcomed_all, offered, pumped, put_back, ReplicaState, Place, members, ask_row, spoken, hinted, promise_to, promised, prepare_row, accepted_to, took, accept_row, leads, promise_row, nack_row, name_of, sent, Found, is_act, from_backlog, from_acts, from_queues, found_by, found_for, pumped_from, next, settled, may_offer, taken_at, under_way, is_idle, last_slot}
-use Rattle.sc_words.specs.declared.paxos.answers.Must.TheVariants.{Value, Free as Open}
-use Rattle.sc_node_table.specs.declared.Before.{Before}
+use Rattle.sc_words.specs.paxos.PaxosDefinitions.{AcceptorState, accepted as accepted_by, below, LeaderState, promise_counted, prepared}
+use Rattle.sc_node_table.specs.NodeDefinitions.{ended, stopped, saw, install_to, offered, pumped, ReplicaState, Place, ask_row, hinted, promise_to, promised, prepare_row, accepted_to, took, accept_row, leads, promise_row, nack_row, name_of, sent}
 use Rattle.sc_law_walks.proofs.WalkLemmas.{asked_place, pumped_freely, either_way}
 
 -- the answers of an acceptor: to a Prepare a promise or a refusal, to an Accept a vote or a refusal
@@ -31,42 +26,23 @@ module _ (P : ReplicaState → Type 0) (any : (r : ReplicaState) (acceptor : Acc
   abbrev pub F : Place → Type 0
   F place = P place.0
 
-  back : (command : Command) (r : ReplicaState) → P r → P (put_back command r)
-  unfolding put_back
-  back Noop r p = p
-  back (Call client seq op) r p = any r r.acceptor r.hint r.top r.running r.leader r.ready r.acts _ r.waits p
-  back (Join node order) r p = any r r.acceptor r.hint r.top r.running r.leader r.ready r.acts (Join node order ∷ r.backlog) r.waits p
-  back (Leave node order) r p = any r r.acceptor r.hint r.top r.running r.leader r.ready r.acts (Leave node order ∷ r.backlog) r.waits p
-  back (Split at child order) r p = any r r.acceptor r.hint r.top r.running r.leader r.ready r.acts (Split at child order ∷ r.backlog) r.waits p
-  back (Begin tx body order) r p = any r r.acceptor r.hint r.top r.running r.leader r.ready r.acts (Begin tx body order ∷ r.backlog) r.waits p
-  back (Prepared tx offer) r p = any r r.acceptor r.hint r.top r.running r.leader r.ready (Prepared tx offer ∷ r.acts) r.backlog r.waits p
-  back (RecordVote tx vote by) r p = any r r.acceptor r.hint r.top r.running r.leader r.ready (RecordVote tx vote by ∷ r.acts) r.backlog r.waits p
-  back (GiveUp tx) r p = any r r.acceptor r.hint r.top r.running r.leader r.ready (GiveUp tx ∷ r.acts) r.backlog r.waits p
-  back (Finish tx outcome) r p = any r r.acceptor r.hint r.top r.running r.leader r.ready (Finish tx outcome ∷ r.acts) r.backlog r.waits p
-  back (Watched tx watch) r p = any r r.acceptor r.hint r.top r.running r.leader r.ready (Watched tx watch ∷ r.acts) r.backlog r.waits p
-  back (RecordWatch tx vote by) r p = any r r.acceptor r.hint r.top r.running r.leader r.ready (RecordWatch tx vote by ∷ r.acts) r.backlog r.waits p
-
   -- ---- leaders
 
-  pub self_election : (place : Place) → F place → F (elected place)
-  unfolding elected
-  self_election (r, mails) p = either_way F (eqb r.top.round (2 ^ 32 - 1)) _ _ p (any r r.acceptor (Some r.me) _ true _ [] r.acts r.backlog 0 p)
-
-  pub ends : (hint : Option ℕ) (answer : AnswerBody) (place : Place) → F place → F (ended hint answer place)
+  ends : (hint : Option ℕ) (answer : AnswerBody) (place : Place) → F place → F (ended hint answer place)
   unfolding ended
   ends hint answer (r, mails) p = any r r.acceptor hint r.top false _ [] [] [] r.waits p
 
   stops : (hint : Option ℕ) (place : Place) → F place → F (stopped hint place)
   stops hint place p = ends hint (Answers.NotLeader hint) place p
 
-  pub sees : (ballot : Ballot) (place : Place) → F place → F (saw ballot place)
+  sees : (ballot : Ballot) (place : Place) → F place → F (saw ballot place)
   unfolding saw
   sees ballot (r, mails) p =
       let seen : ReplicaState = cond (below r.top ballot) (record r { top = ballot }) r in
       let k : P seen = either_way P (below r.top ballot) (record r { top = ballot }) r (any r r.acceptor r.hint ballot r.running r.leader r.ready r.acts r.backlog r.waits p) p in
       either_way F (r.running && below r.leader.ballot ballot) (stopped (Some ballot.node) (seen, mails)) (seen, mails) (stops (Some ballot.node) (seen, mails) k) k
 
-  pub state_sent : (node : ℕ) (place : Place) → F place → F (install_to node place)
+  state_sent : (node : ℕ) (place : Place) → F place → F (install_to node place)
   unfolding install_to
   state_sent node (r, mails) p = p
 
@@ -79,74 +55,10 @@ module _ (P : ReplicaState → Type 0) (any : (r : ReplicaState) (acceptor : Acc
   pub pumps : (place : Place) → F place → F (pumped place)
   pumps place p = pumped_freely F (λ r mails more acts backlog q. any r r.acceptor r.hint r.top r.running r.leader r.ready acts backlog r.waits q) slot_offered place p
 
-  -- ---- an entry, but for the entry itself
-
-  call_told : (answer : Option AnswerBody) (command : Command) (place : Place) → F place → F (answered_or_put_back answer command place)
-  unfolding answered_or_put_back
-  call_told (Some answer) (Call client seq op) (r, mails) p = p
-  call_told None (Call client seq op) (r, mails) p = back (Call client seq op) r p
-  call_told (Some answer) _ place p = p
-  call_told None _ place p = p
-
-  effect_told : (result : Option OrderResult) (command : Command) (place : Place) → F place → F (effect_reported result command place)
-  unfolding effect_reported
-  effect_told None command place p = p
-  effect_told (Some result) command (r, mails) p = p
-
-  pub announces : (counted : Bool) (effect : Effect) (command : Command) (place : Place) → F place → F (announced counted effect command place)
-  unfolding announced
-  announces counted effect command place p =
-      effect_told (order_result command effect) command (cond counted (answered_or_put_back (answer_of effect) command place) place)
-      (either_way F counted (answered_or_put_back (answer_of effect) command place) place (call_told (answer_of effect) command place p) p)
-
-  pub speaks : (counted : Bool) (before : Before) (effect : Effect) (command : Command) (place : Place) → F place → F (spoken counted before effect command place)
-  unfolding spoken
-  speaks counted before effect command (r, mails) p = p
-
-  pub teaches : (counted : Bool) (nodes : List ℕ) (slot : ℕ) (command : Command) (place : Place) → F place → F (learnt_to counted nodes slot command place)
-  unfolding learnt_to
-  teaches counted nodes slot command (r, mails) p = either_way F counted _ (r, mails) p p
-
-  asks_promise : (node : ℕ) (place : Place) → F place → F (asked_to_promise node place)
-  asks_promise node (r, mails) p = either_way F r.leader.is_first (r, mails) _ p p
-
-  all_welcomed : (nodes : List ℕ) (place : Place) → F place → F (welcomed_all nodes place)
-  unfolding welcomed_all
-  all_welcomed [] place p = p
-  all_welcomed (node ∷ nodes) place p = all_welcomed nodes (asked_to_promise node (install_to node place)) (asks_promise node (install_to node place) (state_sent node place p))
-
-  pub welcomes : (counted : Bool) (before : List ℕ) (place : Place) → F place → F (welcomed counted before place)
-  unfolding welcomed
-  welcomes counted before (r, mails) p =
-      either_way F counted (welcomed_all (filter (λ node. not (is_member before node)) (members r)) (r, mails)) (r, mails) (all_welcomed (filter (λ node. not (is_member before node)) (members r)) (r, mails) p) p
-
-  pub loses : (counted : Bool) (command : Command) (o : Option Command) (r : ReplicaState) → P r → P (slot_lost counted command o r)
-  loses counted command None r p = p
-  loses counted command (Some other) r p = either_way P _ r (put_back other r) p (back other r p)
-
-  gone_leaves : (gone : Option Route) (place : Place) → F place → F (left_gone gone place)
-  gone_leaves (Some into) place p = ends None (Answers.Gone into) place p
-  gone_leaves None (r, mails) p = either_way F (is_member (members r) r.me) (r, mails) (stopped (Some (least_of (members r))) (r, mails)) p (stops (Some (least_of (members r))) (r, mails) p)
-
-  pub leaves : (place : Place) → F place → F (left place)
-  unfolding left
-  leaves (r, mails) p = either_way F r.running (left_gone r.group.core.gone (r, mails)) (r, mails) (gone_leaves r.group.core.gone (r, mails) p) p
+  -- ---- rows that execute nothing
 
   with_hint : (r : ReplicaState) (hint : Option ℕ) → P r → P (record r { hint = hint })
   with_hint r hint p = any r r.acceptor hint r.top r.running r.leader r.ready r.acts r.backlog r.waits p
-
-  looks_for : (gone : Option Route) (place : Place) → F place → F (looked_for gone place)
-  looks_for (Some into) place p = p
-  looks_for None (r, mails) p =
-      either_way F (is_among (members r) r.hint) (r, mails) _ p
-      (either_way F (eqb (least_of (members r)) r.me) (elected (record r { hint = Some r.me }, mails)) (record r { hint = Some (least_of (members r)) }, mails) (self_election (record r { hint = Some r.me }, mails) (with_hint r (Some r.me) p))
-      (with_hint r (Some (least_of (members r))) p))
-
-  pub looks : (place : Place) → F place → F (looked place)
-  unfolding looked
-  looks (r, mails) p = either_way F r.running (r, mails) (looked_for r.group.core.gone (r, mails)) p (looks_for r.group.core.gone (r, mails) p)
-
-  -- ---- rows that execute nothing
 
   hints : (ballot : Ballot) (r : ReplicaState) → P r → P (hinted ballot r)
   hints ballot r p = either_way P r.running r (record r { hint = Some ballot.node }) p (with_hint r (Some ballot.node) p)

@@ -1,18 +1,18 @@
 -- After each row of a replica's table no act waits where nothing is in flight: the row ends with the pump, or leaves what the replica leads with and what waits, or nothing waits.
-use Rattle.std.proofs.Common.{◌≡◌, ℕ, ◌≤◌, ◌&&◌, ◌||◌, not, nat_le, nat_lt, eqb, refl, Bool, true, false, true≢false, cond, List, [], ◌∷◌, ◌++◌, length, Option, Some, None, sym, ◌∙◌, ap, subst}
+use Rattle.std.proofs.Common.{◌≡◌, ℕ, ◌≤◌, ◌&&◌, ◌||◌, not, nat_le, nat_lt, eqb, refl, Bool, true, false, true≢false, cond, List, [], ◌∷◌, length, Option, Some, None, sym, ◌∙◌, ap, subst}
 use Rattle.std.proofs.lemmas.Bool.{and_parts, and_from}
-use Rattle.sc_base.specs.Definitions.{Drawer, next_name, is_majority, is_member, least_of, same_ballot}
-use Rattle.sc_node_table.specs.Values.{Ballot, Draw, Op, Offer, Watch, Command, Call, Prepared as PreparedAct, RecordVote, Finish, Watched, RecordWatch, Base, Route, OrderLine, OrderRefusal, Outcome, Past, Vote, AnswerBody, Mail, MailBody, Request, Answer, Prepare, Promise, Accept, Accepted, Nack, Learn, Ask, Install, TxPrepare, TxVote, TxOutcome, TxElsewhere, TxWatch, TxWatched, Told, Counted, Chosen, NotYet, Flight, Report}
-use Rattle.sc_words.specs.declared.commands.votes.Past.TheVariants as Cast
-use Rattle.sc_words.specs.declared.commands.votes.Vote.TheVariants as Vows
+use Rattle.sc_base.specs.Definitions.{Drawer, is_majority, is_member, same_ballot}
+use Rattle.sc_node_table.specs.Values.{Ballot, Draw, Command, Base, OrderLine, AnswerBody, Mail, MailBody, Prepare, Promise, Accept, Accepted, Nack, Learn, Ask, Install, Counted, Chosen, NotYet, Flight, Report}
 use Rattle.sc_words.specs.declared.paxos.answers.AcceptAnswer.TheVariants as Asked
 use Rattle.sc_words.specs.declared.paxos.answers.PrepareAnswer.TheVariants as Prepared
 use Rattle.sc_words.specs.paxos.PaxosDefinitions.{accepted as accepted_by, AcceptorState, may_promise, after_promise, after_accept, reports_from, below, IsAtLeast, LeaderState, flight_at, promise_counted, without_flight_at, prepared, counted, kept_voters, voters_after, with_voters, vote_at}
 use Rattle.sc_words.proofs.PaxosProofs.PaxosLemmas.{at_least_from_below, at_least_trans}
-use Rattle.sc_node_table.specs.NodeDefinitions.{act_queued, with_act, elected, ended, stopped, saw, all_ready, executed, executed_one, has_room, is_among, looked, looked_for, install_to, named, jumped, sent, ordered_command, untaken, queued_or_refused, ordered_row, pumped, queued_number, with_order_queued, without_request, ReplicaState, Place, Executed, childless, first_set, forgotten, installed_replica, last_slot, may_offer, members, name_of, next, set_at, settled, refused_at, queued, requested, request_row, learn_row, ask_row, looked_up, took_over, install_row, made_by, mailed, with_slot, asked_next, awaits_vote, awaits_watch, elsewhere_row, is_bound, noted_outcome, offer_row, offered_by, outcome_row, sent_elsewhere, standing_vote, vote_met, vote_queued, vote_row, watch_met, watch_queued, watch_row, watched_by, watched_row, hinted, promise_to, prepare_row, accepted_to, took, accept_row, leads, promise_row, readied, vote_tallied, voted, accepted_row, nack_row}
-use Rattle.sc_law_walks.proofs.WalkLemmas.{promised_place, asked_place, either_way}
+use Rattle.sc_node_table.specs.NodeDefinitions.{elected, ended, stopped, saw, all_ready, executed, executed_one, has_room, looked, install_to, named, jumped, sent, ordered_row, pumped, ReplicaState, Place, Executed, childless, first_set, forgotten, installed_replica, last_slot, may_offer, members, name_of, next, set_at, settled, learn_row, ask_row, looked_up, took_over, install_row, made_by, mailed, with_slot, hinted, promise_to, prepare_row, accepted_to, took, accept_row, leads, promise_row, readied, vote_tallied, voted, accepted_row, nack_row}
+use Rattle.sc_law_walks.proofs.WalkLemmas.{promised_place, asked_place, either_way, Talk, grows}
 use Rattle.sc_live_steps.specs.pump.Waiting.{HasNoneWaiting, PumpsLeaveNone}
 use Rattle.sc_live_steps.proofs.CalmStepsProofs.PumpInvariants.{pump_kept}
+use Rattle.sc_live_steps.proofs.ExecutionParts.{looking_kept}
+use Rattle.sc_live_journals.proofs.RowsProofs.StillReplicas as beside
 
 -- ---- what leaves a replica so
 
@@ -76,31 +76,20 @@ module _ (pump_law : PumpsLeaveNone) where
   pumped_ends : (place : Place) → Ends (pumped place)
   pumped_ends place some = pump_law place (subst (λ (sets : List (List ℕ)). 1 ≤ length sets) (ap (λ (r : ReplicaState). r.sets) (pump_kept place)) some)
 
-  acts_end : (act : Command) (place : Place) → Ends (act_queued act place)
-  unfolding act_queued
-  acts_end act (r, mails) = pumped_ends (with_act act r, mails)
-
   executed_ends : (counted : Bool) (command : Command) (place : Place) → EndsAfter (executed counted command place)
   unfolding executed
   executed_ends counted command place = pumped_ends (all_ready (executed_one counted command place)).0
 
-  -- ---- Request
+  -- ---- mail that neither asks an acceptor nor teaches a replica, and orders
 
-  queued_ends : (o : Option ℕ) (client seq : ℕ) (op : Op) (place : Place) → NoneAt place → Ends (queued o client seq op place)
-  unfolding queued
-  queued_ends None client seq op (r, mails) k = pumped_ends (record r { backlog = r.backlog ++ Call client seq op ∷ [] }, mails)
-  queued_ends (Some other) client seq op (r, mails) k =
-      either_way Ends (nat_le seq other) (r, mails) (pumped (record r { backlog = without_request r.backlog client ++ Call client seq op ∷ [] }, mails)) (λ some. k)
-      (pumped_ends (record r { backlog = without_request r.backlog client ++ Call client seq op ∷ [] }, mails))
+  pumps_end : (r : ReplicaState) (mails : List Mail) (acts backlog : List Command) → Ends (r, mails) → Ends (pumped (record r { acts = acts; backlog = backlog }, mails))
+  pumps_end r mails acts backlog k = pumped_ends (record r { acts = acts; backlog = backlog }, mails)
 
-  requested_ends : (o : Option AnswerBody) (client seq : ℕ) (op : Op) (place : Place) → NoneAt place → Ends (requested o client seq op place)
-  unfolding requested
-  requested_ends (Some answer) client seq op (r, mails) k = λ some. k
-  requested_ends None client seq op (r, mails) k = queued_ends (queued_number r.backlog client) client seq op (r, mails) k
+  any_talk : (r : ReplicaState) → Talk r.me (λ mails. Ends (r, mails))
+  any_talk r = grows r.me (λ mails. Ends (r, mails)) (λ mails mail k. k)
 
-  request_ends : (client seq : ℕ) (op : Op) (place : Place) → NoneAt place → Ends (request_row client seq op place)
-  unfolding request_row
-  request_ends client seq op (r, mails) k = requested_ends (refused_at r.group.core.gone op r) client seq op (r, mails) k
+  pub order_ends : (drawer : Drawer) (line : OrderLine) (r : ReplicaState) → HasNoneWaiting r → Ends (ordered_row drawer line (r, []))
+  order_ends drawer line r k = beside.order_keeps Ends pumps_end any_talk drawer line (r, []) (λ some. k)
 
   -- ---- promises and votes
 
@@ -205,14 +194,7 @@ module _ (pump_law : PumpsLeaveNone) where
   elected_acts r mails = either_way (λ (p : Place). p.0.acts ≡ r.acts) (eqb r.top.round _) (r, mails) _ refl refl
 
   looked_acts : (place : Place) → (looked place).0.acts ≡ place.0.acts
-  unfolding looked
-  looked_acts (r, mails) = either_way (λ (p : Place). p.0.acts ≡ r.acts) r.running (r, mails) (looked_for r.group.core.gone (r, mails)) refl (looks r.group.core.gone)
-    where
-      looks : (o : Option Route) → (looked_for o (r, mails)).0.acts ≡ r.acts
-      looks (Some into) = refl
-      looks None =
-          either_way (λ (p : Place). p.0.acts ≡ r.acts) (is_among (members r) r.hint) (r, mails) _ refl
-          (either_way (λ (p : Place). p.0.acts ≡ r.acts) (eqb (least_of (members r)) r.me) _ (record r { hint = Some (least_of (members r)) }, mails) (elected_acts (record r { hint = Some r.me }) mails) refl)
+  looked_acts place = looking_kept (λ (p : Place). p.0.acts ≡ place.0.acts) (λ p k. elected_acts p.0 p.1 ∙ k) (λ hint r mails k. k) place refl
 
   looked_up_acts : (from : ℕ) (place : Place) → (looked_up from place).0.acts ≡ place.0.acts
   unfolding looked_up
@@ -242,74 +224,10 @@ module _ (pump_law : PumpsLeaveNone) where
   install_none from slot base sets r mails idle k =
       either_way NoneAt (not (eqb (length sets) (length r.sets)) || (nat_lt last_slot slot || nat_lt slot (next r))) (r, mails) (took_over from slot base sets (r, mails)) k (over_none from slot base sets r mails idle)
 
-  -- ---- the parties of a transaction
-
-  offered_ends : (o : Option Past) (from : ℕ) (tx : Draw) (offer : Offer) (place : Place) → NoneAt place → Ends (offered_by o from tx offer place)
-  offered_ends (Some vote) from tx offer (r, mails) k = λ some. k
-  offered_ends None from tx offer (r, mails) k =
-      either_way Ends r.running (act_queued (PreparedAct tx offer) (r, mails)) (sent_elsewhere from tx offer.coord (r, mails)) (acts_end (PreparedAct tx offer) (r, mails)) (λ some. k)
-
-  offer_ends : (from : ℕ) (tx : Draw) (offer : Offer) (place : Place) → NoneAt place → Ends (offer_row from tx offer place)
-  unfolding offer_row
-  offer_ends from tx offer (r, mails) k = offered_ends (standing_vote r.group.core tx) from tx offer (r, mails) k
-
-  watches_end : (o : Option Past) (from : ℕ) (tx : Draw) (watch : Watch) (place : Place) → NoneAt place → Ends (watched_by o from tx watch place)
-  watches_end (Some vote) from tx watch (r, mails) k = λ some. k
-  watches_end None from tx watch (r, mails) k =
-      either_way Ends r.running (act_queued (Watched tx watch) (r, mails)) (sent_elsewhere from tx watch.coord (r, mails)) (acts_end (Watched tx watch) (r, mails)) (λ some. k)
-
-  watch_ends : (from : ℕ) (tx : Draw) (watch : Watch) (place : Place) → NoneAt place → Ends (watch_row from tx watch place)
-  unfolding watch_row
-  watch_ends from tx watch (r, mails) k = watches_end (standing_vote r.group.core tx) from tx watch (r, mails) k
-
-  vote_queued_ends : (from : ℕ) (tx : Draw) (vote : Vote) (place : Place) → NoneAt place → Ends (vote_queued from tx vote place)
-  vote_queued_ends from tx vote (r, mails) k = either_way Ends (r.running && awaits_vote r.group.core.lock tx) _ (r, mails) (acts_end (RecordVote tx vote from) (r, mails)) (λ some. k)
-
-  vote_met_ends : (vote : Vote) (o : Option Outcome) (from : ℕ) (tx part : Draw) (place : Place) → NoneAt place → Ends (vote_met vote o from tx part place)
-  vote_met_ends (Vows.Yes frozen) (Some outcome) from tx part (r, mails) k = λ some. k
-  vote_met_ends (Vows.Yes frozen) None from tx part place k = vote_queued_ends from tx (Vows.Yes frozen) place k
-  vote_met_ends (Vows.No why) outcome from tx part place k = vote_queued_ends from tx (Vows.No why) place k
-
-  vote_ends : (from : ℕ) (tx part : Draw) (vote : Vote) (place : Place) → NoneAt place → Ends (vote_row from tx part vote place)
-  unfolding vote_row
-  vote_ends from tx part vote (r, mails) k = vote_met_ends vote (noted_outcome r.group.core tx) from tx part (r, mails) k
-
-  watch_queued_ends : (from : ℕ) (tx : Draw) (vote : Past) (place : Place) → NoneAt place → Ends (watch_queued from tx vote place)
-  watch_queued_ends from tx vote (r, mails) k = either_way Ends (r.running && awaits_watch r.group.core.lock tx) _ (r, mails) (acts_end (RecordWatch tx vote from) (r, mails)) (λ some. k)
-
-  watch_met_ends : (vote : Past) (o : Option Outcome) (from : ℕ) (tx part : Draw) (place : Place) → NoneAt place → Ends (watch_met vote o from tx part place)
-  watch_met_ends Cast.Yes (Some outcome) from tx part (r, mails) k = λ some. k
-  watch_met_ends Cast.Yes None from tx part place k = watch_queued_ends from tx Cast.Yes place k
-  watch_met_ends (Cast.No why) outcome from tx part place k = watch_queued_ends from tx (Cast.No why) place k
-  watch_met_ends Cast.Ended outcome from tx part place k = watch_queued_ends from tx Cast.Ended place k
-
-  watched_ends : (from : ℕ) (tx part : Draw) (vote : Past) (place : Place) → NoneAt place → Ends (watched_row from tx part vote place)
-  unfolding watched_row
-  watched_ends from tx part vote (r, mails) k = watch_met_ends vote (noted_outcome r.group.core tx) from tx part (r, mails) k
-
-  elsewhere_none : (from : ℕ) (tx : Draw) (hint : Option ℕ) (place : Place) → NoneAt place → NoneAt (elsewhere_row from tx hint place)
-  unfolding elsewhere_row
-  elsewhere_none from tx hint (r, mails) k = either_way NoneAt (settled r) (r, asked_next r.group.core.lock r.me r.group.core from tx hint mails) (r, mails) k k
-
-  outcome_ends : (tx : Draw) (outcome : Outcome) (place : Place) → NoneAt place → Ends (outcome_row tx outcome place)
-  unfolding outcome_row
-  outcome_ends tx outcome (r, mails) k = either_way Ends (r.running && is_bound r.group.core.lock tx) _ (r, mails) (acts_end (Finish tx outcome) (r, mails)) (λ some. k)
-
-  -- ---- orders
-
-  taken_ends : (o : Option OrderRefusal) (number : ℕ) (command : Command) (place : Place) → NoneAt place → Ends (queued_or_refused o number command place)
-  taken_ends (Some why) number command (r, mails) k = λ some. k
-  taken_ends None number command (r, mails) k = pumped_ends (with_order_queued command r, mails)
-
-  pub order_ends : (drawer : Drawer) (line : OrderLine) (r : ReplicaState) → HasNoneWaiting r → Ends (ordered_row drawer line (r, []))
-  unfolding ordered_row
-  order_ends drawer line r k = taken_ends (untaken drawer line r) line.number (ordered_command (next_name drawer) line.number line.order) (r, []) k
-
   -- ---- all mail
 
   pub mailed_ends : (from : ℕ) (body : MailBody) (r : ReplicaState) → (r.running ≡ false → r.acts ≡ []) → HasNoneWaiting r → EndsAfter (mailed from body (r, []))
   unfolding mailed nack_row
-  mailed_ends from (Request group client seq op) r idle k = request_ends client seq op (r, []) k
   mailed_ends from (Prepare group ballot from_slot) r idle k = λ some. prepare_none from ballot from_slot (r, []) k
   mailed_ends from (Promise group ballot reports) r idle k = promise_ends from ballot reports (r, []) k
   mailed_ends from (Accept group ballot slot command) r idle k = λ some. accept_none from ballot slot command (r, []) k
@@ -318,14 +236,7 @@ module _ (pump_law : PumpsLeaveNone) where
   mailed_ends from (Learn group slot command) r idle k = learn_ends from slot command (r, []) k
   mailed_ends from (Ask group from_slot) r idle k = λ some. ask_none from from_slot (r, []) k
   mailed_ends from (Install group slot base sets) r idle k = λ some. install_none from slot base sets r [] idle k
-  mailed_ends from (Answer group seq answer) r idle k = λ some. k
-  mailed_ends from (TxPrepare tx offer) r idle k = offer_ends from tx offer (r, []) k
-  mailed_ends from (TxVote tx coord part vote) r idle k = vote_ends from tx part vote (r, []) k
-  mailed_ends from (TxOutcome tx part outcome) r idle k = outcome_ends tx outcome (r, []) k
-  mailed_ends from (TxElsewhere tx coord hint) r idle k = λ some. elsewhere_none from tx hint (r, []) k
-  mailed_ends from (TxWatch tx watch) r idle k = watch_ends from tx watch (r, []) k
-  mailed_ends from (TxWatched tx coord part vote) r idle k = watched_ends from tx part vote (r, []) k
-  mailed_ends from (Told order result) r idle k = λ some. k
+  mailed_ends from body r idle k = beside.beside_keeps Ends pumps_end any_talk from body (r, []) tt (λ some. k)
 
   -- a replica that is made of a state has no act
   pub made_none : (me from : ℕ) (group : Draw) (slot : ℕ) (base : Base) (sets : List (List ℕ)) → NoneAt (made_by me from group slot base sets)

@@ -2,18 +2,17 @@
 use Rattle.std.proofs.Common.{◌≡◌, ◌⊎◌, ℕ, ◌+◌, ◌-◌, ◌^◌, eqb, Bool, true, cond, List, [], ◌∷◌, ◌++◌, Option, Some, None, inl, inr, refl, sym, subst}
 use Rattle.std.specs.List.{list_any}
 use Rattle.std.proofs.lemmas.Bool.{cond-true}
-use Rattle.sc_base.specs.Definitions.{is_member, least_of}
-use Rattle.sc_node_table.specs.Values.{Command, Call, Effect, Route, OrderResult, AnswerBody, Mail, Told, Prepare, Accept, Learn, Must, Gap}
-use Rattle.sc_mail.specs.declared.bodies.AnswerBody.TheVariants as Says
+use Rattle.sc_node_table.specs.Values.{Command, Call, Effect, OrderResult, AnswerBody, Mail, Told, Prepare, Accept, Learn, Must, Gap}
 use Rattle.sc_words.specs.declared.paxos.answers.Must.TheVariants.{Value, Free as Open}
 use Rattle.sc_words.specs.paxos.PaxosDefinitions.{must}
 use Rattle.sc_paxos_law.proofs.Lemmas.{Among-left, Among-right}
 use Rattle.sc_group_table.specs.policy.PolicyDefinitions.{is_reported}
 use Rattle.sc_group_table.specs.machine.MachineDefinitions.{Group, applied}
-use Rattle.sc_node_table.specs.NodeDefinitions.{elected, ended, stopped, open_nodes, entered, answer_of, answered_or_put_back, order_result, effect_reported, announced, learnt_to, welcomed, landed, left_gone, left, is_among, looked_for, looked, executed_one, executed, install_to, asked_to_promise, welcomed_all, answered_all, sent_others, order_number, result_sent, order_reported, Found, is_act, from_backlog, from_acts, from_queues, found_by, found_for, offered, pumped, ReplicaState, Place, name_of, next, members, under_way, is_idle, before_of, begun_result, spoken_number, result_reported, begun_reported, spoken_mails, spoken}
+use Rattle.sc_node_table.specs.NodeDefinitions.{elected, ended, open_nodes, entered, answer_of, answered_or_put_back, order_result, effect_reported, announced, learnt_to, welcomed, landed, left, looked, executed_one, executed, install_to, asked_to_promise, welcomed_all, answered_all, sent_others, order_number, result_sent, order_reported, Found, is_act, from_backlog, from_acts, from_queues, found_by, found_for, offered, pumped, ReplicaState, Place, name_of, next, members, under_way, is_idle, before_of, begun_result, spoken_number, result_reported, begun_reported, spoken_mails, spoken}
 use Rattle.sc_node_table.specs.declared.Before.{Before}
 use Rattle.sc_law_walks.proofs.WalkLemmas.{either_way, executed_place, welcomed_place, next_found, Offers, pumped_place, Talk, parties, grows}
 use Rattle.sc_law_walks.proofs.Talks.{all_sent, others_sent, client_reported, desk_reported, one_answered, all_answered, all_dismissed, went_said, spoken_said}
+use Rattle.sc_live_steps.proofs.ExecutionParts.{leaving_kept, looking_kept}
 use Rattle.sc_live_answers.specs.AnswerDefinitions.{IsTold}
 
 -- more mail reports it too
@@ -81,31 +80,19 @@ module _ (n : ℕ) (result : OrderResult) where
 
   -- ---- leaders
 
-  elects : (r : ReplicaState) (mails : List Mail) → Q mails → H (elected (r, mails))
+  elects : (place : Place) → H place → H (elected place)
   unfolding elected
-  elects r mails m = either_way H (eqb r.top.round (2 ^ 32 - 1)) _ _ m (all_sent r.me Q (Prepare (name_of r) (record { round = r.top.round + 1; node = r.me }) (next r)) (λ to ms q. more_said ms _ q) (open_nodes r.sets) mails m)
+  elects (r, mails) m = either_way H (eqb r.top.round (2 ^ 32 - 1)) _ _ m (all_sent r.me Q (Prepare (name_of r) (record { round = r.top.round + 1; node = r.me }) (next r)) (λ to ms q. more_said ms _ q) (open_nodes r.sets) mails m)
 
-  ends : (hint : Option ℕ) (answer : AnswerBody) (r : ReplicaState) (mails : List Mail) → Q mails → H (ended hint answer (r, mails))
+  ends : (hint : Option ℕ) (answer : AnswerBody) (place : Place) → H place → H (ended hint answer place)
   unfolding ended
-  ends hint answer r mails m = all_dismissed r.me Q (talk r.me) (name_of r) hint answer r.backlog (answered_all r.me (name_of r) answer (under_way r) mails) (all_answered r.me Q (talk r.me) (name_of r) answer (under_way r) mails m)
-
-  gone_leaves : (gone : Option Route) (r : ReplicaState) (mails : List Mail) → Q mails → H (left_gone gone (r, mails))
-  gone_leaves (Some into) r mails m = ends None (Says.Gone into) r mails m
-  gone_leaves None r mails m = either_way H (is_member (members r) r.me) (r, mails) (stopped (Some (least_of (members r))) (r, mails)) m (ends (Some (least_of (members r))) (Says.NotLeader (Some (least_of (members r)))) r mails m)
+  ends hint answer (r, mails) m = all_dismissed r.me Q (talk r.me) (name_of r) hint answer r.backlog (answered_all r.me (name_of r) answer (under_way r) mails) (all_answered r.me Q (talk r.me) (name_of r) answer (under_way r) mails m)
 
   leaves : (place : Place) → H place → H (left place)
-  unfolding left
-  leaves (r, mails) m = either_way H r.running (left_gone r.group.core.gone (r, mails)) (r, mails) (gone_leaves r.group.core.gone r mails m) m
-
-  looks_by : (gone : Option Route) (r : ReplicaState) (mails : List Mail) → Q mails → H (looked_for gone (r, mails))
-  looks_by (Some into) r mails m = m
-  looks_by None r mails m =
-      either_way H (is_among (members r) r.hint) (r, mails) _ m
-      (either_way H (eqb (least_of (members r)) r.me) (elected (record r { hint = Some r.me }, mails)) (record r { hint = Some (least_of (members r)) }, mails) (elects (record r { hint = Some r.me }) mails m) m)
+  leaves place m = leaving_kept H ends place m
 
   looks : (place : Place) → H place → H (looked place)
-  unfolding looked
-  looks (r, mails) m = either_way H r.running (r, mails) (looked_for r.group.core.gone (r, mails)) m (looks_by r.group.core.gone r mails m)
+  looks place m = looking_kept H elects (λ hint r mails q. q) place m
 
   -- ---- entries
 

@@ -4,8 +4,8 @@ use Rattle.std.specs.Prelude.{is_some}
 use Rattle.std.specs.Option.{option_map}
 use Rattle.std.specs.List.{filter, list_any}
 use Rattle.std.proofs.lemmas.Bool.{cond_both, and_parts}
-use Rattle.sc_base.specs.Definitions.{Each, is_member, least_of}
-use Rattle.sc_node_table.specs.Values.{Ballot, Draw, Command, Call, Base, Effect, Route, OrderResult, AnswerBody, Mail, Prepare, Accept, Learn, Install, Must, Flight, Report}
+use Rattle.sc_base.specs.Definitions.{Each, is_member}
+use Rattle.sc_node_table.specs.Values.{Ballot, Draw, Command, Call, Base, Effect, OrderResult, AnswerBody, Mail, Prepare, Accept, Learn, Install, Must, Flight, Report}
 use Rattle.sc_mail.specs.declared.bodies.AnswerBody.TheVariants as Answers
 use Rattle.sc_law_entries.proofs.HistoryProofs.HistoryLemmas.{applied_same}
 use Rattle.sc_group_table.specs.machine.MachineDefinitions.{child_by, Group, base_of, applied}
@@ -16,9 +16,10 @@ use Rattle.sc_words.specs.declared.paxos.answers.Must.TheVariants.{Free as Open}
 use Rattle.sc_words.specs.paxos.PaxosDefinitions.{below, LeaderState, must, must_without, flight_at, without_flight_at, names_above, chosen_value}
 use Rattle.sc_words.proofs.PaxosProofs.PaxosLemmas.{Each-append}
 use Rattle.sc_words.proofs.PaxosProofs.ListLemmas.{Each-from as each_among}
-use Rattle.sc_node_table.specs.NodeDefinitions.{open_nodes, elected, ended, stopped, saw, entered, answer_of, answered_or_put_back, order_result, effect_reported, announced, learnt_to, welcomed, slot_lost, landed, left_gone, left, is_among, looked_for, looked, executed_one, child_at, next_child, has_room, next_ready, ending, executed_ready, executed, install_to, asked_to_promise, welcomed_all, sent, answered_all, sent_others, order_number, Found, is_act, next_queued, from_backlog, from_acts, from_queues, found_by, found_for, offered, pumped_from, pumped, ReplicaState, Place, Executed, childless, name_of, next, members, flying, settled, may_offer, first_set, listed, taken_at, taken_from, under_way, is_idle, open_slots, last_slot, forgotten, at_slot, without_slot, before_of, spoken}
+use Rattle.sc_node_table.specs.NodeDefinitions.{open_nodes, elected, ended, stopped, saw, entered, answer_of, answered_or_put_back, order_result, effect_reported, announced, learnt_to, welcomed, slot_lost, landed, left, looked, executed_one, child_at, next_child, has_room, next_ready, ending, executed_ready, executed, install_to, asked_to_promise, welcomed_all, sent, answered_all, sent_others, order_number, Found, is_act, next_queued, from_backlog, from_acts, from_queues, found_by, found_for, offered, pumped_from, pumped, ReplicaState, Place, Executed, childless, name_of, next, members, flying, settled, may_offer, first_set, listed, taken_at, taken_from, under_way, is_idle, open_slots, last_slot, forgotten, at_slot, without_slot, before_of, spoken}
 use Rattle.sc_node_table.specs.declared.Before.{Before}
 use Rattle.sc_law_walks.proofs.WalkLemmas.{executed_place, either_way}
+use Rattle.sc_live_steps.proofs.ExecutionParts.{leaving_kept, looking_kept}
 use Rattle.sc_live_answers.proofs.WorkProofs.Affairs.{Affair, AreGood}
 use Rattle.sc_live_answers.proofs.WorkProofs.WorkMail.{one_sent, all_sent, others_sent, desk_reported, all_answered, none_dismissed, spoken_said}
 
@@ -243,23 +244,8 @@ module _ (a : Affair) (g : Draw) where
     f.1,
   )
 
-  gone_fine : (gone : Option Route) (place : Place) → Fine place → Fine (left_gone gone place)
-  gone_fine (Some into) place f = ended_fine None (Answers.Gone into) place f
-  gone_fine None (r, mails) f = either_way Fine (is_member (members r) r.me) (r, mails) (stopped (Some (least_of (members r))) (r, mails)) f (stopped_fine (Some (least_of (members r))) (r, mails) f)
-
-  left_fine : (place : Place) → Fine place → Fine (left place)
-  unfolding left
-  left_fine (r, mails) f = either_way Fine r.running (left_gone r.group.core.gone (r, mails)) (r, mails) (gone_fine r.group.core.gone (r, mails) f) f
-
-  looked_for_fine : (gone : Option Route) (place : Place) → Fine place → Fine (looked_for gone place)
-  looked_for_fine (Some into) place f = f
-  looked_for_fine None (r, mails) f =
-      either_way Fine (is_among (members r) r.hint) (r, mails) _ f
-      (either_way Fine (eqb (least_of (members r)) r.me) (elected (record r { hint = Some r.me }, mails)) (record r { hint = Some (least_of (members r)) }, mails) (elected_fine (record r { hint = Some r.me }, mails) f) f)
-
   pub looked_fine : (place : Place) → Fine place → Fine (looked place)
-  unfolding looked
-  looked_fine (r, mails) f = either_way Fine r.running (r, mails) (looked_for r.group.core.gone (r, mails)) f (looked_for_fine r.group.core.gone (r, mails) f)
+  looked_fine place f = looking_kept Fine elected_fine (λ hint r mails k. k) place f
 
   entered_goes : (counted : Bool) (command : Command) (r : ReplicaState) (mails : List Mail) → Does command → (counted ≡ false → r.leader.flights ≡ []) → Fine (r, mails) → Goes counted (applied r.group command).0 (entered command r, mails)
   unfolding entered forgotten
@@ -283,7 +269,7 @@ module _ (a : Affair) (g : Draw) where
       let k4 : Goes counted after place4 = welcomed_goes counted after (members r) place3 (a.adds g r.group command f.0.5 d) k3 in
       let place5 : Place = landed counted (next r) command place4 in
       let f5 : Fine place5 = landed_fine counted (next r) command place4 k4.1 k4.0 in
-      looked_fine (left place5) (left_fine place5 f5)
+      looked_fine (left place5) (leaving_kept Fine ended_fine place5 f5)
 
   no_flights : {b : Bool} {P : Type 0} → b ≡ true → b ≡ false → P
   no_flights t f = absurd (true≢false (sym t ∙ f))

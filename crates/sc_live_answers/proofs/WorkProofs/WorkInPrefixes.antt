@@ -2,7 +2,7 @@
 use Rattle.std.proofs.Common.{◌≡◌, ℕ, eqb, Bool, true, false, List, [], drop, Some, inl, inr, refl, sym, ◌∙◌, ap, subst}
 use Rattle.std.proofs.lemmas.Bool.{cases_eq}
 use Rattle.sc_base.specs.Definitions.{Each}
-use Rattle.sc_node_table.specs.Values.{Draw, Command, Noop, Call, Base, OrderLine, Mail, MailBody, Request, Answer, Prepare, Promise, Accept, Accepted, Nack, Learn, Ask, Install, TxPrepare, TxVote, TxOutcome, TxElsewhere, TxWatch, TxWatched, Told as ToldMail, Seat, Event, Deliver, Row}
+use Rattle.sc_node_table.specs.Values.{Draw, Command, Noop, Call, Base, OrderLine, Mail, MailBody, Request, Seat, Event, Deliver, Row}
 use Rattle.sc_actor.specs.Definitions.{mails, numbered, System, row_of}
 use Rattle.sc_live_orderly.specs.OrderlyDefinitions.{is_born, rest, mail_for, taken, AreInTime}
 use Rattle.sc_live_orderly.proofs.OrderlyLemmas.{in_time_before, in_time_tidy, last_in_time, TakesFirst, is_born-from, takes_first, rest-calm}
@@ -88,42 +88,12 @@ module _ (well : ScenariosAreWellBorn) (a : Affair) (begins : BeginsFree a) (wor
 -- what a mail says of a task is what it says of its affair
 says_so : (n : ℕ) (b : Bool) (told child : Draw) (body : MailBody) → SaysWork (record { number = n; group = told; name = child; splitting = b }) body → Says (affair_of n b told child) body
 says_so n false told child (Request group client seq op) q = q
-says_so n false told child (Answer group seq answer) q = q
-says_so n false told child (Learn group slot command) q = q
-says_so n false told child (Install group slot base sets) q = q
-says_so n false told child (TxPrepare tx offer) q = q
-says_so n false told child (TxVote tx coord part vote) q = q
-says_so n false told child (Prepare group ballot from_slot) q = q
-says_so n false told child (Promise group ballot reports) q = q
-says_so n false told child (Accept group ballot slot command) q = q
-says_so n false told child (Accepted group ballot slot) q = q
-says_so n false told child (Nack group promised) q = q
-says_so n false told child (Ask group from_slot) q = q
-says_so n false told child (TxOutcome tx part outcome) q = q
-says_so n false told child (TxElsewhere tx coord hint) q = q
-says_so n false told child (TxWatch tx watch) q = q
-says_so n false told child (TxWatched tx coord part vote) q = q
-says_so n false told child (ToldMail order result) q = q
+says_so n false told child _ q = q
 says_so n true told child _ q = q
 
 says_back : (n : ℕ) (b : Bool) (told child : Draw) (body : MailBody) → Says (affair_of n b told child) body → SaysWork (record { number = n; group = told; name = child; splitting = b }) body
 says_back n false told child (Request group client seq op) q = q
-says_back n false told child (Answer group seq answer) q = q
-says_back n false told child (Learn group slot command) q = q
-says_back n false told child (Install group slot base sets) q = q
-says_back n false told child (TxPrepare tx offer) q = q
-says_back n false told child (TxVote tx coord part vote) q = q
-says_back n false told child (Prepare group ballot from_slot) q = q
-says_back n false told child (Promise group ballot reports) q = q
-says_back n false told child (Accept group ballot slot command) q = q
-says_back n false told child (Accepted group ballot slot) q = q
-says_back n false told child (Nack group promised) q = q
-says_back n false told child (Ask group from_slot) q = q
-says_back n false told child (TxOutcome tx part outcome) q = q
-says_back n false told child (TxElsewhere tx coord hint) q = q
-says_back n false told child (TxWatch tx watch) q = q
-says_back n false told child (TxWatched tx coord part vote) q = q
-says_back n false told child (ToldMail order result) q = q
+says_back n false told child _ q = q
 says_back n true told child _ q = q
 
 held_so : (n : ℕ) (b : Bool) (told child name : Draw) (r : ReplicaState) → IsAtWork (record { number = n; group = told; name = child; splitting = b }) name r → HeldSo (affair_of n b told child) name r

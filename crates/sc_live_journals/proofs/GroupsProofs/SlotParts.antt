@@ -1,21 +1,20 @@
 -- What a replica has in flight and ready stays from its next slot on by the parts of its rows.
-use Rattle.std.proofs.Common.{◌≡◌, ℕ, ◌+◌, ◌-◌, ◌^◌, ◌≤◌, ◌&&◌, nat_le, eqb, Bool, true, false, true≢false, cond, List, [], ◌∷◌, ◌++◌, length, Option, Some, None, refl, sym, ◌∙◌, ap, subst, arith}
+use Rattle.std.proofs.Common.{◌≡◌, ℕ, ◌+◌, ◌-◌, ◌^◌, ◌≤◌, ◌&&◌, nat_le, eqb, Bool, true, false, true≢false, cond, List, [], ◌∷◌, length, Option, Some, None, refl, sym, ◌∙◌, ap, subst, arith}
 use Rattle.std.specs.Prelude.{is_some}
 use Rattle.std.specs.List.{list_any}
 use Rattle.std.proofs.lemmas.Bool.{cond_both, and_parts}
-use Rattle.sc_node_table.specs.Values.{Ballot, Command, Noop, Call, Effect, Route, OrderResult, AnswerBody, Mail, Must, Gap, Flight}
+use Rattle.sc_node_table.specs.Values.{Ballot, Command, Noop, Effect, AnswerBody, Mail, Must, Gap, Flight}
 use Rattle.sc_mail.specs.declared.bodies.AnswerBody.TheVariants as Says
-use Rattle.sc_base.specs.Definitions.{is_member, least_of}
 use Rattle.sc_group_table.specs.machine.MachineDefinitions.{applied}
 use Rattle.sc_words.specs.declared.paxos.answers.Must.TheVariants.{Value, Free as Open}
 use Rattle.sc_words.specs.paxos.PaxosDefinitions.{below, must, flight_at, new_leader, without_flight}
-use Rattle.sc_node_table.specs.NodeDefinitions.{has_act, with_act, act_queued, elected, ended, stopped, saw, entered, answer_of, answered_or_put_back, order_result, effect_reported, announced, learnt_to, welcomed, landed, left_gone, left, is_among, looked_for, looked, executed_one, has_room, next_ready, next_child, ending, executed_ready, all_ready, executed, install_to, asked_to_promise, welcomed_all, Found, is_act, from_backlog, from_acts, from_queues, found_by, found_for, offered, pumped_from, pumped, put_back, ReplicaState, Place, Executed, childless, flying, next, members, settled, may_offer, first_set, taken_at, under_way, is_idle, last_slot, forgotten, at_slot, without_slot, before_of, spoken}
-use Rattle.sc_node_table.specs.declared.Before.{Before}
-use Rattle.sc_law_walks.proofs.WalkLemmas.{entered_next, welcomed_place, landed_place, either_way}
+use Rattle.sc_node_table.specs.NodeDefinitions.{elected, ended, stopped, saw, entered, announced, learnt_to, welcomed, landed, left, looked, executed_one, has_room, next_ready, next_child, ending, executed_ready, all_ready, executed, install_to, Found, is_act, from_backlog, from_acts, from_queues, found_by, found_for, offered, pumped_from, pumped, put_back, ReplicaState, Place, Executed, childless, flying, next, members, settled, may_offer, first_set, taken_at, under_way, is_idle, last_slot, forgotten, at_slot, without_slot, before_of, spoken}
+use Rattle.sc_law_walks.proofs.WalkLemmas.{entered_next, landed_place, either_way}
 use Rattle.sc_live_journals.specs.groups.GroupDefinitions.{HasFrom, IsSlotKept}
 use Rattle.sc_live_journals.proofs.GroupsProofs.SlotLists.{fly_past, fly_pushed, wait_past}
 use Rattle.sc_live_journals.proofs.GroupsProofs.LeadersAtRest.{none_mapped, none_first}
 use Rattle.sc_node_table.proofs.Lemmas.{one-shorter}
+use Rattle.sc_live_steps.proofs.ExecutionParts.{entry_reported, leaving_kept, looking_kept}
 use Rattle.sc_live_steps.proofs.FollowingProofs.FollowingLemmas.{none_there as none_is}
 use Rattle.std.proofs.lemmas.List.{nil_from_length}
 
@@ -64,58 +63,8 @@ module _ (n m : ℕ) (d : Bool) where
   unfolding install_to
   sent_well node (r, mails) k = k
 
-  asked_well : (node : ℕ) (place : Place) → W place → W (asked_to_promise node place)
-  asked_well node (r, mails) k = either_way W r.leader.is_first _ _ k k
-
-  welcomed_well : (nodes : List ℕ) (place : Place) → W place → W (welcomed_all nodes place)
-  unfolding welcomed_all
-  welcomed_well [] place k = k
-  welcomed_well (node ∷ nodes) place k = welcomed_well nodes (asked_to_promise node (install_to node place)) (asked_well node (install_to node place) (sent_well node place k))
-
-  -- ---- what is reported of an entry
-
-  told_well : (answer : Option AnswerBody) (command : Command) (place : Place) → W place → W (answered_or_put_back answer command place)
-  unfolding answered_or_put_back put_back
-  told_well (Some answer) (Call client seq op) (r, mails) k = k
-  told_well None (Call client seq op) (r, mails) k = k
-  told_well (Some answer) _ place k = k
-  told_well None _ place k = k
-
-  effect_well : (result : Option OrderResult) (command : Command) (place : Place) → W place → W (effect_reported result command place)
-  unfolding effect_reported
-  effect_well None command place k = k
-  effect_well (Some result) command (r, mails) k = k
-
-  announced_well : (counted : Bool) (effect : Effect) (command : Command) (place : Place) → W place → W (announced counted effect command place)
-  unfolding announced
-  announced_well counted effect command place k =
-      effect_well (order_result command effect) command (cond counted (answered_or_put_back (answer_of effect) command place) place) (either_way W counted (answered_or_put_back (answer_of effect) command place) place (told_well (answer_of effect) command place k) k)
-
-  spoken_well : (counted : Bool) (before : Before) (effect : Effect) (command : Command) (place : Place) → W place → W (spoken counted before effect command place)
-  unfolding spoken
-  spoken_well counted before effect command (r, mails) k = k
-
-  learnt_well : (counted : Bool) (nodes : List ℕ) (slot : ℕ) (command : Command) (place : Place) → W place → W (learnt_to counted nodes slot command place)
-  unfolding learnt_to
-  learnt_well counted nodes slot command (r, mails) k = either_way W counted _ _ k k
-
-  gone_well : (gone : Option Route) (place : Place) → W place → W (left_gone gone place)
-  gone_well (Some into) place k = ended_well None (Says.Gone into) place k
-  gone_well None (r, mails) k = either_way W (is_member (members r) r.me) (r, mails) (stopped (Some (least_of (members r))) (r, mails)) k (ended_well (Some (least_of (members r))) (Says.NotLeader (Some (least_of (members r)))) (r, mails) k)
-
-  left_well : (place : Place) → W place → W (left place)
-  unfolding left
-  left_well (r, mails) k = either_way W r.running (left_gone r.group.core.gone (r, mails)) (r, mails) (gone_well r.group.core.gone (r, mails) k) k
-
-  looked_by : (gone : Option Route) (place : Place) → W place → W (looked_for gone place)
-  looked_by (Some into) place k = k
-  looked_by None (r, mails) k =
-      either_way W (is_among (members r) r.hint) (r, mails) _ k
-      (either_way W (eqb (least_of (members r)) r.me) (elected (record r { hint = Some r.me }, mails)) (record r { hint = Some (least_of (members r)) }, mails) (elected_well (record r { hint = Some r.me }, mails) k) k)
-
   pub looked_well : (place : Place) → W place → W (looked place)
-  unfolding looked
-  looked_well (r, mails) k = either_way W r.running (r, mails) (looked_for r.group.core.gone (r, mails)) k (looked_by r.group.core.gone (r, mails) k)
+  looked_well place k = looking_kept W elected_well (λ hint r mails q. q) place k
 
 -- ---- the pump
 
@@ -211,17 +160,11 @@ one_well counted command (r, mails) k =
     let m = next r + 1 in
     let effect : Effect = (applied r.group command).1 in
     let place0 : Place = (entered command r, mails) in
-    let place1 : Place = announced counted effect command place0 in
-    let k1 : W n m false place1 = announced_well n m false counted effect command place0 (entered_well command r mails k) in
-    let place2 : Place = spoken counted (before_of r.group.core) effect command place1 in
-    let k2 : W n m false place2 = spoken_well n m false counted (before_of r.group.core) effect command place1 k1 in
-    let place3 : Place = learnt_to counted (members r) n command place2 in
-    let k3 : W n m false place3 = learnt_well n m false counted (members r) n command place2 k2 in
-    let place4 : Place = welcomed counted (members r) place3 in
-    let k4 : W n m false place4 = welcomed_place (W n m false) (welcomed_well n m false) counted (members r) place3 k3 in
+    let place4 : Place = welcomed counted (members r) (learnt_to counted (members r) n command (spoken counted (before_of r.group.core) effect command (announced counted effect command place0))) in
+    let k4 : W n m false place4 = entry_reported (λ x. W n m false (x, [])) (λ x acts backlog q. q) counted (before_of r.group.core) effect (members r) n command place0 (entered_well command r mails k) in
     let place5 : Place = landed counted n command place4 in
     let k5 : W m m false place5 = landed_well n m counted command place4 k4 in
-    let k6 : W m m false (looked (left place5)) = looked_well m m false (left place5) (left_well m m false place5 k5) in
+    let k6 : W m m false (looked (left place5)) = looked_well m m false (left place5) (leaving_kept (W m m false) (ended_well m m false) place5 k5) in
     subst (λ x. HasFrom x (looked (left place5)).0) (sym k6.1) k6.0
 
 -- a place whose replica keeps its slots
@@ -260,10 +203,6 @@ unfolding executed
 executed_well counted command place k = (let after : Place = executed_one counted command place in pumps (all_ready after).0 (ready_well after.0.ready after (one_well counted command place k) (omega arith)))
 
 -- ---- parts of rows
-
-pub acts_kept : (act : Command) (place : Place) → K place → K (act_queued act place)
-unfolding act_queued
-acts_kept act (r, mails) k = pumps (with_act act r, mails) (either_way (λ (x : ReplicaState). IsSlotKept x) (has_act act r) r (record r { acts = r.acts ++ act ∷ [] }) k k)
 
 pub ends : (hint : Option ℕ) (answer : AnswerBody) (place : Place) → K place → K (ended hint answer place)
 ends hint answer place k = from_parts (next place.0) (ended hint answer place) (ended_well (next place.0) (next place.0) true hint answer place (to_parts place k))

@@ -3,18 +3,17 @@ use Rattle.std.proofs.Common.{◌≡◌, ℕ, ◌-◌, ◌≤◌, ◌&&◌, ◌|
 use Rattle.std.specs.Prelude.{is_some}
 use Rattle.std.proofs.lemmas.Bool.{cond_both, eqb-false}
 use Rattle.sc_base.specs.Definitions.{Drawer, next_name, same_ballot, is_member, is_majority}
-use Rattle.sc_node_table.specs.Values.{Ballot, Draw, Op, Offer, Watch, Command, Call, GiveUp, Prepared as PreparedAct, RecordVote, Finish, Watched, RecordWatch, Base, Lock, Free, Coordinating, Promised, Watching, OrderLine, OrderRefusal, Outcome, Past, Vote, AnswerBody, MailBody, Request, Answer, Prepare, Promise, Accept, Accepted, Nack, Learn, Ask, Install, TxPrepare, TxVote, TxOutcome, TxElsewhere, TxWatch, TxWatched, Told as ToldMail, Report, PrepareAnswer, AcceptAnswer, Counted, Chosen, NotYet, Flight}
-use Rattle.sc_words.specs.declared.commands.votes.Past.TheVariants as Cast
-use Rattle.sc_words.specs.declared.commands.votes.Vote.TheVariants as Vows
+use Rattle.sc_node_table.specs.Values.{Mail, Ballot, Draw, Command, GiveUp, Base, Lock, Free, Coordinating, Promised, Watching, OrderLine, OrderRefusal, MailBody, Prepare, Promise, Accept, Accepted, Nack, Learn, Ask, Install, Report, PrepareAnswer, AcceptAnswer, Counted, Chosen, NotYet, Flight}
 use Rattle.sc_mail.specs.declared.bodies.AnswerBody.TheVariants as Says
 use Rattle.sc_words.specs.declared.paxos.answers.PrepareAnswer.TheVariants as Prepared
 use Rattle.sc_words.specs.declared.paxos.answers.AcceptAnswer.TheVariants as Asked
 use Rattle.sc_words.specs.paxos.PaxosDefinitions.{prepared, accepted as accepted_by, AcceptorState, LeaderState, promise_counted, flight_at, without_flight_at, entry_at, vote_at, voters_after, kept_voters, with_voters}
-use Rattle.sc_node_table.specs.NodeDefinitions.{with_act, has_act, act_queued, stopped, saw, executed, has_room, named, jumped, ordered_command, untaken, queued_or_refused, ordered_row, wished_line, with_command, with_line, wishing, pumped, queued_number, without_request, patience, one_tick_more, waited_in, reminded, ReplicaState, Place, Executed, childless, next, members, settled, is_idle, set_at, last_slot, forgotten, born_replica, installed_replica, refused_at, queued, requested, request_row, learn_row, ask_row, looked_up, took_over, install_row, made_by, asked_again, last_entry_sent, tick_row, mailed, slots_ahead, at_slot, with_slot, noted_outcome, standing_vote, sent_elsewhere, offered_by, offer_row, watched_by, watch_row, awaits_vote, awaits_watch, vote_queued, vote_met, vote_row, watch_queued, watch_met, watched_row, elsewhere_row, is_bound, outcome_row, hinted, promise_to, prepare_row, accepted_to, took, accept_row, leads, promise_row, readied, vote_tallied, voted, accepted_row, nack_row}
-use Rattle.sc_law_walks.proofs.WalkLemmas.{promised_place, asked_place, either_way, leads_on, ended_off}
+use Rattle.sc_node_table.specs.NodeDefinitions.{with_act, has_act, stopped, saw, executed, has_room, named, jumped, ordered_command, untaken, ordered_row, wished_line, with_command, with_line, wishing, pumped, patience, one_tick_more, waited_in, reminded, ReplicaState, Place, Executed, childless, next, members, settled, is_idle, set_at, last_slot, forgotten, born_replica, installed_replica, learn_row, ask_row, looked_up, took_over, install_row, made_by, asked_again, last_entry_sent, tick_row, mailed, slots_ahead, at_slot, with_slot, hinted, promise_to, prepare_row, accepted_to, took, accept_row, leads, promise_row, readied, vote_tallied, voted, accepted_row, nack_row}
+use Rattle.sc_law_walks.proofs.WalkLemmas.{promised_place, asked_place, either_way, leads_on, ended_off, Talk, grows}
 use Rattle.sc_live_journals.specs.groups.GroupDefinitions.{FlyFrom, WaitFrom, HasFrom, IsSlotKept}
 use Rattle.sc_live_journals.proofs.GroupsProofs.SlotLists.{fly_without, fly_polled, flies_from, wait_in, in_other}
-use Rattle.sc_live_journals.proofs.GroupsProofs.SlotParts.{K, KAfter, off_done, empty_done, pumps, acts_kept, ends, self_election, sees, sends, looks, executed_well}
+use Rattle.sc_live_journals.proofs.RowsProofs.StillReplicas as beside
+use Rattle.sc_live_journals.proofs.GroupsProofs.SlotParts.{K, KAfter, off_done, empty_done, pumps, ends, self_election, sees, sends, looks, executed_well}
 use Rattle.sc_law_walks.proofs.WalkLemmas.{promise_flights}
 
 no_room : (b c : Bool) (o : Option Command) → c ≡ false → cond (b && c) o None ≡ None
@@ -23,22 +22,16 @@ no_room true false o e = refl
 no_room false c o e = refl
 
 module _ (me : ℕ) where
-  -- ---- Request
+  -- ---- mail that neither asks an acceptor nor teaches a replica, and orders
 
-  queued_well : (o : Option ℕ) (client seq : ℕ) (op : Op) (place : Place) → K place → K (queued o client seq op place)
-  unfolding queued
-  queued_well None client seq op (r, mails) k = pumps (record r { backlog = r.backlog ++ Call client seq op ∷ [] }, mails) k
-  queued_well (Some other) client seq op (r, mails) k =
-      either_way K (nat_le seq other) (r, mails) (pumped (record r { backlog = without_request r.backlog client ++ Call client seq op ∷ [] }, mails)) k (pumps (record r { backlog = without_request r.backlog client ++ Call client seq op ∷ [] }, mails) k)
+  pumps_after : (r : ReplicaState) (mails : List Mail) (acts backlog : List Command) → K (r, mails) → K (pumped (record r { acts = acts; backlog = backlog }, mails))
+  pumps_after r mails acts backlog k = pumps (record r { acts = acts; backlog = backlog }, mails) k
 
-  requested_well : (o : Option AnswerBody) (client seq : ℕ) (op : Op) (place : Place) → K place → K (requested o client seq op place)
-  unfolding requested
-  requested_well (Some answer) client seq op (r, mails) k = k
-  requested_well None client seq op (r, mails) k = queued_well (queued_number r.backlog client) client seq op (r, mails) k
+  any_talk : (r : ReplicaState) → Talk r.me (λ mails. K (r, mails))
+  any_talk r = grows r.me (λ mails. K (r, mails)) (λ mails mail k. k)
 
-  request_well : (client seq : ℕ) (op : Op) (place : Place) → K place → K (request_row client seq op place)
-  unfolding request_row
-  request_well client seq op (r, mails) k = requested_well (refused_at r.group.core.gone op r) client seq op (r, mails) k
+  pub order_well : (drawer : Drawer) (line : OrderLine) (place : Place) → K place → K (ordered_row drawer line place)
+  order_well drawer line place k = beside.order_keeps K pumps_after any_talk drawer line place k
 
   -- ---- promises and votes
 
@@ -161,66 +154,7 @@ module _ (me : ℕ) where
   unfolding install_row
   install_well from slot base sets (r, mails) k = either_way K (not (eqb (length sets) (length r.sets)) || (nat_lt last_slot slot || nat_lt slot (next r))) (r, mails) (took_over from slot base sets (r, mails)) k (over_well from slot base sets (r, mails) k)
 
-  -- ---- the parties of a transaction
-
-  offered_by_well : (o : Option Past) (from : ℕ) (tx : Draw) (offer : Offer) (place : Place) → K place → K (offered_by o from tx offer place)
-  offered_by_well (Some vote) from tx offer (r, mails) k = k
-  offered_by_well None from tx offer (r, mails) k = either_way K r.running (act_queued (PreparedAct tx offer) (r, mails)) (sent_elsewhere from tx offer.coord (r, mails)) (acts_kept (PreparedAct tx offer) (r, mails) k) k
-
-  offer_well : (from : ℕ) (tx : Draw) (offer : Offer) (place : Place) → K place → K (offer_row from tx offer place)
-  unfolding offer_row
-  offer_well from tx offer (r, mails) k = offered_by_well (standing_vote r.group.core tx) from tx offer (r, mails) k
-
-  watched_by_well : (o : Option Past) (from : ℕ) (tx : Draw) (watch : Watch) (place : Place) → K place → K (watched_by o from tx watch place)
-  watched_by_well (Some vote) from tx watch (r, mails) k = k
-  watched_by_well None from tx watch (r, mails) k = either_way K r.running (act_queued (Watched tx watch) (r, mails)) (sent_elsewhere from tx watch.coord (r, mails)) (acts_kept (Watched tx watch) (r, mails) k) k
-
-  watch_well : (from : ℕ) (tx : Draw) (watch : Watch) (place : Place) → K place → K (watch_row from tx watch place)
-  unfolding watch_row
-  watch_well from tx watch (r, mails) k = watched_by_well (standing_vote r.group.core tx) from tx watch (r, mails) k
-
-  vote_queued_well : (from : ℕ) (tx : Draw) (vote : Vote) (place : Place) → K place → K (vote_queued from tx vote place)
-  vote_queued_well from tx vote (r, mails) k = either_way K (r.running && awaits_vote r.group.core.lock tx) _ _ (acts_kept (RecordVote tx vote from) (r, mails) k) k
-
-  vote_met_well : (vote : Vote) (o : Option Outcome) (from : ℕ) (tx part : Draw) (place : Place) → K place → K (vote_met vote o from tx part place)
-  vote_met_well (Vows.Yes frozen) (Some outcome) from tx part (r, mails) k = k
-  vote_met_well (Vows.Yes frozen) None from tx part place k = vote_queued_well from tx (Vows.Yes frozen) place k
-  vote_met_well (Vows.No why) outcome from tx part place k = vote_queued_well from tx (Vows.No why) place k
-
-  vote_well : (from : ℕ) (tx part : Draw) (vote : Vote) (place : Place) → K place → K (vote_row from tx part vote place)
-  unfolding vote_row
-  vote_well from tx part vote (r, mails) k = vote_met_well vote (noted_outcome r.group.core tx) from tx part (r, mails) k
-
-  watch_queued_well : (from : ℕ) (tx : Draw) (vote : Past) (place : Place) → K place → K (watch_queued from tx vote place)
-  watch_queued_well from tx vote (r, mails) k = either_way K (r.running && awaits_watch r.group.core.lock tx) _ _ (acts_kept (RecordWatch tx vote from) (r, mails) k) k
-
-  watch_met_well : (vote : Past) (o : Option Outcome) (from : ℕ) (tx part : Draw) (place : Place) → K place → K (watch_met vote o from tx part place)
-  watch_met_well Cast.Yes (Some outcome) from tx part (r, mails) k = k
-  watch_met_well Cast.Yes None from tx part place k = watch_queued_well from tx Cast.Yes place k
-  watch_met_well (Cast.No why) outcome from tx part place k = watch_queued_well from tx (Cast.No why) place k
-  watch_met_well Cast.Ended outcome from tx part place k = watch_queued_well from tx Cast.Ended place k
-
-  watched_well : (from : ℕ) (tx part : Draw) (vote : Past) (place : Place) → K place → K (watched_row from tx part vote place)
-  unfolding watched_row
-  watched_well from tx part vote (r, mails) k = watch_met_well vote (noted_outcome r.group.core tx) from tx part (r, mails) k
-
-  elsewhere_well : (from : ℕ) (tx : Draw) (hint : Option ℕ) (place : Place) → K place → K (elsewhere_row from tx hint place)
-  unfolding elsewhere_row
-  elsewhere_well from tx hint (r, mails) k = either_way K (settled r) _ _ k k
-
-  outcome_well : (tx : Draw) (outcome : Outcome) (place : Place) → K place → K (outcome_row tx outcome place)
-  unfolding outcome_row
-  outcome_well tx outcome (r, mails) k = either_way K (r.running && is_bound r.group.core.lock tx) _ _ (acts_kept (Finish tx outcome) (r, mails) k) k
-
-  -- ---- orders, and a tick
-
-  taken_well : (o : Option OrderRefusal) (number : ℕ) (command : Command) (place : Place) → K place → K (queued_or_refused o number command place)
-  taken_well (Some why) number command (r, mails) k = k
-  taken_well None number command (r, mails) k = pumps (record r { backlog = r.backlog ++ command ∷ [] }, mails) k
-
-  pub order_well : (drawer : Drawer) (line : OrderLine) (place : Place) → K place → K (ordered_row drawer line place)
-  unfolding ordered_row
-  order_well drawer line (r, mails) k = taken_well (untaken drawer line r) line.number (ordered_command (next_name drawer) line.number line.order) (r, mails) k
+  -- ---- a tick
 
   waited_well : (lock : Lock) (r : ReplicaState) → IsSlotKept r → IsSlotKept (waited_in lock r)
   waited_well Free r k = k
@@ -261,7 +195,6 @@ module _ (me : ℕ) where
 
   pub mailed_well : (from : ℕ) (body : MailBody) (place : Place) → K place → KAfter (mailed from body place)
   unfolding mailed
-  mailed_well from (Request group client seq op) place k = request_well client seq op place k
   mailed_well from (Prepare group ballot from_slot) place k = prepare_well from ballot from_slot place k
   mailed_well from (Promise group ballot reports) place k = promise_row_well from ballot reports place k
   mailed_well from (Accept group ballot slot command) place k = accept_well from ballot slot command place k
@@ -270,14 +203,7 @@ module _ (me : ℕ) where
   mailed_well from (Learn group slot command) place k = learn_well from slot command place k
   mailed_well from (Ask group from_slot) place k = ask_well from from_slot place k
   mailed_well from (Install group slot base sets) place k = install_well from slot base sets place k
-  mailed_well from (Answer group seq answer) place k = k
-  mailed_well from (TxPrepare tx offer) place k = offer_well from tx offer place k
-  mailed_well from (TxVote tx coord part vote) place k = vote_well from tx part vote place k
-  mailed_well from (TxOutcome tx part outcome) place k = outcome_well tx outcome place k
-  mailed_well from (TxElsewhere tx coord hint) place k = elsewhere_well from tx hint place k
-  mailed_well from (TxWatch tx watch) place k = watch_well from tx watch place k
-  mailed_well from (TxWatched tx coord part vote) place k = watched_well from tx part vote place k
-  mailed_well from (ToldMail order result) place k = k
+  mailed_well from body place k = beside.beside_keeps K pumps_after any_talk from body place tt k
 
   -- ---- births, and a replica that is made of a state
 

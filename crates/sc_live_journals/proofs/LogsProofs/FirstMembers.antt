@@ -64,15 +64,7 @@ module _ (scenario : Scenario) where
   -- so does each line of the schedule
   line_nodes : (clients : List Asks) (line : SchedLine) → IsBoundedLine scenario.nodes clients line → OrdersOnly OrdersNodes (line_of line)
   line_nodes clients (scheduled.Told node line) bounded = λ name. ordered_nodes line.order bounded.1 name line.number
-  line_nodes clients (scheduled.Go client) bounded = tt
-  line_nodes clients (scheduled.Deliver who k) bounded = tt
-  line_nodes clients (scheduled.Drop who k) bounded = tt
-  line_nodes clients (scheduled.Again mail) bounded = tt
-  line_nodes clients (scheduled.Tick who) bounded = tt
-  line_nodes clients (scheduled.Crash node) bounded = tt
-  line_nodes clients (scheduled.Settle most) bounded = tt
-  line_nodes clients (scheduled.Free most workers) bounded = tt
-  line_nodes clients (scheduled.Storm number most) bounded = tt
+  line_nodes clients _ bounded = tt
 
   -- and so do all lines
   pub lines_nodes : (clients : List Asks) (lines : List SchedLine) → Each (IsBoundedLine scenario.nodes clients) lines → Each (OrdersOnly OrdersNodes) (map line_of lines)

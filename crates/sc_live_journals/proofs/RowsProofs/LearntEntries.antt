@@ -1,13 +1,11 @@
 -- A replica with nothing ready that learns the next entry has the state after it, and nothing ready.
 use Rattle.std.proofs.Common.{◌≡◌, ℕ, ◌-◌, ◌^◌, ◌≤◌, ◌&&◌, nat_lt, eqb, false, cond, List, [], Option, Some, None, refl, sym, ◌∙◌, ap, subst}
 use Rattle.std.proofs.lemmas.Bool.{cond-true, cond-false, eq-eqb, le-ltb}
-use Rattle.sc_node_table.specs.Values.{Command, Noop, Effect, Route, OrderResult, AnswerBody, Ask, Learn}
-use Rattle.sc_mail.specs.declared.bodies.AnswerBody.TheVariants as Says
-use Rattle.sc_base.specs.Definitions.{is_member, least_of}
+use Rattle.sc_node_table.specs.Values.{Command, Noop, Effect, AnswerBody, Mail, Ask, Learn}
 use Rattle.sc_group_table.specs.machine.MachineDefinitions.{applied}
-use Rattle.sc_node_table.specs.declared.Before.{Before}
-use Rattle.sc_node_table.specs.NodeDefinitions.{elected, ended, stopped, entered, order_result, effect_reported, announced, learnt_to, welcomed, landed, left_gone, left, is_among, looked_for, looked, executed_one, has_room, next_ready, executed, sent, offered, pumped, put_back, ReplicaState, Place, Executed, childless, name_of, next, members, last_slot, forgotten, learn_row, mailed, at_slot, without_slot, before_of, spoken}
+use Rattle.sc_node_table.specs.NodeDefinitions.{elected, ended, entered, announced, learnt_to, welcomed, landed, left, executed_one, has_room, next_ready, executed, sent, offered, pumped, put_back, ReplicaState, Place, Executed, childless, name_of, next, members, last_slot, forgotten, learn_row, mailed, at_slot, without_slot, before_of, spoken}
 use Rattle.sc_law_walks.proofs.WalkLemmas.{executed_place, landed_place, either_way}
+use Rattle.sc_live_steps.proofs.ExecutionParts.{entry_reported, leaving_kept, looking_kept}
 use Rattle.sc_live_journals.specs.rows.RowDefinitions.{IsPast, LearntEntriesAreExecuted}
 use Rattle.sc_law_walks.proofs.WalkLemmas.{pumped_freely}
 
@@ -33,26 +31,8 @@ module _ (command : Command) (r : ReplicaState) where
 
   -- ---- the parts of an entry
 
-  effect_past : (result : Option OrderResult) (place : Place) → Past place → Past (effect_reported result command place)
-  unfolding effect_reported
-  effect_past None place k = k
-  effect_past (Some result) (q, mails) k = k
-
-  announced_past : (effect : Effect) (place : Place) → Past place → Past (announced false effect command place)
-  unfolding announced
-  announced_past effect place k = effect_past (order_result command effect) place k
-
-  spoken_past : (before : Before) (effect : Effect) (place : Place) → Past place → Past (spoken false before effect command place)
-  unfolding spoken
-  spoken_past before effect (q, mails) k = k
-
-  learnt_past : (nodes : List ℕ) (slot : ℕ) (place : Place) → Past place → Past (learnt_to false nodes slot command place)
-  unfolding learnt_to
-  learnt_past nodes slot (q, mails) k = k
-
-  welcomed_past : (nodes : List ℕ) (place : Place) → Past place → Past (welcomed false nodes place)
-  unfolding welcomed
-  welcomed_past nodes (q, mails) k = k
+  queues_past : (q : ReplicaState) (acts backlog : List Command) → IsPast command r q → IsPast command r (record q { acts = acts; backlog = backlog })
+  queues_past q acts backlog k = record { group_is = k.group_is; sets_are = k.sets_are; me_is = k.me_is; ready_is = k.ready_is }
 
   landed_past : (slot : ℕ) (place : Place) → Past place → Past (landed false slot command place)
   landed_past slot place k =
@@ -63,29 +43,12 @@ module _ (command : Command) (r : ReplicaState) where
   unfolding ended
   ended_past hint answer (q, mails) k = record { group_is = k.group_is; sets_are = k.sets_are; me_is = k.me_is; ready_is = refl }
 
-  gone_past : (gone : Option Route) (place : Place) → Past place → Past (left_gone gone place)
-  gone_past (Some into) place k = ended_past None (Says.Gone into) place k
-  gone_past None (q, mails) k = either_way Past (is_member (members q) q.me) (q, mails) (stopped (Some (least_of (members q))) (q, mails)) k (ended_past (Some (least_of (members q))) (Says.NotLeader (Some (least_of (members q)))) (q, mails) k)
-
-  left_past : (place : Place) → Past place → Past (left place)
-  unfolding left
-  left_past (q, mails) k = either_way Past q.running (left_gone q.group.core.gone (q, mails)) (q, mails) (gone_past q.group.core.gone (q, mails) k) k
-
   elected_past : (place : Place) → Past place → Past (elected place)
   unfolding elected
   elected_past (q, mails) k = either_way Past (eqb q.top.round (2 ^ 32 - 1)) _ _ k (record { group_is = k.group_is; sets_are = k.sets_are; me_is = k.me_is; ready_is = refl })
 
-  looked_by : (gone : Option Route) (place : Place) → Past place → Past (looked_for gone place)
-  looked_by (Some into) place k = k
-  looked_by None (q, mails) k =
-      either_way Past (is_among (members q) q.hint) (q, mails) _ k
-      (either_way Past (eqb (least_of (members q)) q.me) (elected (record q { hint = Some q.me }, mails)) (record q { hint = Some (least_of (members q)) }, mails)
-      (elected_past (record q { hint = Some q.me }, mails) (record { group_is = k.group_is; sets_are = k.sets_are; me_is = k.me_is; ready_is = k.ready_is }))
-      (record { group_is = k.group_is; sets_are = k.sets_are; me_is = k.me_is; ready_is = k.ready_is }))
-
-  looked_past : (place : Place) → Past place → Past (looked place)
-  unfolding looked
-  looked_past (q, mails) k = either_way Past q.running (q, mails) (looked_for q.group.core.gone (q, mails)) k (looked_by q.group.core.gone (q, mails) k)
+  hinted_past : (hint : Option ℕ) (q : ReplicaState) (mails : List Mail) → Past (q, mails) → Past (record q { hint = hint }, mails)
+  hinted_past hint q mails k = record { group_is = k.group_is; sets_are = k.sets_are; me_is = k.me_is; ready_is = k.ready_is }
 
   entered_past : r.ready ≡ [] → IsPast command r (entered command r)
   unfolding entered forgotten
@@ -96,16 +59,10 @@ module _ (command : Command) (r : ReplicaState) where
   one_past none =
       let effect : Effect = (applied r.group command).1 in
       let place0 : Place = (entered command r, []) in
-      let place1 : Place = announced false effect command place0 in
-      let k1 : Past place1 = announced_past effect place0 (entered_past none) in
-      let place2 : Place = spoken false (before_of r.group.core) effect command place1 in
-      let k2 : Past place2 = spoken_past (before_of r.group.core) effect place1 k1 in
-      let place3 : Place = learnt_to false (members r) (next r) command place2 in
-      let k3 : Past place3 = learnt_past (members r) (next r) place2 k2 in
-      let place4 : Place = welcomed false (members r) place3 in
-      let k4 : Past place4 = welcomed_past (members r) place3 k3 in
+      let place4 : Place = welcomed false (members r) (learnt_to false (members r) (next r) command (spoken false (before_of r.group.core) effect command (announced false effect command place0))) in
+      let k4 : Past place4 = entry_reported (IsPast command r) queues_past false (before_of r.group.core) effect (members r) (next r) command place0 (entered_past none) in
       let place5 : Place = landed false (next r) command place4 in
-      looked_past (left place5) (left_past place5 (landed_past (next r) place4 k4))
+      looking_kept Past elected_past hinted_past (left place5) (leaving_kept Past ended_past place5 (landed_past (next r) place4 k4))
 
   none_ready : (place : Place) → Past place → next_ready place.0 ≡ None
   none_ready place k = either_way (λ (o : Option Command). o ≡ None) (place.0.running && has_room place.0) (at_slot place.0.ready (next place.0)) None (ap (λ es. at_slot es (next place.0)) k.ready_is) refl

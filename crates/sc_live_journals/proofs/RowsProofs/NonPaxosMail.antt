@@ -41,10 +41,10 @@ module _ (r : ReplicaState) (other : Draw) where
   }
 
   beside_keeps : (from : ℕ) (body : MailBody) (place : Place) → beside.IsBeside body → Keeps place → Keeps (mailed from body place).0
-  beside_keeps from body place a k = beside.beside_keeps Keeps (beside.still_pumps Keeps (λ p kept. kept.off)) (λ q mails acts backlog kept. with_queues q mails acts backlog q.top kept) with_talk from body place a k
+  beside_keeps from body place a k = beside.beside_keeps Keeps (beside.still_pumps Keeps (λ p kept. kept.off) (λ q mails acts backlog kept. with_queues q mails acts backlog q.top kept)) with_talk from body place a k
 
   order_leaves : (drawer : Drawer) (line : OrderLine) → Keeps (r, []) → Keeps (ordered_row drawer line (r, []))
-  order_leaves drawer line k = beside.order_keeps Keeps (beside.still_pumps Keeps (λ p kept. kept.off)) (λ q mails acts backlog kept. with_queues q mails acts backlog q.top kept) with_talk drawer line (r, []) k
+  order_leaves drawer line k = beside.order_keeps Keeps (beside.still_pumps Keeps (λ p kept. kept.off) (λ q mails acts backlog kept. with_queues q mails acts backlog q.top kept)) with_talk drawer line (r, []) k
 
   -- ---- Nack
 

@@ -1,8 +1,8 @@
--- What holds of a replica with its mails, and is kept by its pump as by that of one that does not run, is kept by a request, by the mail of a transaction, by mail for clients and the desk, and by an order, where what waits is nothing to it.
+-- What holds of a replica with its mails, and is kept by its pump after any change of what waits, is kept by a request, by the mail of a transaction, by mail for clients and the desk, and by an order.
 use Rattle.std.proofs.Common.{◌≡◌, ℕ, nat_le, false, List, [], ◌∷◌, ◌++◌, Option, Some, None, sym, subst}
 use Rattle.sc_base.specs.Definitions.{Drawer, next_name}
 use Rattle.sc_node_table.specs.Values.{Op, Command, Call, OrderLine, OrderRefusal, Refused, AnswerBody, Mail, MailBody, Request, Answer, TxPrepare, TxVote, TxOutcome, TxElsewhere, TxWatch, TxWatched, Told}
-use Rattle.sc_node_table.specs.NodeDefinitions.{has_act, with_act, act_queued, ordered_command, untaken, queued_or_refused, ordered_row, pumped, queued_number, without_request, ReplicaState, Place, name_of, refused_at, queued, requested, request_row, mailed}
+use Rattle.sc_node_table.specs.NodeDefinitions.{has_act, act_queued, ordered_command, untaken, queued_or_refused, ordered_row, pumped, queued_number, without_request, ReplicaState, Place, name_of, refused_at, queued, requested, request_row, mailed}
 use Rattle.sc_law_walks.proofs.WalkLemmas.{Talk, Parties, parties, TransactionParts, idle_pump, either_way}
 use Rattle.sc_law_walks.proofs.TransactionRows.{offer_keeps, watch_keeps, vote_keeps, watched_keeps, elsewhere_keeps, outcome_keeps}
 use Rattle.sc_law_walks.proofs.Talks.{vote_reported, watch_reported, outcome_said, next_one_asked}
@@ -21,24 +21,24 @@ IsBeside (Told order result) = Unit {0}
 IsBeside _ = ⊥
 
 -- one that does not run pumps nothing
-pub still_pumps : (F : Place → Type 0) → ((place : Place) → F place → place.0.running ≡ false) → (place : Place) → F place → F (pumped place)
-still_pumps F off place k = subst F (sym (idle_pump place (off place k))) k
+pub still_pumps : (F : Place → Type 0) → ((place : Place) → F place → place.0.running ≡ false) → ((r : ReplicaState) (mails : List Mail) (acts backlog : List Command) → F (r, mails) → F (record r { acts = acts; backlog = backlog }, mails))
+    → (r : ReplicaState) (mails : List Mail) (acts backlog : List Command) → F (r, mails) → F (pumped (record r { acts = acts; backlog = backlog }, mails))
+still_pumps F off queues r mails acts backlog k = (let q = queues r mails acts backlog k in subst F (sym (idle_pump (record r { acts = acts; backlog = backlog }, mails) (off (record r { acts = acts; backlog = backlog }, mails) q))) q)
 
-module _ (F : Place → Type 0) (pumped_keeps : (place : Place) → F place → F (pumped place)) (queues : (r : ReplicaState) (mails : List Mail) (acts backlog : List Command) → F (r, mails) → F (record r { acts = acts; backlog = backlog }, mails))
+module _ (F : Place → Type 0) (pumps : (r : ReplicaState) (mails : List Mail) (acts backlog : List Command) → F (r, mails) → F (pumped (record r { acts = acts; backlog = backlog }, mails)))
     (talk : (r : ReplicaState) → Talk r.me (λ mails. F (r, mails))) where
   act_keeps : (act : Command) (place : Place) → F place → F (act_queued act place)
   unfolding act_queued
   act_keeps act (q, mails) k =
-      pumped_keeps (with_act act q, mails) (either_way (λ (x : ReplicaState). F (x, mails)) (has_act act q) q (record q { acts = q.acts ++ act ∷ [] }) k (queues q mails (q.acts ++ act ∷ []) q.backlog k))
+      either_way (λ (x : ReplicaState). F (pumped (x, mails))) (has_act act q) q (record q { acts = q.acts ++ act ∷ [] }) (pumps q mails q.acts q.backlog k) (pumps q mails (q.acts ++ act ∷ []) q.backlog k)
 
   -- ---- Request
 
   queued_keeps : (o : Option ℕ) (client seq : ℕ) (op : Op) (place : Place) → F place → F (queued o client seq op place)
   unfolding queued
-  queued_keeps None client seq op (q, mails) k = pumped_keeps (record q { backlog = q.backlog ++ Call client seq op ∷ [] }, mails) (queues q mails q.acts (q.backlog ++ Call client seq op ∷ []) k)
+  queued_keeps None client seq op (q, mails) k = pumps q mails q.acts (q.backlog ++ Call client seq op ∷ []) k
   queued_keeps (Some seen) client seq op (q, mails) k =
-      either_way F (nat_le seq seen) (q, mails) (pumped (record q { backlog = without_request q.backlog client ++ Call client seq op ∷ [] }, mails)) k
-      (pumped_keeps (record q { backlog = without_request q.backlog client ++ Call client seq op ∷ [] }, mails) (queues q mails q.acts (without_request q.backlog client ++ Call client seq op ∷ []) k))
+      either_way F (nat_le seq seen) (q, mails) (pumped (record q { backlog = without_request q.backlog client ++ Call client seq op ∷ [] }, mails)) k (pumps q mails q.acts (without_request q.backlog client ++ Call client seq op ∷ []) k)
 
   requested_keeps : (o : Option AnswerBody) (client seq : ℕ) (op : Op) (place : Place) → F place → F (requested o client seq op place)
   unfolding requested
@@ -69,7 +69,7 @@ module _ (F : Place → Type 0) (pumped_keeps : (place : Place) → F place → 
 
   told_keeps : (o : Option OrderRefusal) (number : ℕ) (command : Command) (place : Place) → F place → F (queued_or_refused o number command place)
   told_keeps (Some why) number command (q, mails) k = (talk q).tells number (Refused why) mails k
-  told_keeps None number command (q, mails) k = pumped_keeps (record q { backlog = q.backlog ++ command ∷ [] }, mails) (queues q mails q.acts (q.backlog ++ command ∷ []) k)
+  told_keeps None number command (q, mails) k = pumps q mails q.acts (q.backlog ++ command ∷ []) k
 
   pub order_keeps : (drawer : Drawer) (line : OrderLine) (place : Place) → F place → F (ordered_row drawer line place)
   unfolding ordered_row

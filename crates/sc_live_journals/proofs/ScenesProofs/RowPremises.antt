@@ -176,16 +176,9 @@ module _ (words : ℕ → ℕ → ℕ × ℕ) (births : List (Seat Player)) (row
         answers_reach.missed words births rows seat number mail group (coord, Reply tx true (is_cast_yes vote) mail.from mail.to) c (ap (errand_by mail.from mail.to) e) refl
     node_found (TxOutcome tx part outcome) e f = answers_reach.missed words births rows seat number mail group (part, Result tx mail.to) c (ap (errand_by mail.from mail.to) e) refl
     node_found (TxElsewhere tx coord hint) e f = answers_reach.missed words births rows seat number mail group (coord, Elsewhere tx mail.to) c (ap (errand_by mail.from mail.to) e) refl
-    node_found (Accept named ballot slot command) e f = rests_missed (Accept named ballot slot command) e refl refl
-    node_found (Prepare named ballot from_slot) e f = rests_missed (Prepare named ballot from_slot) e refl refl
-    node_found (Nack named ballot) e f = rests_missed (Nack named ballot) e refl refl
-    node_found (Promise named ballot reports) e f = rests_missed (Promise named ballot reports) e refl refl
-    node_found (Accepted named ballot slot) e f = rests_missed (Accepted named ballot slot) e refl refl
-    node_found (Learn named slot command) e f = rests_missed (Learn named slot command) e refl refl
-    node_found (Ask named slot) e f = rests_missed (Ask named slot) e refl refl
-    node_found (Request named client seq op) e f = rests_missed (Request named client seq op) e refl refl
     node_found (Answer named seq answer) e f = absurd (strays (Answer named seq answer) e refl c.node c.taking)
     node_found (ToldMail order result) e f = absurd (strays (ToldMail order result) e refl c.node c.taking)
+    node_found body e f = rests_missed body e refl refl
 
   replica_found : (r : ReplicaState) → ComesTo words births rows seat number mail group r → FindsReplica births rows seat number mail group r → KeepsStage births rows seat (Deliver number)
   replica_found r c (AtLeader leads f) = leader_found r (record { comes = c; leads = leads }) mail.body refl f

@@ -172,19 +172,4 @@ module _ (name group : Draw) (ne : name ≡ group → ⊥) (node : NodeState) (f
       let place : Place = made_by node.me from named slot base sets in
       either_way Apart (not (eqb (length sets) slots_ahead) || nat_lt last_slot slot) (node, []) (with_made place node) (refl, tt)
       (new_others name place.0 node.replicas (λ i. ne (sym i ∙ (names_stay.made node.me from named slot base sets ∙ own))), quiet_errands named name place.1 (λ i. ne (sym i ∙ own)) (made_keeps node.me from named slot base sets).1)
-  unknown_apart (TxPrepare tx offer) e = answers_apart (TxPrepare tx offer) e
-  unknown_apart (TxWatch tx watch) e = answers_apart (TxWatch tx watch) e
-  unknown_apart (TxVote tx coord part vote) e = answers_apart (TxVote tx coord part vote) e
-  unknown_apart (TxWatched tx coord part vote) e = answers_apart (TxWatched tx coord part vote) e
-  unknown_apart (TxOutcome tx part outcome) e = answers_apart (TxOutcome tx part outcome) e
-  unknown_apart (TxElsewhere tx coord hint) e = answers_apart (TxElsewhere tx coord hint) e
-  unknown_apart (Accept named ballot slot command) e = answers_apart (Accept named ballot slot command) e
-  unknown_apart (Accepted named ballot slot) e = answers_apart (Accepted named ballot slot) e
-  unknown_apart (Learn named slot command) e = answers_apart (Learn named slot command) e
-  unknown_apart (Prepare named ballot from_slot) e = answers_apart (Prepare named ballot from_slot) e
-  unknown_apart (Promise named ballot reports) e = answers_apart (Promise named ballot reports) e
-  unknown_apart (Nack named promised) e = answers_apart (Nack named promised) e
-  unknown_apart (Ask named from_slot) e = answers_apart (Ask named from_slot) e
-  unknown_apart (Request named client seq op) e = answers_apart (Request named client seq op) e
-  unknown_apart (Answer named seq answer) e = answers_apart (Answer named seq answer) e
-  unknown_apart (ToldMail order result) e = answers_apart (ToldMail order result) e
+  unknown_apart body e = answers_apart body e

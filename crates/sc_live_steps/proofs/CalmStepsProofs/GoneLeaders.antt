@@ -2,7 +2,7 @@
 use Rattle.std.proofs.Common.{◌≡◌, ℕ, ◌+◌, ◌*◌, ◌≤◌, true, false, cond, List, [], ◌∷◌, length, sum_by, Option, Some, None, refl, ◌∙◌, ap, arith}
 use Rattle.std.proofs.lemmas.List.Sums.{sum_by-cons}
 use Rattle.sc_base.specs.Definitions.{client_actor}
-use Rattle.sc_node_table.specs.Values.{Draw, Command, Noop, Call, Join, Leave, Split, Begin, Prepared, RecordVote, GiveUp, Finish, Watched, RecordWatch, Route, Refused, Mail, Answer}
+use Rattle.sc_node_table.specs.Values.{Draw, Command, Call, Route, Refused, Mail, Answer}
 use Rattle.sc_words.specs.declared.commands.orders.OrderRefusal.TheVariants.{NotLeader}
 use Rattle.sc_mail.specs.declared.bodies.AnswerBody.TheVariants as Says
 use Rattle.sc_group_table.specs.machine.MachineDefinitions.{Group}
@@ -28,17 +28,7 @@ module _ (ways : Ways) where
     dismissed_most : (command : Command) (mails : List Mail) → sum (dismissed me group hint (Says.Gone into) command mails) ≤ sum mails + command_owes ways.most command
     unfolding dismissed
     dismissed_most (Call client seq op) mails = let s = sent_owes ways me (client_actor client) (Answer group seq (Says.Gone into)) mails in omega (arith, s)
-    dismissed_most Noop mails = desk Noop mails refl
-    dismissed_most (Join node order) mails = desk (Join node order) mails refl
-    dismissed_most (Leave node order) mails = desk (Leave node order) mails refl
-    dismissed_most (Split at child order) mails = desk (Split at child order) mails refl
-    dismissed_most (Begin tx body order) mails = desk (Begin tx body order) mails refl
-    dismissed_most (Prepared tx offer) mails = desk (Prepared tx offer) mails refl
-    dismissed_most (RecordVote tx vote by) mails = desk (RecordVote tx vote by) mails refl
-    dismissed_most (GiveUp tx) mails = desk (GiveUp tx) mails refl
-    dismissed_most (Finish tx outcome) mails = desk (Finish tx outcome) mails refl
-    dismissed_most (Watched tx watch) mails = desk (Watched tx watch) mails refl
-    dismissed_most (RecordWatch tx vote by) mails = desk (RecordWatch tx vote by) mails refl
+    dismissed_most command mails = desk command mails refl
 
     all_most : (backlog : List Command) (mails : List Mail) → sum (dismissed_all me group hint (Says.Gone into) backlog mails) ≤ sum mails + sum_by (command_owes ways.most) backlog
     unfolding dismissed_all

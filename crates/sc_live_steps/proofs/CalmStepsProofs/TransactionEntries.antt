@@ -3,7 +3,7 @@ use Rattle.std.proofs.Common.{◌≡◌, ℕ, ◌+◌, ◌*◌, ◌≤◌, not, 
 use Rattle.std.specs.List.{filter}
 use Rattle.std.proofs.lemmas.List.Sums.{length-filter, count_by-le-length}
 use Rattle.sc_base.specs.Definitions.{Among, is_member, with_member, least_of, united}
-use Rattle.sc_node_table.specs.Values.{Draw, Body, Offer, Watch, Command, Noop, Call, Join, Leave, Split, Begin, Prepared, RecordVote, GiveUp, Finish, Watched, RecordWatch, Core, Lock, Free, Promised, Watching, Effect, Link, Route, OrderRefusal, OrderResult, Heard, No, Outcome, Past, Vote, AnswerBody, Mail, TxPrepare, TxVote, TxOutcome, TxWatched}
+use Rattle.sc_node_table.specs.Values.{Draw, Body, Offer, Watch, Command, Call, Split, Begin, Prepared, RecordVote, Finish, Watched, RecordWatch, Core, Lock, Free, Promised, Watching, Effect, Link, Route, OrderRefusal, OrderResult, Heard, No, Outcome, Past, Vote, AnswerBody, Mail, TxPrepare, TxVote, TxOutcome, TxWatched}
 use Rattle.sc_words.specs.commands.CommandDefinitions.{is_alone, is_changed, decided_in, cast_in}
 use Rattle.sc_words.specs.declared.commands.bodies.Body.TheVariants as At
 use Rattle.sc_words.specs.declared.commands.effects.Effect.TheVariants as Was
@@ -110,18 +110,8 @@ finish_new tx outcome r =
 -- an entry that is no call sends no answer to a client
 call_passes : (o : Option AnswerBody) (command : Command) (place : Place) → is_act command ≡ true → answered_or_put_back o command place ≡ place
 unfolding answered_or_put_back
-call_passes (Some answer) Noop place fact = refl
 call_passes o (Call client seq op) place fact = absurd (true≢false (sym fact))
-call_passes (Some answer) (Join node order) place fact = refl
-call_passes (Some answer) (Leave node order) place fact = refl
-call_passes (Some answer) (Split at child order) place fact = refl
-call_passes (Some answer) (Begin tx body order) place fact = refl
-call_passes (Some answer) (Prepared tx offer) place fact = refl
-call_passes (Some answer) (RecordVote tx vote by) place fact = refl
-call_passes (Some answer) (GiveUp tx) place fact = refl
-call_passes (Some answer) (Finish tx outcome) place fact = refl
-call_passes (Some answer) (Watched tx watch) place fact = refl
-call_passes (Some answer) (RecordWatch tx vote by) place fact = refl
+call_passes (Some answer) _ place fact = refl
 call_passes None _ place fact = refl
 
 module _ (ways : Ways) where

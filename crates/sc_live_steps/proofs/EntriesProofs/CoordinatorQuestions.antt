@@ -15,13 +15,9 @@ use Rattle.sc_live_steps.specs.entries.StageEntries.{BondsAsk, KeepsMembers}
 
 question_owes : (ways : Ways) (me node : ℕ) (core : Core) (tx : Draw) (body : Body) (heard : Option Heard)
     → body_owes ways node (question me core tx body heard) ≡ asked_owes ways node (Some ((asked_link core body heard).group, is_watch (turn_of core body heard)))
-question_owes ways me node core tx At.Merge None = refl
-question_owes ways me node core tx At.Merge (Some heard) = refl
-question_owes ways me node core tx (At.Repart at) None = refl
-question_owes ways me node core tx (At.Repart at) (Some heard) = refl
-question_owes ways me node core tx (At.Migrate at) None = refl
-question_owes ways me node core tx (At.Migrate at) (Some heard) = refl
 question_owes ways me node core tx (At.Split at child) heard = refl
+question_owes ways me node core tx _ None = refl
+question_owes ways me node core tx _ (Some heard) = refl
 
 -- What a coordinator asks of a node is what the ways say that it asks, where they say what its bond says.
 pub bonds-ask : BondsAsk

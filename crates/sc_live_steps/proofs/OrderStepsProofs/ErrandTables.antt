@@ -5,7 +5,7 @@ use Rattle.std.specs.Option.{option_map}
 use Rattle.std.proofs.lemmas.Bool.{and_from, cond_both}
 use Rattle.std.proofs.lemmas.List.{append_assoc}
 use Rattle.sc_base.specs.Definitions.{same_draw}
-use Rattle.sc_node_table.specs.Values.{Draw, Body, Offer, Watch, Command, Noop, Call, Join, Leave, Split, Begin, Prepared, RecordVote, GiveUp, Finish, Watched, RecordWatch, Core, Lock, Free, Coordinating, Promised, Watching, Heard, Outcome, Past, Vote, TxPrepare, TxVote, TxOutcome, TxElsewhere, TxWatch, TxWatched, Flight}
+use Rattle.sc_node_table.specs.Values.{Draw, Body, Offer, Watch, Command, Prepared, RecordVote, GiveUp, Finish, Watched, RecordWatch, Core, Lock, Free, Coordinating, Promised, Watching, Heard, Outcome, Past, Vote, TxPrepare, TxVote, TxOutcome, TxElsewhere, TxWatch, TxWatched, Flight}
 use Rattle.sc_base.proofs.Lemmas.{same_name}
 use Rattle.sc_words.specs.declared.commands.bodies.Body.TheVariants as At
 use Rattle.sc_words.specs.declared.commands.votes.Past.TheVariants as Cast
@@ -20,84 +20,19 @@ use Rattle.sc_live_steps.proofs.OrderStepsProofs.LoneWorkPumps.{pumps-keep}
 -- ---- what has no work has no command of any kind
 
 kind_none : (act other : Command) → work_by other ≡ None → is_of_kind act other ≡ false
-kind_none Noop other e = refl
-kind_none (Call client seq op) other e = refl
-kind_none (Join node order) other e = refl
-kind_none (Leave node order) other e = refl
-kind_none (Split at child order) other e = refl
-kind_none (Begin tx body order) other e = refl
-kind_none (Prepared tx offer) Noop e = refl
-kind_none (Prepared tx offer) (Call client seq op) e = refl
-kind_none (Prepared tx offer) (Join node order) e = refl
-kind_none (Prepared tx offer) (Leave node order) e = refl
-kind_none (Prepared tx offer) (Split at child order) e = refl
-kind_none (Prepared tx offer) (Begin other body order) e = refl
 kind_none (Prepared tx offer) (Prepared other offer2) e = cc
-kind_none (Prepared tx offer) (RecordVote other vote by) e = refl
-kind_none (Prepared tx offer) (GiveUp other) e = refl
-kind_none (Prepared tx offer) (Finish other outcome) e = refl
-kind_none (Prepared tx offer) (Watched other watch) e = refl
-kind_none (Prepared tx offer) (RecordWatch other vote by) e = refl
-kind_none (RecordVote tx vote by) Noop e = refl
-kind_none (RecordVote tx vote by) (Call client seq op) e = refl
-kind_none (RecordVote tx vote by) (Join node order) e = refl
-kind_none (RecordVote tx vote by) (Leave node order) e = refl
-kind_none (RecordVote tx vote by) (Split at child order) e = refl
-kind_none (RecordVote tx vote by) (Begin other body order) e = refl
-kind_none (RecordVote tx vote by) (Prepared other offer) e = refl
+kind_none (Prepared tx offer) _ e = refl
 kind_none (RecordVote tx vote by) (RecordVote other vote2 by2) e = cc
-kind_none (RecordVote tx vote by) (GiveUp other) e = refl
-kind_none (RecordVote tx vote by) (Finish other outcome) e = refl
-kind_none (RecordVote tx vote by) (Watched other watch) e = refl
-kind_none (RecordVote tx vote by) (RecordWatch other vote2 by2) e = refl
-kind_none (GiveUp tx) Noop e = refl
-kind_none (GiveUp tx) (Call client seq op) e = refl
-kind_none (GiveUp tx) (Join node order) e = refl
-kind_none (GiveUp tx) (Leave node order) e = refl
-kind_none (GiveUp tx) (Split at child order) e = refl
-kind_none (GiveUp tx) (Begin other body order) e = refl
-kind_none (GiveUp tx) (Prepared other offer) e = refl
-kind_none (GiveUp tx) (RecordVote other vote by) e = refl
+kind_none (RecordVote tx vote by) _ e = refl
 kind_none (GiveUp tx) (GiveUp other) e = cc
-kind_none (GiveUp tx) (Finish other outcome) e = refl
-kind_none (GiveUp tx) (Watched other watch) e = refl
-kind_none (GiveUp tx) (RecordWatch other vote by) e = refl
-kind_none (Finish tx outcome) Noop e = refl
-kind_none (Finish tx outcome) (Call client seq op) e = refl
-kind_none (Finish tx outcome) (Join node order) e = refl
-kind_none (Finish tx outcome) (Leave node order) e = refl
-kind_none (Finish tx outcome) (Split at child order) e = refl
-kind_none (Finish tx outcome) (Begin other body order) e = refl
-kind_none (Finish tx outcome) (Prepared other offer) e = refl
-kind_none (Finish tx outcome) (RecordVote other vote by) e = refl
-kind_none (Finish tx outcome) (GiveUp other) e = refl
+kind_none (GiveUp tx) _ e = refl
 kind_none (Finish tx outcome) (Finish other outcome2) e = cc
-kind_none (Finish tx outcome) (Watched other watch) e = refl
-kind_none (Finish tx outcome) (RecordWatch other vote by) e = refl
-kind_none (Watched tx watch) Noop e = refl
-kind_none (Watched tx watch) (Call client seq op) e = refl
-kind_none (Watched tx watch) (Join node order) e = refl
-kind_none (Watched tx watch) (Leave node order) e = refl
-kind_none (Watched tx watch) (Split at child order) e = refl
-kind_none (Watched tx watch) (Begin other body order) e = refl
-kind_none (Watched tx watch) (Prepared other offer) e = refl
-kind_none (Watched tx watch) (RecordVote other vote by) e = refl
-kind_none (Watched tx watch) (GiveUp other) e = refl
-kind_none (Watched tx watch) (Finish other outcome) e = refl
+kind_none (Finish tx outcome) _ e = refl
 kind_none (Watched tx watch) (Watched other watch2) e = cc
-kind_none (Watched tx watch) (RecordWatch other vote by) e = refl
-kind_none (RecordWatch tx vote by) Noop e = refl
-kind_none (RecordWatch tx vote by) (Call client seq op) e = refl
-kind_none (RecordWatch tx vote by) (Join node order) e = refl
-kind_none (RecordWatch tx vote by) (Leave node order) e = refl
-kind_none (RecordWatch tx vote by) (Split at child order) e = refl
-kind_none (RecordWatch tx vote by) (Begin other body order) e = refl
-kind_none (RecordWatch tx vote by) (Prepared other offer) e = refl
-kind_none (RecordWatch tx vote by) (RecordVote other vote2 by2) e = refl
-kind_none (RecordWatch tx vote by) (GiveUp other) e = refl
-kind_none (RecordWatch tx vote by) (Finish other outcome) e = refl
-kind_none (RecordWatch tx vote by) (Watched other watch) e = refl
+kind_none (Watched tx watch) _ e = refl
 kind_none (RecordWatch tx vote by) (RecordWatch other vote2 by2) e = cc
+kind_none (RecordWatch tx vote by) _ e = refl
+kind_none _ other e = refl
 
 pub left_none : {X : Type 0} (xs ys : List X) → xs ++ ys ≡ [] → xs ≡ []
 left_none [] ys e = refl
@@ -194,13 +129,9 @@ module _ (act : Command) (work : Work) (r : ReplicaState) (fact : work_by act �
 -- ---- by the bond
 
 pub watch_is : (core : Core) (body : Body) (heard : Option Heard) → asks_watcher body heard ≡ is_watch (turn_of core body heard)
-watch_is core At.Merge None = refl
-watch_is core At.Merge (Some heard) = refl
-watch_is core (At.Repart at) None = refl
-watch_is core (At.Repart at) (Some heard) = refl
-watch_is core (At.Migrate node) None = refl
-watch_is core (At.Migrate node) (Some heard) = refl
 watch_is core (At.Split at child) heard = refl
+watch_is core _ None = refl
+watch_is core _ (Some heard) = refl
 
 module _ (core : Core) (tx asked : Draw) (turn : Turn) where
   awaits_participant : (lock : Lock) → bond_in lock core ≡ Asking tx asked turn → is_watch turn ≡ false → awaits_vote lock tx ≡ true
@@ -293,13 +224,9 @@ tables-pass = record {
 
 pub question-errand : (me node : ℕ) (core : Core) (tx : Draw) (body : Body) (heard : Option Heard)
     → errand_by me node (question me core tx body heard) ≡ Some ((asked_link core body heard).group, Question tx core.id (is_watch (turn_of core body heard)) me node)
-question-errand me node core tx At.Merge None = refl
-question-errand me node core tx At.Merge (Some heard) = refl
-question-errand me node core tx (At.Repart at) None = refl
-question-errand me node core tx (At.Repart at) (Some heard) = refl
-question-errand me node core tx (At.Migrate at) None = refl
-question-errand me node core tx (At.Migrate at) (Some heard) = refl
 question-errand me node core tx (At.Split at child) heard = refl
+question-errand me node core tx _ None = refl
+question-errand me node core tx _ (Some heard) = refl
 
 module _ (me node from : ℕ) (core : Core) (tx asked : Draw) (turn : Turn) where
   asks_there : (lock : Lock) → bond_in lock core ≡ Asking tx asked turn → IsOnly [] ((asked, Question tx core.id (is_watch turn) me node ∷ []) ∷ []) (λ name. errands_for name (asked_next lock me core from tx (Some node) []))

@@ -2,17 +2,18 @@
 use Rattle.std.proofs.Common.{◌≡◌, ℕ, ◌+◌, ◌-◌, ◌^◌, ◌&&◌, ◌||◌, not, length, append-nil, eqb, Bool, true, false, cond, List, [], ◌∷◌, ◌++◌, Option, Some, None, refl, sym, ◌∙◌, ap, subst}
 use Rattle.std.specs.Option.{option_map}
 use Rattle.std.specs.Prelude.{nat_lt, nat_le}
-use Rattle.sc_base.specs.Definitions.{same_ballot, is_member, least_of}
-use Rattle.sc_node_table.specs.Values.{Ballot, Draw, Command, Noop, Base, Effect, Route, OrderResult, AnswerBody, Mail, Accept, Ask, Install, Learn, Nack, Prepare, Promise, AcceptAnswer, PrepareAnswer, Flight, Report}
+use Rattle.sc_base.specs.Definitions.{same_ballot, is_member}
+use Rattle.sc_node_table.specs.Values.{Ballot, Draw, Command, Noop, Base, Effect, OrderResult, AnswerBody, Mail, Accept, Ask, Install, Learn, Nack, Prepare, Promise, AcceptAnswer, PrepareAnswer, Flight, Report}
 use Rattle.sc_mail.specs.declared.bodies.AnswerBody.TheVariants as Says
 use Rattle.sc_group_table.specs.machine.MachineDefinitions.{applied}
-use Rattle.sc_node_table.specs.NodeDefinitions.{saw, ended, stopped, elected, open_nodes, entered, announced, order_result, effect_reported, learnt_to, welcomed, slot_lost, landed, left_gone, left, is_among, looked_for, looked, executed_one, executed, install_to, jumped, sent, sent_all, answered_all, order_number, pumped, ReplicaState, Place, Executed, childless, name_of, next, members, flying, under_way, forgotten, last_slot, listed, mailed, learn_row, looked_up, took_over, install_row, without_slot, before_of, spoken, spoken_mails, leads, promise_row, hinted, promise_to, promised, prepare_row, accepted_to, took, accept_row, nack_row}
+use Rattle.sc_node_table.specs.NodeDefinitions.{saw, ended, stopped, elected, open_nodes, entered, announced, order_result, effect_reported, learnt_to, welcomed, slot_lost, landed, left, looked, executed_one, executed, install_to, jumped, sent, sent_all, answered_all, order_number, pumped, ReplicaState, Place, Executed, childless, name_of, next, members, flying, under_way, forgotten, last_slot, listed, mailed, learn_row, looked_up, took_over, install_row, without_slot, before_of, spoken, spoken_mails, leads, promise_row, hinted, promise_to, promised, prepare_row, accepted_to, took, accept_row, nack_row}
 use Rattle.sc_words.specs.declared.paxos.answers.AcceptAnswer.TheVariants as Asked
 use Rattle.sc_words.specs.declared.paxos.answers.Must.TheVariants.{Free as Open}
 use Rattle.sc_words.specs.declared.paxos.answers.PrepareAnswer.TheVariants as Prepared
 use Rattle.sc_words.specs.paxos.PaxosDefinitions.{accepted as accepted_by, AcceptorState, below, chosen_value, names_above, LeaderState, must, must_without, flight_at, new_leader, without_flight, without_flight_at, prepared}
 use Rattle.sc_law_walks.proofs.WalkLemmas.{idle_pump, none_ready as ready_still}
 use Rattle.sc_law_walks.specs.WalkDefinitions.{GoesOn}
+use Rattle.sc_live_steps.proofs.ExecutionParts.{leaving_kept, looking_kept}
 use Rattle.sc_live_steps.specs.orders.OrderDefinitions.{Work, works_in, works_flying, works_ready, works, errands_for, IsUnbound, Works, IsIdle, Rested, TablesRest, PromisesKeepWork}
 use Rattle.sc_live_steps.proofs.OrderStepsProofs.Errands.{errands-none, errands-all}
 use Rattle.sc_live_steps.proofs.OrderStepsProofs.LoneWorkPumps.{pump-stays, pumps-keep}
@@ -177,22 +178,6 @@ module _ (command : Command) (r : ReplicaState) (idle : IsIdle r) where
         ∙ (all_answered_none name q.me (name_of q) answer (under_way q) mails ∙ s.sends name);
   }
 
-  started_still : (went : Option Route) (q : ReplicaState) (mails : List Mail) → IsStill q mails → Still (left_gone went (q, mails))
-  started_still (Some into) q mails s = ended_still None (Says.Gone into) q mails s
-  started_still None q mails s = by (is_member (members q) q.me)
-    where
-      by : (b : Bool) → Still (cond b (q, mails) (stopped (Some (least_of (members q))) (q, mails)))
-      by true = s
-      by false = ended_still (Some (least_of (members q))) (Says.NotLeader (Some (least_of (members q)))) q mails s
-
-  left_still : (q : ReplicaState) (mails : List Mail) → IsStill q mails → Still (left (q, mails))
-  unfolding left
-  left_still q mails s = by q.running
-    where
-      by : (b : Bool) → Still (cond b (left_gone q.group.core.gone (q, mails)) (q, mails))
-      by true = started_still q.group.core.gone q mails s
-      by false = s
-
   hinted_still : (hint : Option ℕ) (q : ReplicaState) (mails : List Mail) → IsStill q mails → IsStill (record q { hint = hint }) mails
   hinted_still hint q mails s = record { acts = s.acts; backlog = s.backlog; flights = s.flights; ready = s.ready; musts = s.musts; sends = s.sends }
 
@@ -214,22 +199,8 @@ module _ (command : Command) (r : ReplicaState) (idle : IsIdle r) where
         sends = λ name. errands-all name q.me (open_nodes q.sets) (Prepare (name_of q) (record { round = q.top.round + 1; node = q.me }) (next q)) mails (λ to. refl) ∙ s.sends name;
       }
 
-  look_still : (went : Option Route) (q : ReplicaState) (mails : List Mail) → IsStill q mails → Still (looked_for went (q, mails))
-  look_still (Some into) q mails s = s
-  look_still None q mails s = by (is_among (members q) q.hint) (eqb (least_of (members q)) q.me)
-    where
-      by : (c l : Bool) → Still (cond c (q, mails) (cond l (elected (record q { hint = Some q.me }, mails)) (record q { hint = Some (least_of (members q)) }, mails)))
-      by true l = s
-      by false true = elected_still (record q { hint = Some q.me }) mails (hinted_still (Some q.me) q mails s)
-      by false false = hinted_still (Some (least_of (members q))) q mails s
-
   looked_still : (q : ReplicaState) (mails : List Mail) → IsStill q mails → Still (looked (q, mails))
-  unfolding looked
-  looked_still q mails s = by q.running
-    where
-      by : (b : Bool) → Still (cond b (q, mails) (looked_for q.group.core.gone (q, mails)))
-      by true = s
-      by false = look_still q.group.core.gone q mails s
+  looked_still q mails s = looking_kept Still (λ place k. elected_still place.0 place.1 k) (λ hint x more k. hinted_still hint x more k) (q, mails) s
 
   one_still : Still (executed_one false command (r, []))
   unfolding executed_one
@@ -240,7 +211,7 @@ module _ (command : Command) (r : ReplicaState) (idle : IsIdle r) where
       let place3 : Place = learnt_to false (members r) (next r) command place2 in let s3 = learnt_still place2.0 place2.1 s2 in
       let place4 : Place = welcomed false (members r) place3 in let s4 = welcomed_still place3.0 place3.1 s3 in
       let place5 : Place = landed false (next r) command place4 in let s5 = landed_still place4.0 place4.1 s4 in
-      let place6 : Place = left place5 in let s6 = left_still place5.0 place5.1 s5 in looked_still place6.0 place6.1 s6)
+      let place6 : Place = left place5 in let s6 : Still place6 = leaving_kept Still (λ hint answer place k. ended_still hint answer place.0 place.1 k) place5 s5 in looked_still place6.0 place6.1 s6)
 
   still_work : (q : ReplicaState) (mails : List Mail) → IsStill q mails → works q ≡ []
   still_work q mails s = ap (λ l. l ++ (works_in q.backlog ++ (works_flying q.leader.flights ++ works_ready q.ready))) s.acts

@@ -2,15 +2,16 @@
 use Rattle.std.proofs.Common.{◌≡◌, ℕ, ◌+◌, ◌≤◌, ◌-◌, ◌^◌, not, eqb, Bool, true, false, cond, List, [], ◌∷◌, ◌++◌, filter, Option, Some, None, refl, sym, ◌∙◌, ap, subst, arith}
 use Rattle.std.proofs.lemmas.Bool.{eq-eqb}
 use Rattle.sc_base.specs.Definitions.{client_actor, is_member, least_of}
-use Rattle.sc_node_table.specs.Values.{Draw, Command, Noop, Call, Join, Leave, Split, Begin, Prepared, RecordVote, GiveUp, Finish, Watched, RecordWatch, Effect, Route, OrderResult, AnswerBody, Mail, MailBody, Answer, Prepare, Learn, Told}
+use Rattle.sc_node_table.specs.Values.{Draw, Command, Call, Effect, Route, OrderResult, AnswerBody, Mail, MailBody, Answer, Prepare, Learn, Told}
 use Rattle.sc_mail.specs.declared.bodies.AnswerBody.TheVariants as Says
 use Rattle.sc_group_table.specs.machine.MachineDefinitions.{Group, applied}
-use Rattle.sc_node_table.specs.NodeDefinitions.{elected, ended, stopped, open_nodes, entered, answer_of, answered_or_put_back, order_result, effect_reported, announced, learnt_to, welcomed, slot_lost, landed, left_gone, left, is_among, looked_for, looked, executed_one, executed, install_to, asked_to_promise, welcomed_all, sent, sent_all, sent_others, answered, answered_all, dismissed, dismissed_all, order_reported, result_sent, order_number, pumped, ReplicaState, Place, Executed, name_of, next, members, flying, under_way, forgotten, without_slot, before_of, begun_result, result_reported, begun_reported, went_on, spoken_mails, spoken}
+use Rattle.sc_node_table.specs.NodeDefinitions.{elected, ended, stopped, open_nodes, entered, answer_of, answered_or_put_back, order_result, effect_reported, announced, learnt_to, welcomed, slot_lost, landed, left_gone, left, executed_one, executed, install_to, asked_to_promise, welcomed_all, sent, sent_all, sent_others, answered, answered_all, dismissed, dismissed_all, order_reported, result_sent, order_number, pumped, ReplicaState, Place, Executed, name_of, next, members, flying, under_way, forgotten, without_slot, before_of, begun_result, result_reported, begun_reported, went_on, spoken_mails, spoken}
 use Rattle.sc_node_table.specs.declared.Before.{Before}
 use Rattle.sc_words.specs.declared.paxos.answers.Must.TheVariants.{Free as Open}
 use Rattle.sc_words.specs.paxos.PaxosDefinitions.{must, new_leader, without_flight, without_flight_at}
 use Rattle.sc_group_table.specs.policy.PolicyDefinitions.{is_reported}
 use Rattle.sc_law_walks.proofs.WalkLemmas.{entered_next, lost_counted, none_ready as ready_none}
+use Rattle.sc_live_steps.proofs.ExecutionParts.{looking_kept}
 use Rattle.sc_live_steps.specs.orders.OrderDefinitions.{Work, work_by, works_in, works_flying, works_ready, errand_by, errands_for, IsLone, RunsAlone, EntriesRunAlone}
 use Rattle.sc_live_steps.proofs.OrderStepsProofs.SentErrands.{went-adds}
 use Rattle.sc_live_steps.proofs.OrderStepsProofs.Errands.{errands-none, errands-all}
@@ -67,18 +68,8 @@ module _ (name : Draw) where
 -- a command that is a work is no call: no client gets an answer for it
 not_call : (o : Option AnswerBody) (command : Command) (work : Work) (place : Place) → work_by command ≡ Some work → answered_or_put_back o command place ≡ place
 unfolding answered_or_put_back
-not_call o Noop work place e = cc
 not_call o (Call client seq op) work place e = cc
-not_call (Some answer) (Join node order) work place e = refl
-not_call (Some answer) (Leave node order) work place e = refl
-not_call (Some answer) (Split at child order) work place e = refl
-not_call (Some answer) (Begin tx body order) work place e = refl
-not_call (Some answer) (Prepared tx offer) work place e = refl
-not_call (Some answer) (RecordVote tx vote by) work place e = refl
-not_call (Some answer) (GiveUp tx) work place e = refl
-not_call (Some answer) (Finish tx outcome) work place e = refl
-not_call (Some answer) (Watched tx watch) work place e = refl
-not_call (Some answer) (RecordWatch tx vote by) work place e = refl
+not_call (Some answer) _ work place e = refl
 not_call None _ work place e = refl
 
 -- ---- the parts of an execution
@@ -281,28 +272,11 @@ module _ (command : Command) (work : Work) (r : ReplicaState) (lone : IsLone com
         λ stands member. refl,
       )
 
-  look_done : (went : Option Route) (q : ReplicaState) (mails : List Mail) → IsDoneAt (q, mails) → IsDoneAt (looked_for went (q, mails))
-  look_done (Some into) q mails d = d
-  look_done None q mails d = by (is_among (members q) q.hint) (eqb (least_of (members q)) q.me)
-    where
-      by : (c l : Bool) → IsDoneAt (cond c (q, mails) (cond l (elected (record q { hint = Some q.me }, mails)) (record q { hint = Some (least_of (members q)) }, mails)))
-      by true l = d
-      by false true = elected_done (record q { hint = Some q.me }) mails (hinted_done (Some q.me) q mails d)
-      by false false = hinted_done (Some (least_of (members q))) q mails d
-
-  looked_done : (q : ReplicaState) (mails : List Mail) → IsDoneAt (q, mails) → IsDoneAt (looked (q, mails))
-  unfolding looked
-  looked_done q mails d = by q.running
-    where
-      by : (b : Bool) → IsDoneAt (cond b (q, mails) (looked_for q.group.core.gone (q, mails)))
-      by true = d
-      by false = look_done q.group.core.gone q mails d
-
   one_done : IsDoneAt (executed_one true command (r, []))
   unfolding executed_one
   one_done =
       (let place5 : Place = landed true (next r) command place4 in
-      let d5 = landed_done place4.0 place4.1 state4 sends4 in let place6 : Place = left place5 in let d6 = left_done place5.0 place5.1 d5 in looked_done place6.0 place6.1 d6)
+      let d5 = landed_done place4.0 place4.1 state4 sends4 in let place6 : Place = left place5 in let d6 = left_done place5.0 place5.1 d5 in looking_kept IsDoneAt (λ place d. elected_done place.0 place.1 d) (λ hint q mails d. hinted_done hint q mails d) place6 d6)
 
   pub runs-alone : RunsAlone command r (executed true command (r, [])).0
   unfolding executed
