@@ -1,6 +1,7 @@
 -- What a client does in each row, whatever comes: it rests, or asks a group that it knows.
 use Rattle.std.specs.Prelude.{is_some}
 use Rattle.std.proofs.Common.{◌≡◌, ℕ, ◌+◌, ◌≤◌, ◌||◌, Bool, true, false, true≢false, cond, [], ◌∷◌, ◌++◌, length, Option, Some, ◌⊎◌, inl, inr, refl, sym, ◌∙◌, ap, subst, arith}
+use Rattle.std.proofs.lemmas.Bool.{or_left, or_right}
 use Rattle.sc_node_table.specs.Values.{Draw, OrderLine, Input, Got, Mail, MailBody, Answer}
 use Rattle.sc_actor.specs.declared.rows.Input.TheVariants.{Tick, Go, Told}
 use Rattle.sc_client_table.specs.lookup.LookupDefinitions.{way_to, learnt_from_not_mine, learnt_from_gone}
@@ -81,25 +82,20 @@ stays started_ client input once k = by input once
     still : (after : ClientStep) → after ≡ (client, []) → IsAskingClient (started_ || false) after.0
     still after e = subst (λ b. IsAskingClient b after.0) (sym (same started_)) (subst (λ (x : ClientStep). IsAskingClient started_ x.0) (sym e) k)
 
-    on : (after : ClientStep) → started_ ≡ true → IsAskingClient true after.0 → IsAskingClient (started_ || false) after.0
-    on after t h = subst (λ b. IsAskingClient b after.0) (sym (same started_ ∙ t)) h
+    on : (b : Bool) (after : ClientStep) → (started_ || b) ≡ true → IsAskingClient true after.0 → IsAskingClient (started_ || b) after.0
+    on b after t h = subst (λ c. IsAskingClient c after.0) (sym t) h
 
-    mail_of : (mail : Mail) (a : IsAskingOn client) → started_ ≡ true → Does client a.seq mail (got mail.from mail.body client) → IsAskingClient (started_ || false) (got mail.from mail.body client).0
-    mail_of mail a t (AsksOn d) = on (got mail.from mail.body client) t d.holds
-    mail_of mail a t (AsksNext d) = on (got mail.from mail.body client) t d.holds
-    mail_of mail a t (EndsNow d) = on (got mail.from mail.body client) t d.holds
-    mail_of mail a t (TakesNoNotice d) = still (got mail.from mail.body client) d.after_is
+    mail_of : (mail : Mail) (seq : ℕ) (after : ClientStep) → (started_ || false) ≡ true → Does client seq mail after → IsAskingClient (started_ || false) after.0
+    mail_of mail seq after t (AsksOn d) = on false after t d.holds
+    mail_of mail seq after t (AsksNext d) = on false after t d.holds
+    mail_of mail seq after t (EndsNow d) = on false after t d.holds
+    mail_of mail seq after t (TakesNoNotice d) = still after d.after_is
 
     by : (input : Input Mail OrderLine) → (is_start input ≡ true → started_ ≡ false) → IsAskingClient (started_ || is_start input) (table client input).0
-    by (Got mail) one = elim (k.state) [ inl r ↦ still (table client (Got mail)) (rests_on started_ client r mail) | inr a ↦ mail_of mail a.1 a.0 (does client a.1 mail k.some) ]
-    by Tick one = elim (k.state) [ inl r ↦ still (table client Tick) (rests_ticked started_ client r) | inr a ↦ on (table client Tick) a.0 (ticks client a.1 k.some).holds ]
+    by (Got mail) one = elim (k.state) [ inl r ↦ still (table client (Got mail)) (rests_on started_ client r mail) | inr a ↦ mail_of mail a.1.seq (table client (Got mail)) (or_left started_ false a.0) (does client a.1 mail k.some) ]
+    by Tick one = elim (k.state) [ inl r ↦ still (table client Tick) (rests_ticked started_ client r) | inr a ↦ on false (table client Tick) (or_left started_ false a.0) (ticks client a.1 k.some).holds ]
     by Go one = elim (k.state) [
-      | inl r ↦ subst (λ b. IsAskingClient b (table client Go).0) (sym (started_so started_))
-          (elim (starts client (subst (λ b. IsResting b client) (one refl) r) k.some) [ inl asks ↦ asks.holds | inr ends ↦ ends.holds ])
+      | inl r ↦ on true (table client Go) (or_right started_ true refl) (elim (starts client (subst (λ b. IsResting b client) (one refl) r) k.some) [ inl asks ↦ asks.holds | inr ends ↦ ends.holds ])
       | inr a ↦ absurd (true≢false (sym a.0 ∙ one refl))
     ]
-      where
-        started_so : (b : Bool) → b || true ≡ true
-        started_so true = refl
-        started_so false = refl
     by (Told line) one = still (client, []) refl
