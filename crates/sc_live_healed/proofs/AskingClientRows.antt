@@ -1,41 +1,41 @@
 -- What a client does in each row, whatever comes: it rests, or asks a group that it knows.
-use Rattle.std.proofs.Common.{◌≡◌, ℕ, ◌≤◌, ◌||◌, Bool, true, false, true≢false, cond, [], length, Option, Some, ◌⊎◌, inl, inr, refl, sym, ◌∙◌, ap, subst, arith}
-use Rattle.std.proofs.lemmas.Bool.{cond_both, eq-eqb}
-use Rattle.sc_node_table.specs.Values.{Draw, OrderLine, AnswerBody, Input, Got, Mail, MailBody, Answer, Value}
+use Rattle.std.specs.Prelude.{is_some}
+use Rattle.std.proofs.Common.{◌≡◌, ℕ, ◌+◌, ◌≤◌, ◌||◌, Bool, true, false, true≢false, cond, [], ◌∷◌, ◌++◌, length, Option, Some, ◌⊎◌, inl, inr, refl, sym, ◌∙◌, ap, subst, arith}
+use Rattle.sc_node_table.specs.Values.{Draw, OrderLine, Input, Got, Mail, MailBody, Answer}
 use Rattle.sc_actor.specs.declared.rows.Input.TheVariants.{Tick, Go, Told}
-use Rattle.sc_client_table.specs.table.TableDefinitions.{Client, ClientStep, waits_for, answer_taken, got, client_ticked, table}
+use Rattle.sc_client_table.specs.lookup.LookupDefinitions.{way_to, learnt_from_not_mine, learnt_from_gone}
+use Rattle.sc_client_table.specs.table.TableDefinitions.{Client, ClientStep, started, waits_for, answer_taken, got, client_ticked, table}
 use Rattle.sc_live_plain.specs.PlainDefinitions.{IsResting}
-use Rattle.sc_client_table.proofs.TableProofs.TurnLemmas.{waited_for}
+use Rattle.sc_client_table.proofs.LookupProofs.KnownLemmas.{some_learnt}
+use Rattle.sc_law_walks.proofs.WalkLemmas.{mail_step, IgnoresBody, ignored_answer}
+use Rattle.sc_live_plain.proofs.PlainLemmas.{some_is}
 use Rattle.sc_live_healed.specs.AskingClients.{IsAskingOn, IsAskingClient}
-use Rattle.sc_live_healed.proofs.AskingClients.{Asks, Ends, Ignores, Does, AsksOn, AsksNext, EndsNow, TakesNoNotice, turned, begun_on, answered_on}
+use Rattle.sc_live_healed.proofs.AskingClients.{Asks, Ends, Does, AsksOn, AsksNext, EndsNow, TakesNoNotice, changed_to, to_chosen, begun_on, replied}
 
 -- ---- a client that asks on
 
--- a mail that is no answer is ignored
-no_notice : (client : Client) (mail : Mail) → ((group : Draw) (seq : ℕ) (answer : AnswerBody) → client.waiting ≡ Some seq → mail.body ≡ Answer group seq answer → ⊥) → Ignores client mail (client, [])
-no_notice client mail other = record { after_is = refl; no_reply = λ seq group reply waits e. other group seq (Value reply) waits e; not_sent = λ seq group answer waits asked e on. other group seq answer waits e }
-
-waited_not : (waiting : Option ℕ) (seq : ℕ) → waits_for waiting seq ≡ false → waiting ≡ Some seq → ⊥
-waited_not waiting seq e fact = true≢false (sym (eq-eqb seq seq refl) ∙ (sym (ap (λ o. waits_for o seq) fact) ∙ e))
-
-same_seq : (group other : Draw) (seq number : ℕ) (answer more : AnswerBody) → Answer group seq answer ≡ Answer other number more → seq ≡ number
-same_seq group other seq number answer more e = cc
-
-one_number : (seq number : ℕ) → Some seq ≡ Some number → seq ≡ number
-one_number seq number e = cc
-
 -- any mail
 pub does : (client : Client) (a : IsAskingOn client) (mail : Mail) → 1 ≤ length client.known → Does client a.seq mail (got mail.from mail.body client)
-does client a mail some = by mail.body refl
+does client a mail some = mail_step client mail (Does client a.seq mail) ignores (λ group seq. record {
+  replied = λ reply w e.
+      subst (λ (n : ℕ). Does client a.seq mail (started (n + 1) (record client { replies = client.replies ++ reply ∷ [] }))) (some_is (sym a.waits ∙ w))
+      (elim (replied reply client a some) [ inl asks ↦ AsksNext asks | inr ends ↦ EndsNow ends ]);
+  hinted = λ hint w asked e. AsksOn (changed_to _ client a group (knows group asked) some);
+  turned = λ w asked e. AsksOn (changed_to _ client a group (knows group asked) some);
+  not_mine = λ arc succ w asked e. AsksOn (to_chosen client (learnt_from_not_mine group arc succ client.known) a (some_learnt succ.group _ succ.members _));
+  gone = λ into w asked e. AsksOn (to_chosen client (learnt_from_gone group into client.known) a (some_learnt into.group into.lo into.members _));
+})
   where
-    by : (body : MailBody) → mail.body ≡ body → Does client a.seq mail (got mail.from body client)
-    by (Answer group seq answer) fact =
-        cond_both (waits_for client.waiting seq) (answer_taken mail.from group seq answer client) (client, []) (λ (x : ClientStep). Does client a.seq mail x)
-        (λ t. (
-        let own : a.seq ≡ seq = one_number a.seq seq (sym a.waits ∙ waited_for client.waiting seq t) in
-        subst (λ n. Does client a.seq mail (answer_taken mail.from group n answer client)) own (answered_on client a mail group answer some (fact ∙ ap (λ n. Answer group n answer) (sym own)))))
-        (λ f. TakesNoNotice (no_notice client mail (λ g number more waits e. waited_not client.waiting seq f (waits ∙ ap Some (sym (same_seq group g seq number answer more (sym fact ∙ e)))))))
-    by _ fact = TakesNoNotice (no_notice client mail (λ group seq answer waits e. (let no : ⊥ = cc in no)))
+    ignores : IgnoresBody client mail.from mail.body → Does client a.seq mail (client, [])
+    ignores i = TakesNoNotice (record {
+      after_is = refl;
+      no_reply = λ seq group reply w e. (ignored_answer client mail.from e i).no_reply reply w refl;
+      not_sent = λ seq group answer w asked e on. (ignored_answer client mail.from e i).not_sent w asked on;
+    })
+
+    -- the group that was asked is known
+    knows : (group : Draw) → client.asked ≡ Some (group, mail.from) → is_some (way_to group client.known) ≡ true
+    knows group asked = subst (λ (g : Draw). is_some (way_to g client.known) ≡ true) (ap (λ (p : Draw × ℕ). p.0) (some_is (sym a.asked ∙ asked))) a.knows
 
 -- ---- any client, and any input
 
@@ -57,7 +57,7 @@ starts client r some =
 -- a client that asks on asks the next node at a tick
 pub ticks : (client : Client) (a : IsAskingOn client) → 1 ≤ length client.known → Asks client a.seq (table client Tick)
 ticks client a some =
-    subst (λ (x : ClientStep). Asks client a.seq x) (sym (ap (λ (o : Option ℕ). client_ticked client o client.asked) a.waits ∙ ap (client_ticked client (Some a.seq)) a.asked)) (turned client a some)
+    subst (λ (x : ClientStep). Asks client a.seq x) (sym (ap (λ (o : Option ℕ). client_ticked client o client.asked) a.waits ∙ ap (client_ticked client (Some a.seq)) a.asked)) (changed_to _ client a a.group a.knows some)
 
 -- one that rests does nothing
 pub rests_ticked : (started_ : Bool) (client : Client) → IsResting started_ client → table client Tick ≡ (client, [])

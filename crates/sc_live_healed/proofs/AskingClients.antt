@@ -1,20 +1,20 @@
--- What a client does with each mail: it sends its request on, ends, or takes no notice; and it asks a group that it knows.
-use Rattle.std.proofs.Common.{◌≡◌, ℕ, ◌+◌, ◌-◌, ◌<◌, ◌≤◌, eqb, Bool, true, false, true≢false, cond, List, [], ◌∷◌, ◌++◌, length, Option, Some, None, ◌⊎◌, inl, inr, refl, sym, ◌∙◌, ap, subst, arith}
+-- What a client may do: it sends its request on, begins the next one, ends, or takes no notice; and it asks a group that it knows.
+use Rattle.std.proofs.Common.{◌≡◌, ℕ, ◌+◌, ◌-◌, ◌<◌, ◌≤◌, true, List, [], ◌∷◌, ◌++◌, length, Option, Some, None, ◌⊎◌, inl, inr, refl, sym, ◌∙◌, ap, subst, arith}
 use Rattle.std.specs.Prelude.{nat_le, slice_get, is_some}
 use Rattle.std.specs.Option.{option_map}
 use Rattle.std.specs.Map.{lookup}
-use Rattle.std.proofs.lemmas.Bool.{cond_both, leb-true, leb-false, both_ways, eqb-true, eq-eqb, and_parts, and_from}
+use Rattle.std.proofs.lemmas.Bool.{cond_both, leb-true, leb-false, both_ways}
 use Rattle.std.proofs.lemmas.List.{length_push}
 use Rattle.std.proofs.lemmas.Option.{slice_get_within, slice_get_cases}
 use Rattle.sc_base.specs.Definitions.{Among, key_of, same_draw, pos_of}
-use Rattle.sc_base.proofs.Lemmas.{draw_is, same_name}
-use Rattle.sc_node_table.specs.Values.{Draw, Op, Reply, AnswerBody, Value, NotLeader, NotMine, Gone, Stale, Mail, Answer}
+use Rattle.sc_base.proofs.Lemmas.{same_name}
+use Rattle.sc_node_table.specs.Values.{Draw, Op, Reply, AnswerBody, Value, Mail, Answer}
 use Rattle.sc_client_table.specs.declared.lookup.ways.Way.{Way}
-use Rattle.sc_client_table.specs.lookup.LookupDefinitions.{KnownGroups, way_to, learnt_from_not_mine, learnt_from_gone, changed, target_of}
-use Rattle.sc_client_table.proofs.LookupProofs.KnownLemmas.{set_value-known, length-changed, some_learnt}
-use Rattle.sc_client_table.specs.table.TableDefinitions.{Client, request_at, waiting_request, ClientStep, asked_of, sent_to, sent_where, chosen_for, request_sent, started, was_asked, redirected, answer_taken, request_of, turned_on}
+use Rattle.sc_client_table.specs.lookup.LookupDefinitions.{KnownGroups, way_to, changed, target_of}
+use Rattle.sc_client_table.proofs.LookupProofs.KnownLemmas.{set_value-known, length-changed}
+use Rattle.sc_client_table.specs.table.TableDefinitions.{Client, request_at, waiting_request, ClientStep, asked_of, sent_to, sent_where, chosen_for, request_sent, started, request_of}
 use Rattle.sc_live_plain.proofs.PlainLemmas.{one_chosen, chosen_is}
-use Rattle.sc_law_walks.proofs.WalkLemmas.{some_there}
+use Rattle.sc_law_walks.proofs.WalkLemmas.{some_there, redirects}
 use Rattle.sc_live_healed.specs.AskingClients.{IsAskingOn, IsAskingClient}
 
 -- ---- groups that are known
@@ -98,14 +98,6 @@ pub record Ends (before : Client) (after : ClientStep) : Type 0 where
   pub requests : after.0.requests ≡ before.requests
   pub holds : IsAskingClient true after.0
 
--- whether an answer sends a client on to another node or group
-abbrev pub redirects : AnswerBody → Bool
-redirects (NotLeader hint) = true
-redirects (NotMine arc succ) = true
-redirects (Gone into) = true
-redirects (Value reply) = false
-redirects (Stale last) = false
-
 -- the client takes no notice: the mail is no reply to the request that waits, and does not send it on from the node that was asked
 pub record Ignores (before : Client) (mail : Mail) (after : ClientStep) : Type 0 where
   pub after_is : after ≡ (before, [])
@@ -145,31 +137,18 @@ ready_with : (client : Client) (known : KnownGroups) (a : IsAskingOn client) →
 ready_with client known a some = record { waits = a.waits; number = a.number; op_is = a.op_is; some = some }
 
 -- the request goes to a group that stays known
-to_group : (client : Client) (known : KnownGroups) (a : IsAskingOn client) → 1 ≤ length known → is_some (way_to a.group known) ≡ true → Asks client a.seq (sent_to a.group (record client { known = known }))
-to_group client known a some knows = as_asks client (record client { known = known }) a.seq a.op _ refl refl (ready_with client known a some) (sent_on a.seq a.op (record client { known = known }) a.group (ready_with client known a some) knows)
+to_group : (client : Client) (known : KnownGroups) (a : IsAskingOn client) (group : Draw) → 1 ≤ length known → is_some (way_to group known) ≡ true → Asks client a.seq (sent_to group (record client { known = known }))
+to_group client known a group some knows = as_asks client (record client { known = known }) a.seq a.op _ refl refl (ready_with client known a some) (sent_on a.seq a.op (record client { known = known }) group (ready_with client known a some) knows)
 
 -- the request goes to the group that is chosen
-to_chosen : (client : Client) (known : KnownGroups) (a : IsAskingOn client) → 1 ≤ length known → Asks client a.seq (request_sent (record client { known = known }))
+pub to_chosen : (client : Client) (known : KnownGroups) (a : IsAskingOn client) → 1 ≤ length known → Asks client a.seq (request_sent (record client { known = known }))
 to_chosen client known a some = as_asks client (record client { known = known }) a.seq a.op _ refl refl (ready_with client known a some) (chosen_on a.seq a.op (record client { known = known }) (ready_with client known a some))
 
 -- where what is known of one group is changed, as many are known
-changed_to : (change : Way → Way) (client : Client) (a : IsAskingOn client) → 1 ≤ length client.known → Asks client a.seq (sent_to a.group (record client { known = changed change a.group client.known (way_to a.group client.known) }))
-changed_to change client a some =
-    let many = length-changed change a.group client.known (way_to a.group client.known) in
-    to_group client (changed change a.group client.known (way_to a.group client.known)) a (omega (arith, some, many)) (changed_known change a.group a.group client.known (way_to a.group client.known) ∙ a.knows)
-
--- a client that is ticked asks the next node of the group that it asked
-pub turned : (client : Client) (a : IsAskingOn client) → 1 ≤ length client.known → Asks client a.seq (turned_on a.group client)
-turned client a some = changed_to _ client a some
-
--- an answer of the node that was asked sends it on
-pub redirected_on : (answer : AnswerBody) (client : Client) (a : IsAskingOn client) → 1 ≤ length client.known → redirects answer ≡ true → Asks client a.seq (redirected a.group answer client)
-redirected_on (NotLeader (Some hint)) client a some t = changed_to _ client a some
-redirected_on (NotLeader None) client a some t = turned client a some
-redirected_on (NotMine arc succ) client a some t = to_chosen client (learnt_from_not_mine a.group arc succ client.known) a (some_learnt succ.group _ succ.members _)
-redirected_on (Gone into) client a some t = to_chosen client (learnt_from_gone a.group into client.known) a (some_learnt into.group into.lo into.members _)
-redirected_on (Value reply) client a some t = absurd (true≢false (sym t))
-redirected_on (Stale last) client a some t = absurd (true≢false (sym t))
+pub changed_to : (change : Way → Way) (client : Client) (a : IsAskingOn client) (group : Draw) → is_some (way_to group client.known) ≡ true → 1 ≤ length client.known → Asks client a.seq (sent_to group (record client { known = changed change group client.known (way_to group client.known) }))
+changed_to change client a group knows some =
+    let many = length-changed change group client.known (way_to group client.known) in
+    to_group client (changed change group client.known (way_to group client.known)) a group (omega (arith, some, many)) (changed_known change group group client.known (way_to group client.known) ∙ knows)
 
 -- ---- the next request
 
@@ -200,60 +179,3 @@ replied reply client a some =
     let number = a.number in
     let most = within client a in
     begun_on (a.seq + 1) client (record client { replies = client.replies ++ reply ∷ [] }) refl refl (omega arith) (omega (arith, longer, number)) (omega (arith, longer, most)) some
-
--- ---- a mail
-
--- an answer that sends on is no reply
-value_not : (group other : Draw) (seq number : ℕ) (answer : AnswerBody) (reply : Reply) → redirects answer ≡ true → Answer group seq answer ≡ Answer other number (Value reply) → ⊥
-value_not group other seq number (Value value) reply t e = true≢false (sym t)
-value_not group other seq number (Stale last) reply t e = true≢false (sym t)
-value_not group other seq number (NotLeader hint) reply t e = cc
-value_not group other seq number (NotMine arc succ) reply t e = cc
-value_not group other seq number (Gone into) reply t e = cc
-
-stale_value : (group other : Draw) (seq number last : ℕ) (reply : Reply) → Answer group seq (Stale last) ≡ Answer other number (Value reply) → ⊥
-stale_value group other seq number last reply e = cc
-
-stale_on : (group other : Draw) (seq number last : ℕ) (answer : AnswerBody) → Answer group seq (Stale last) ≡ Answer other number answer → redirects answer ≡ true → ⊥
-stale_on group other seq number last answer e t = (let same : Stale last ≡ answer = cc in true≢false (sym t ∙ ap redirects (sym same)))
-
-one_group : (group other : Draw) (seq number : ℕ) (answer more : AnswerBody) → Answer group seq answer ≡ Answer other number more → group ≡ other
-one_group group other seq number answer more e = cc
-
--- the node and group that were asked
-was_so : (node : ℕ) (group other : Draw) → group ≡ other → was_asked (Some (group, node)) node other ≡ true
-was_so node group other same = and_from (eqb node node) (same_draw group other) (eq-eqb node node refl) (same_name group other same)
-
--- a client that waits takes notice of replies to its request, and of answers of the node that it asked that send it on
-pub answered_on : (client : Client) (a : IsAskingOn client) (mail : Mail) (group : Draw) (answer : AnswerBody) → 1 ≤ length client.known → mail.body ≡ Answer group a.seq answer → Does client a.seq mail (answer_taken mail.from group a.seq answer client)
-answered_on client a mail group (Value reply) some fact = elim (replied reply client a some) [ inl asks ↦ AsksNext asks | inr ends ↦ EndsNow ends ]
-answered_on client a mail group answer some fact = by answer fact
-  where
-    -- the node and group that were asked
-    asked_so : was_asked client.asked mail.from group ≡ true → (a.target ≡ mail.from) × (a.group ≡ group)
-    asked_so t =
-        let both = and_parts (eqb a.target mail.from) (same_draw a.group group) (sym (ap (λ (o : Option (Draw × ℕ)). was_asked o mail.from group) a.asked) ∙ t) in
-        (eqb-true a.target mail.from both.0, draw_is a.group group both.1)
-
-    -- one that sends it on
-    sends : (answer : AnswerBody) → mail.body ≡ Answer group a.seq answer → redirects answer ≡ true → Does client a.seq mail (cond (was_asked client.asked mail.from group) (redirected group answer client) (client, []))
-    sends answer fact t =
-        cond_both (was_asked client.asked mail.from group) (redirected group answer client) (client, []) (λ (x : ClientStep). Does client a.seq mail x)
-        (λ asked. AsksOn (subst (λ (g : Draw). Asks client a.seq (redirected g answer client)) (asked_so asked).1 (redirected_on answer client a some t)))
-        (λ other. TakesNoNotice (record {
-          after_is = refl;
-          no_reply = λ seq g reply waits e. value_not group g a.seq seq answer reply t (sym fact ∙ e);
-          not_sent = λ seq g other_answer waits asked e on.
-              let own : group ≡ g = one_group group g a.seq seq answer other_answer (sym fact ∙ e) in
-              both_ways (was_asked client.asked mail.from group) other (ap (λ (o : Option (Draw × ℕ)). was_asked o mail.from group) asked ∙ was_so mail.from g group (sym own));
-        }))
-
-    by : (answer : AnswerBody) → mail.body ≡ Answer group a.seq answer → Does client a.seq mail (answer_taken mail.from group a.seq answer client)
-    by (NotLeader hint) fact = sends (NotLeader hint) fact refl
-    by (NotMine arc succ) fact = sends (NotMine arc succ) fact refl
-    by (Gone into) fact = sends (Gone into) fact refl
-    by (Stale last) fact = cond_both (was_asked client.asked mail.from group) (redirected group (Stale last) client) (client, []) (λ (x : ClientStep). Does client a.seq mail x) (λ _. stale) (λ _. stale)
-      where
-        stale : Does client a.seq mail (client, [])
-        stale = TakesNoNotice (record { after_is = refl; no_reply = λ seq g reply waits e. stale_value group g a.seq seq last reply (sym fact ∙ e); not_sent = λ seq g answer waits asked e on. stale_on group g a.seq seq last answer (sym fact ∙ e) on })
-    by (Value reply) fact = elim (replied reply client a some) [ inl asks ↦ AsksNext asks | inr ends ↦ EndsNow ends ]

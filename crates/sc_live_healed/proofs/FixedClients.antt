@@ -1,25 +1,22 @@
 -- A client that knows groups that are not reshaped goes on knowing these alone, and asks members of them.
-use Rattle.std.proofs.Common.{◌≡◌, ℕ, ◌+◌, nat_le, nat_lt, true, List, [], ◌∷◌, ◌++◌, length, Option, Some, None, refl, sym, ◌∙◌, ap, subst}
+use Rattle.std.proofs.Common.{◌≡◌, ℕ, nat_lt, true, List, [], ◌∷◌, Option, Some, None, refl, sym, ◌∙◌, ap, subst}
 use Rattle.std.specs.Prelude.{is_some, unwrap_or}
 use Rattle.std.specs.Option.{option_map}
 use Rattle.std.specs.List.{find}
-use Rattle.std.specs.Map.{set_value}
-use Rattle.std.proofs.lemmas.Bool.{cond_both}
-use Rattle.sc_base.specs.Definitions.{Among, Each, Arc, end_of, same_draw, is_member, least_of, next_after}
-use Rattle.sc_base.proofs.Lemmas.{draw_is}
+use Rattle.sc_base.specs.Definitions.{Among, Each, Arc, end_of, is_member, least_of, next_after}
 use Rattle.sc_words.proofs.PaxosProofs.PaxosLemmas.{Each-append, find_found}
 use Rattle.sc_words.specs.declared.commands.links.Link.{Link}
 use Rattle.sc_paxos_law.proofs.Lemmas.{among-member}
-use Rattle.sc_mail.specs.declared.bodies.AnswerBody.TheVariants as Says
-use Rattle.sc_node_table.specs.Values.{Draw, Op, Base, AnswerBody, Input, Got, OrderLine, Mail, MailBody, Answer}
-use Rattle.sc_actor.specs.declared.rows.Input.TheVariants.{Tick, Go, Told as ToldInput}
+use Rattle.sc_node_table.specs.Values.{Draw, Op, Base, Input, Got, OrderLine, Mail}
 use Rattle.sc_client_table.specs.declared.lookup.ways.Way.{Way}
-use Rattle.sc_client_table.specs.lookup.LookupDefinitions.{KnownGroups, way_to, target_of, next_target, changed, preferring, passed_on, starting, learnt_from_not_mine, new_way}
-use Rattle.sc_client_table.specs.table.TableDefinitions.{Client, ClientStep, table, asked_of, sent_to, sent_where, chosen_for, request_sent, started, turned_on, client_ticked, waits_for, was_asked, redirected, answer_taken, got, request_of, waiting_request}
-use Rattle.sc_law_walks.proofs.WalkLemmas.{either_way}
+use Rattle.sc_client_table.specs.lookup.LookupDefinitions.{KnownGroups, way_to, target_in, target_of, next_target, changed, preferring, passed_on, starting, learnt_from_not_mine, new_way}
+use Rattle.sc_client_table.specs.table.TableDefinitions.{Client, ClientStep, table, request_of}
+use Rattle.sc_law_walks.proofs.WalkLemmas.{either_way, ClientParts, parts_step}
+use Rattle.sc_live_plain.proofs.PlainLemmas.{some_is}
+use Rattle.sc_live_plain.proofs.CalmProofs.ChosenGroups.{lookup_has, set_each}
 use Rattle.sc_live_healed.proofs.FixedWalks.{IsMember}
 use Rattle.sc_live_healed.proofs.FixedNodes.{AreFresh}
-use Rattle.sc_live_healed.specs.HealedDefinitions.{IsFixedAnswer, IsFixedBody, IsFixedMail, KnowsFixed, IsFixedClient}
+use Rattle.sc_live_healed.specs.HealedDefinitions.{IsFixedBody, IsFixedMail, KnowsFixed, IsFixedClient}
 
 module _ (bases : List Base) (fresh : AreFresh bases) where
   abbrev Knows : Draw × Way → Type 0
@@ -30,24 +27,12 @@ module _ (bases : List Base) (fresh : AreFresh bases) where
 
   -- ---- what is known of one group
 
-  found_by : (group : Draw) (known : KnownGroups) (way : Way) → All known → way_to group known ≡ Some way → KnowsFixed bases group way
-  found_by group [] way k e = absurd (cc)
-  found_by group (x ∷ known) way k e =
-      cond_both (same_draw group x.0) (Some x.1) (way_to group known) (λ (o : Option Way). o ≡ Some way → KnowsFixed bases group way)
-      (λ t q. (let same : x.1 ≡ way = cc in subst (λ (w : Way). KnowsFixed bases group w) same (subst (λ (name : Draw). KnowsFixed bases name x.1) (sym (draw_is group x.0 t)) k.0)))
-      (λ _ q. found_by group known way k.1 q) e
-
-  put_way : (group : Draw) (way : Way) (known : KnownGroups) → KnowsFixed bases group way → All known → All (set_value (same_draw group) known way)
-  put_way group way [] n k = tt
-  put_way group way (x ∷ known) n k =
-      cond_both (same_draw group x.0) ((x.0, way) ∷ known) (x ∷ set_value (same_draw group) known way) All (λ t. (subst (λ (name : Draw). KnowsFixed bases name way) (draw_is group x.0 t) n, k.1)) (λ _. (k.0, put_way group way known n k.1))
-
   changes : (change : Way → Way) (group : Draw) (known : KnownGroups) → ((way : Way) → KnowsFixed bases group way → KnowsFixed bases group (change way)) → All known → All (changed change group known (way_to group known))
   changes change group known keeps k = by (way_to group known) refl
     where
       by : (o : Option Way) → way_to group known ≡ o → All (changed change group known o)
       by None e = k
-      by (Some way) e = put_way group (change way) known (keeps way (found_by group known way k e)) k
+      by (Some way) e = set_each Knows group known (change way) (keeps way (lookup_has Knows known group way e k)) k
 
   -- a member is asked
   asked_member : (group : Draw) (way : Way) (k : KnowsFixed bases group way) → IsMember k.base (target_of way)
@@ -101,58 +86,25 @@ module _ (bases : List Base) (fresh : AreFresh bases) where
   abbrev pub Asks : ClientStep → Type 0
   Asks step = IsFixedClient bases step.0 × Each (IsFixedMail bases) step.1
 
-  request_said : (client : Client) (group : Draw) (way : Way) (request : ℕ × Op) → KnowsFixed bases group way → IsFixedMail bases (request_of client.me group (target_of way) request)
-  request_said client group way request k = record { base = k.base; among = k.among; says = (sym k.name, asked_member group way k) }
+  -- its request goes to a group that it knows
+  request_said : (client : Client) (group : Draw) (target : ℕ) (request : ℕ × Op) → target_in group client.known ≡ Some target → IsFixedClient bases client → IsFixedMail bases (request_of client.me group target request)
+  request_said client group target request t k = by (way_to group client.known) refl t
+    where
+      by : (o : Option Way) → way_to group client.known ≡ o → option_map target_of o ≡ Some target → IsFixedMail bases (request_of client.me group target request)
+      by None e t = absurd (cc)
+      by (Some way) e t = (let w = lookup_has Knows client.known group way e k in record { base = w.base; among = w.among; says = (sym w.name, subst (IsMember w.base) (some_is t) (asked_member group way w)) })
 
-  asks_of : (client : Client) (group : Draw) (o : Option Way) (request : Option (ℕ × Op)) → way_to group client.known ≡ o → IsFixedClient bases client → Asks (asked_of client group (option_map target_of o) request)
-  asks_of client group None request e k = (k, tt)
-  asks_of client group (Some way) None e k = (k, tt)
-  asks_of client group (Some way) (Some request) e k = (k, (request_said client group way request (found_by group client.known way k e), tt))
-
-  sends : (group : Draw) (client : Client) → IsFixedClient bases client → Asks (sent_to group client)
-  sends group client k = asks_of client group (way_to group client.known) (waiting_request client) refl k
-
-  sends_where : (client : Client) (o : Option Draw) → IsFixedClient bases client → Asks (sent_where client o)
-  sends_where client (Some group) k = sends group client k
-  sends_where client None k = (k, tt)
-
-  begins : (seq : ℕ) (client : Client) → IsFixedClient bases client → Asks (started seq client)
-  begins seq client k =
-      let client1 : Client = record client { waiting = Some seq } in
-      either_way Asks (nat_le seq (length client.requests)) (request_sent client1) (record client { waiting = None }, []) (sends_where client1 (chosen_for client1 (waiting_request client1)) k) (k, tt)
-
-  turns_on : (group : Draw) (client : Client) → IsFixedClient bases client → Asks (turned_on group client)
-  turns_on group client k = sends group (record client { known = passed_on group client.known }) (passes group client.known k)
-
-  redirects : (base : Base) → Among base bases → (group : Draw) → group ≡ base.core.id → (answer : AnswerBody) → IsFixedAnswer base answer → (client : Client) → IsFixedClient bases client → Asks (redirected group answer client)
-  redirects base a group fact (Says.NotLeader (Some hint)) fine client k = sends group (record client { known = preferring group hint client.known }) (follows_hint base a group fact hint fine client.known k)
-  redirects base a group fact (Says.NotLeader None) fine client k = absurd fine
-  redirects base a group fact (Says.NotMine arc succ) fine client k =
-      let client1 : Client = record client { known = learnt_from_not_mine group arc succ client.known } in
-      sends_where client1 (chosen_for client1 (waiting_request client1)) (learns base a group arc succ fine.1 client.known k)
-  redirects base a group fact (Says.Gone into) fine client k = absurd fine
-  redirects base a group fact (Says.Value reply) fine client k = (k, tt)
-  redirects base a group fact (Says.Stale last) fine client k = (k, tt)
-
-  answers : (base : Base) → Among base bases → (from : ℕ) (group : Draw) (seq : ℕ) → group ≡ base.core.id → (answer : AnswerBody) → IsFixedAnswer base answer → (client : Client) → IsFixedClient bases client → Asks (answer_taken from group seq answer client)
-  answers base a from group seq fact (Says.Value reply) fine client k = begins (seq + 1) (record client { replies = client.replies ++ reply ∷ [] }) k
-  answers base a from group seq fact (Says.NotLeader hint) fine client k = either_way Asks (was_asked client.asked from group) _ (client, []) (redirects base a group fact (Says.NotLeader hint) fine client k) (k, tt)
-  answers base a from group seq fact (Says.NotMine arc succ) fine client k = either_way Asks (was_asked client.asked from group) _ (client, []) (redirects base a group fact (Says.NotMine arc succ) fine client k) (k, tt)
-  answers base a from group seq fact (Says.Gone into) fine client k = absurd fine
-  answers base a from group seq fact (Says.Stale last) fine client k = either_way Asks (was_asked client.asked from group) _ (client, []) (redirects base a group fact (Says.Stale last) fine client k) (k, tt)
-
-  gets : (from to : ℕ) (body : MailBody) (client : Client) (base : Base) → Among base bases → IsFixedBody base from to body → IsFixedClient bases client → Asks (got from body client)
-  gets from to (Answer group seq answer) client base a h k = either_way Asks (waits_for client.waiting seq) _ (client, []) (answers base a from group seq h.0 answer h.2 client k) (k, tt)
-  gets from to _ client base a h k = (k, tt)
-
-  ticks : (client : Client) (waiting : Option ℕ) (asked : Option (Draw × ℕ)) → IsFixedClient bases client → Asks (client_ticked client waiting asked)
-  ticks client (Some seq) (Some asked) k = turns_on asked.0 client k
-  ticks client (Some seq) None k = (k, tt)
-  ticks client None asked k = (k, tt)
+  fixed_parts : ClientParts (IsFixedClient bases) (IsFixedMail bases) (IsFixedMail bases)
+  fixed_parts = record {
+    waits = λ waiting client k. k;
+    replied = λ reply client k. k;
+    asks = λ group target request client t k. (k, request_said client group target request t k);
+    passed = λ group client k. passes group client.known k;
+    hinted = λ mail group seq hint client m e k. (let says = subst (IsFixedBody m.base mail.from mail.to) e m.says in follows_hint m.base m.among group says.0 hint says.2 client.known k);
+    not_mine = λ mail group seq arc succ client m e k. (let says = subst (IsFixedBody m.base mail.from mail.to) e m.says in learns m.base m.among group arc succ says.2.1 client.known k);
+    gone = λ mail group seq into client m e k. (let says = subst (IsFixedBody m.base mail.from mail.to) e m.says in absurd says.2);
+  }
 
   -- a client takes any mail of these groups, ticks and starts
   pub client_fixed : (client : Client) (input : Input Mail OrderLine) → ((mail : Mail) → input ≡ Got mail → IsFixedMail bases mail) → IsFixedClient bases client → Asks (table client input)
-  client_fixed client (Got mail) m k = (let f = m mail refl in gets mail.from mail.to mail.body client f.base f.among f.says k)
-  client_fixed client Tick m k = ticks client client.waiting client.asked k
-  client_fixed client Go m k = begins 1 client k
-  client_fixed client (ToldInput line) m k = (k, tt)
+  client_fixed = parts_step (IsFixedClient bases) (IsFixedMail bases) (IsFixedMail bases) fixed_parts

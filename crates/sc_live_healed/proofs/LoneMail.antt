@@ -16,7 +16,7 @@ use Rattle.sc_live_healed.proofs.FixedParts.{request_taken}
 use Rattle.sc_live_healed.proofs.FixedPumps.{pumps}
 use Rattle.sc_live_healed.proofs.FixedRows.{takes_mail}
 use Rattle.sc_live_healed.proofs.FixedBesides.{both_walk}
-use Rattle.sc_live_healed.proofs.AskingClients.{redirects}
+use Rattle.sc_law_walks.proofs.WalkLemmas.{redirects}
 use Rattle.sc_live_healed.proofs.TakenRequests.{is_call, AreApart, IsHeld, Queued, IsAtMost, reply_mail, queued_there}
 use Rattle.sc_live_healed.proofs.HeldRequests.{HasFew, HeldOr, Answers}
 use Rattle.sc_live_healed.proofs.HeldRequestRows.{held_walk}

@@ -20,7 +20,8 @@ use Rattle.sc_live_healed.proofs.LivingActors.{seats_stay_nodes}
 use Rattle.sc_live_healed.proofs.FewJournals.{IsFewJournal, PlayerFew}
 use Rattle.sc_live_healed.proofs.NumberedRequests.{IsFewBody, IsFewPlace}
 use Rattle.sc_live_healed.proofs.AskingJournals.{IsAskingAt}
-use Rattle.sc_live_healed.proofs.AskingClients.{Asks, Ends, Ignores, Does, AsksOn, AsksNext, EndsNow, TakesNoNotice, redirects, replied}
+use Rattle.sc_law_walks.proofs.WalkLemmas.{redirects}
+use Rattle.sc_live_healed.proofs.AskingClients.{Asks, Ends, Ignores, Does, AsksOn, AsksNext, EndsNow, TakesNoNotice, replied}
 use Rattle.sc_live_healed.proofs.AskingClientRows.{does}
 use Rattle.sc_live_healed.proofs.TakenRequests.{IsAtMost}
 use Rattle.sc_live_healed.proofs.LoneRequests as lone

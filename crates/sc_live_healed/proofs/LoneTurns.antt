@@ -19,7 +19,7 @@ use Rattle.sc_live_healed.proofs.TakenJournals.{PlayerTakes, IsTakenJournal}
 use Rattle.sc_live_healed.proofs.VotesInTurns.{node_is}
 use Rattle.sc_live_healed.proofs.FewJournals.{IsFewJournal, PlayerFew}
 use Rattle.sc_live_healed.proofs.NumberedRequests.{IsFewBody}
-use Rattle.sc_live_healed.proofs.AskingClients.{redirects}
+use Rattle.sc_law_walks.proofs.WalkLemmas.{redirects}
 use Rattle.sc_live_healed.proofs.TakenRequests.{IsHeld, reply_mail}
 use Rattle.sc_live_healed.proofs.LoneRequests as lone
 use Rattle.sc_live_healed.proofs.LoneMail.{IsReplyOrRedirect}

@@ -4,32 +4,20 @@ use Rattle.std.proofs.lemmas.Bool.{cond_both, cond-true, eq-eqb}
 use Rattle.std.proofs.lemmas.List.{length-append}
 use Rattle.sc_node_table.specs.Values.{Draw, Op, Reply, Input, OrderLine, Value, Mail, MailBody, Answer}
 use Rattle.sc_actor.specs.declared.rows.Input.TheVariants.{Go}
-use Rattle.sc_client_table.specs.lookup.LookupDefinitions.{target_in}
-use Rattle.sc_client_table.specs.table.TableDefinitions.{Client, waiting_request, ClientStep, asked_of, sent_where, chosen_for, request_sent, started, waits_for, got, table, IsReplyTo, InTurn}
+use Rattle.sc_client_table.specs.table.TableDefinitions.{Client, ClientStep, request_sent, started, waits_for, got, table, IsReplyTo, InTurn}
+use Rattle.sc_law_walks.proofs.WalkLemmas.{request_same}
 use Rattle.sc_client_table.proofs.TableProofs.TurnLemmas.{sends_in_turn}
 use Rattle.sc_law_refusal.specs.refusal.RefusalDefinitions.{number_in, Starts, GoesOn, KeepsTurn}
 
 -- ---- the number that is begun
 
-asked_number : (client : Client) (group : Draw) (target : Option ℕ) (request : Option (ℕ × Op)) → (asked_of client group target request).0.waiting ≡ client.waiting
-asked_number client group (Some target) (Some request) = refl
-asked_number client group (Some target) None = refl
-asked_number client group None request = refl
-
-where_number : (client : Client) (group : Option Draw) → (sent_where client group).0.waiting ≡ client.waiting
-where_number client (Some group) = asked_number client group (target_in group client.known) (waiting_request client)
-where_number client None = refl
-
-sent_number : (client : Client) → (request_sent client).0.waiting ≡ client.waiting
-sent_number client = where_number client (chosen_for client (waiting_request client))
-
-begun_number : (b : Bool) (seq : ℕ) (client : Client) → (cond b (request_sent (record client { waiting = Some seq })) (record client { waiting = None }, [])).0.waiting ≡ cond b (Some seq) None
-begun_number true seq client = sent_number (record client { waiting = Some seq })
-begun_number false seq client = refl
-
 -- a request that is begun waits, if there is one with the number
 started_number : (seq : ℕ) (client : Client) → (started seq client).0.waiting ≡ number_in client.requests seq
-started_number seq client = begun_number (nat_le seq (length client.requests)) seq client
+started_number seq client = by (nat_le seq (length client.requests))
+  where
+    by : (b : Bool) → (cond b (request_sent (record client { waiting = Some seq })) (record client { waiting = None }, [])).0.waiting ≡ cond b (Some seq) None
+    by true = request_same (λ (c : Client). c.waiting) (λ c asked. refl) (record client { waiting = Some seq })
+    by false = refl
 
 -- ---- the moves
 

@@ -1,18 +1,19 @@
 -- A client goes on to ask leaders: of the groups that it knows only that which it asked last may be asked elsewhere.
 use Rattle.std.proofs.Common.{◌≡◌, ℕ, ◌+◌, ◌-◌, ◌%◌, ◌^◌, ◌<◌, ◌≤◌, Bool, false, List, [], ◌∷◌, ◌++◌, length, map, take, drop, Option, Some, None, ◌⊎◌, inl, inr, refl, sym, ◌∙◌, ap, subst, arith, take-append-drop}
-use Rattle.std.specs.Prelude.{slice_get, nat_le, is_some}
+use Rattle.std.specs.Prelude.{slice_get, is_some}
 use Rattle.std.specs.Option.{option_map}
 use Rattle.std.specs.Map.{set_value, remove_entry}
 use Rattle.std.proofs.lemmas.Bool.{cond_both, cond-true, cond-false, cases_Bool, cases_lt, both_ways, ltb-false}
 use Rattle.std.proofs.lemmas.List.{length-map, length-take-le}
 use Rattle.sc_base.specs.Definitions.{Among, Arc, end_of, holds, client_actor, key_of, same_draw, pos_of}
-use Rattle.sc_node_table.specs.Values.{Draw, Op, Reply, Link, Route, AnswerBody, Value, NotLeader, NotMine, Gone, Stale, Mail, MailBody, Answer}
+use Rattle.sc_node_table.specs.Values.{Draw, Op, Reply, Link, Route, AnswerBody, Value, NotMine, Gone, Mail, MailBody, Answer}
 use Rattle.sc_base.proofs.Lemmas.{draw_is, same_name}
 use Rattle.sc_client_table.specs.lookup.LookupDefinitions.{KnownGroups, way_to, chosen, target_in, changed, preferring, starting, group_learnt, learnt_from_not_mine, learnt_from_gone, far, new_way, target_of}
 use Rattle.sc_client_table.specs.declared.lookup.ways.Way.{Way}
 use Rattle.sc_paxos_law.proofs.Lemmas.{from_map, Among-left, Among-right, Among-either}
 use Rattle.sc_words.proofs.PaxosProofs.PaxosLemmas.{Each-among}
-use Rattle.sc_client_table.specs.table.TableDefinitions.{Client as ClientState, waiting_request, ClientStep, asked_of, sent_to, sent_where, chosen_for, request_sent, started, waits_for, was_asked, redirected, answer_taken, got}
+use Rattle.sc_client_table.specs.table.TableDefinitions.{Client as ClientState, ClientStep, sent_to, request_sent, started, got}
+use Rattle.sc_law_walks.proofs.WalkLemmas.{sent_step, started_step, sent_same, request_same, answer_step}
 use Rattle.sc_scenario.specs.declared.scenario.scenarios.Asks.{Asks}
 use Rattle.sc_live_plain.specs.PlainDefinitions.{IsLinkedSetting, IsCalmClient, start_of, start_known, Setting, IsSetting, IsCalmMail, Frame, IsWaiting, IsBegun, Requests}
 use Rattle.sc_live_plain.proofs.PlainLemmas.{calm_says, CalmSays, RingKnown, ring_known, alone, lacks, name_in, id_of, gap, learn_in_turn, chosen_is, chosen_among as chosen_known, same_of_one, some_is, map_among, near_behind, started_names as starting_names}
@@ -106,32 +107,15 @@ learnt_target group arc succ known other node =
 
 -- ---- what sending leaves
 
-asked_same : {X : Type 0} (f : ClientState → X) → ((client : ClientState) (asked : Option (Draw × ℕ)) → f (record client { asked = asked }) ≡ f client) → (client : ClientState) (group : Draw) (target : Option ℕ) (request : Option (ℕ × Op))
-    → f (asked_of client group target request).0 ≡ f client
-asked_same f same client group (Some target) (Some request) = same client (Some (group, target))
-asked_same f same client group (Some target) None = refl
-asked_same f same client group None request = refl
-
-sent_same : {X : Type 0} (f : ClientState → X) → ((client : ClientState) (asked : Option (Draw × ℕ)) → f (record client { asked = asked }) ≡ f client) → (client : ClientState) → f (request_sent client).0 ≡ f client
-sent_same {X} f same client = by (chosen_for client (waiting_request client))
-  where
-    by : (o : Option Draw) → f (sent_where client o).0 ≡ f client
-    by (Some group) = asked_same f same client group (target_in group client.known) (waiting_request client)
-    by None = refl
-
 started_known : (seq : ℕ) (client : ClientState) → (started seq client).0.known ≡ client.known
-started_known seq client =
-    cond_both (nat_le seq (length client.requests)) (request_sent (record client { waiting = Some seq })) (record client { waiting = None }, []) (λ (step : ClientStep). step.0.known ≡ client.known)
-    (λ _. sent_same (λ (c : ClientState). c.known) (λ c a. refl) (record client { waiting = Some seq })) (λ _. refl)
+started_known seq client = started_step client (λ (step : ClientStep). step.0.known ≡ client.known) seq (λ _. request_same (λ (c : ClientState). c.known) (λ c a. refl) (record client { waiting = Some seq })) (λ _. refl)
 
 -- the group that was asked is asked still
 abbrev AskedOf : Draw → ClientState → Type 0
 AskedOf group client = (target : ℕ) × (client.asked ≡ Some (group, target))
 
-sent_asked : (client : ClientState) (group : Draw) (target : Option ℕ) (request : Option (ℕ × Op)) → AskedOf group client → AskedOf group (asked_of client group target request).0
-sent_asked client group (Some target) (Some request) a = (target, refl)
-sent_asked client group (Some target) None a = a
-sent_asked client group None request a = a
+sent_asked : (client : ClientState) (group : Draw) → AskedOf group client → AskedOf group (sent_to group client).0
+sent_asked client group a = sent_step client (λ (step : ClientStep). AskedOf group step.0) group (record { silent = a; asks = λ target request t r. (target, refl) })
 
 asked_group : (client : ClientState) (group : Draw) → AskedOf group client → (w : IsWaiting client) → w.group ≡ group
 asked_group client group a w = ap (λ (x : Draw × ℕ). x.0) (some_is (sym w.asked ∙ a.1))
@@ -212,7 +196,7 @@ lone_waits set client entry one w group node t =
     elim (push_target group [] entry node (ap (target_in group) (sym one) ∙ t)) [ inl bad ↦ cc | inr same ↦ inr (same ∙ name) ]
 
 lone_leads : (set : Setting) (client : ClientState) (entry : Draw × Way) → client.known ≡ entry ∷ [] → AsksLeaders set (request_sent client).0
-lone_leads set client entry one = lone_waits set (request_sent client).0 entry (sent_same (λ (c : ClientState). c.known) (λ c a. refl) client ∙ one)
+lone_leads set client entry one = lone_waits set (request_sent client).0 entry (request_same (λ (c : ClientState). c.known) (λ c a. refl) client ∙ one)
 
 started_leads : (set : Setting) (seq : ℕ) (client : ClientState) (entry : Draw × Way) → client.known ≡ entry ∷ [] → AsksLeaders set (started seq client).0
 started_leads set seq client entry one = lone_waits set (started seq client).0 entry (started_known seq client ∙ one)
@@ -243,9 +227,9 @@ module _ (begun : Requests) (set : Setting) (fact : IsSetting set) (linked : IsL
   by_hint : (hint : ℕ) → Leads (sent_to w.group (record client { known = preferring w.group hint client.known }))
   by_hint hint w_ group node t =
       let before : ClientState = record client { known = preferring w.group hint client.known } in
-      let asked = sent_asked before w.group (target_in w.group before.known) (waiting_request before) (w.target, w.asked) in
+      let asked = sent_asked before w.group (w.target, w.asked) in
       let same : w_.group ≡ w.group = asked_group (sent_to w.group before).0 w.group asked w_ in
-      let known_is : (sent_to w.group before).0.known ≡ before.known = asked_same (λ (c : ClientState). c.known) (λ c a. refl) before w.group (target_in w.group before.known) (waiting_request before) in
+      let known_is : (sent_to w.group before).0.known ≡ before.known = sent_same (λ (c : ClientState). c.known) (λ c a. refl) w.group before in
       elim (cases_Bool (same_draw group w.group)) [
         | inl y ↦ inr (draw_is group w.group y ∙ sym same)
         | inr n ↦ (
@@ -266,9 +250,9 @@ module _ (begun : Requests) (set : Setting) (fact : IsSetting set) (linked : IsL
       by_frame frame a name lead out w_ group node t =
           let known : KnownGroups = learnt_from_not_mine frame.core.id frame.core.arc frame.core.succ client.known in
           let before : ClientState = record client { known = known } in
-          let known_is : (request_sent before).0.known ≡ known = sent_same (λ (c : ClientState). c.known) (λ c a. refl) before in
-          let waits_is : (request_sent before).0.waiting ≡ client.waiting = sent_same (λ (c : ClientState). c.waiting) (λ c a. refl) before in
-          let requests_is : (request_sent before).0.requests ≡ client.requests = sent_same (λ (c : ClientState). c.requests) (λ c a. refl) before in
+          let known_is : (request_sent before).0.known ≡ known = request_same (λ (c : ClientState). c.known) (λ c a. refl) before in
+          let waits_is : (request_sent before).0.waiting ≡ client.waiting = request_same (λ (c : ClientState). c.waiting) (λ c a. refl) before in
+          let requests_is : (request_sent before).0.requests ≡ client.requests = request_same (λ (c : ClientState). c.requests) (λ c a. refl) before in
           let seq_is : w_.seq ≡ w.seq = some_is (sym w_.waits ∙ (waits_is ∙ w.waits)) in
           let op_is : w_.op ≡ w.op = some_is (sym w_.op_is ∙ (ap (λ (l : List Op). slice_get l (w_.seq - 1)) requests_is ∙ (ap (λ n. slice_get client.requests (n - 1)) seq_is ∙ w.op_is))) in
           let choice : chosen (pos_of (key_of w.op)) known ≡ Some w_.group = ap (chosen (pos_of (key_of w.op))) (sym known_is) ∙ (ap (λ o. chosen (pos_of (key_of o)) (request_sent before).0.known) (sym op_is) ∙ w_.chosen_is) in
@@ -286,19 +270,16 @@ module _ (begun : Requests) (set : Setting) (fact : IsSetting set) (linked : IsL
       let known_is : learnt_from_gone w.group into client.known ≡ known = ap (learnt_from_gone w.group into) one.1 ∙ ap (group_learnt into.group into.lo into.members) removed in
       subst (λ l. Leads (request_sent (record client { known = l }))) (sym known_is) (lone_leads set (record client { known = known }) (into.group, new_way into.lo into.members) refl)
 
-  taken : (answer : AnswerBody) → SaysIt answer → Leads (answer_taken mail.from w.group w.seq answer client)
-  taken (Value reply) s = by_value reply s
-  taken (NotLeader (Some hint)) s = cond_both (was_asked client.asked mail.from w.group) (redirected w.group (NotLeader (Some hint)) client) (client, []) Leads (λ _. by_hint hint) (λ _. leads)
-  taken (NotLeader None) (inl s) = absurd (s.says.1.says)
-  taken (NotLeader None) (inr s) = absurd (s.says)
-  taken (NotMine arc succ) s = cond_both (was_asked client.asked mail.from w.group) (redirected w.group (NotMine arc succ) client) (client, []) Leads (λ _. by_not_mine arc succ s) (λ _. leads)
-  taken (Gone into) s = cond_both (was_asked client.asked mail.from w.group) (redirected w.group (Gone into) client) (client, []) Leads (λ _. by_gone into s) (λ _. leads)
-  taken (Stale last) s = cond_both (was_asked client.asked mail.from w.group) (redirected w.group (Stale last) client) (client, []) Leads (λ _. leads) (λ _. leads)
-
   pub answer_leads : (answer : AnswerBody) → mail.body ≡ Answer w.group w.seq answer → AsksLeaders set (got mail.from mail.body client).0
   answer_leads answer e =
       subst (λ (b : MailBody). Leads (got mail.from b client)) (sym e)
-      (cond_both (waits_for client.waiting w.seq) (answer_taken mail.from w.group w.seq answer client) (client, []) Leads (λ _. taken answer (calm_says begun set mail m (Answer w.group w.seq answer) e)) (λ _. leads))
+      (answer_step client mail.from w.group w.seq (λ answer step. SaysIt answer → Leads step) (λ answer _ s. leads) (record {
+        replied = λ reply _ s. by_value reply s;
+        hinted = λ hint _ _ s. by_hint hint;
+        turned = λ _ _ s. elim s [ inl plain ↦ absurd (plain.says.1.says) | inr aside ↦ absurd (aside.says) ];
+        not_mine = λ arc succ _ _ s. by_not_mine arc succ s;
+        gone = λ into _ _ s. by_gone into s;
+      }) answer (calm_says begun set mail m (Answer w.group w.seq answer) e))
 
 -- Clients go on to ask leaders: of each group that one knows, but for that which it asked last, it would ask the node that leads, once it goes and by each answer that it waits for.
 pub ask_leaders : ClientsAskLeaders

@@ -12,11 +12,12 @@ use Rattle.sc_base.proofs.Lemmas.{draw_is}
 use Rattle.sc_client_table.specs.lookup.LookupDefinitions.{KnownGroups, way_to, changed, preferring, passed_on, starting, group_learnt, learnt_from_not_mine, learnt_from_gone, new_way, next_target}
 use Rattle.sc_client_table.specs.declared.lookup.ways.Way.{Way}
 use Rattle.sc_mail.specs.declared.bodies.AnswerBody.TheVariants as Says
+use Rattle.sc_client_table.proofs.LookupProofs.KnownLemmas.{set_value-known}
 use Rattle.sc_client_table.specs.table.TableDefinitions.{Client as ClientState, ClientStep, sent_to, request_sent, started, redirected, got}
 use Rattle.sc_law_walks.proofs.WalkLemmas.{started_step, sent_same, request_same, waits_so, asked_so, answer_step}
 use Rattle.sc_live_steps.specs.calm.CalmDefinitions.{waiting_one, IsInTurn, unknown_one, unknown, AreBounded, Ways, answer_owes, Reach, sent_on, search_owes, client_owes, client_turn_owes, IsUnbegun, LearnsOf, LeavesFor, MayHear, ClientsPay}
 use Rattle.sc_live_steps.proofs.CalmStepsProofs.ClientRows.{request_owes, replied_owes, redirected_owes}
-use Rattle.sc_live_steps.proofs.CalmStepsProofs.TeachingAnswers.{set_knows, told_one, gone_one, gone_known}
+use Rattle.sc_live_steps.proofs.CalmStepsProofs.TeachingAnswers.{told_one, gone_one, gone_known}
 
 -- ---- products
 
@@ -84,7 +85,7 @@ module _ (reach : Reach) where
   changed_same : (change : Way → Way) (group : Draw) (known : KnownGroups) (o : Option Way) → sent_on reach (changed change group known o) ≡ sent_on reach known
   changed_same change group known None = refl
   changed_same change group known (Some way) =
-      let a = unknown_same known (set_value (same_draw group) known (change way)) (λ other. set_knows (same_draw group) (same_draw other) known (change way)) reach.stands in
+      let a = unknown_same known (set_value (same_draw group) known (change way)) (λ other. set_value-known (same_draw other) (same_draw group) known (change way)) reach.stands in
       let b = ends_set (same_draw group) known (change way) in
       omega (arith, a, b)
 

@@ -1,13 +1,14 @@
 -- Answers by which a client comes to know another group.
 use Rattle.std.proofs.Common.{◌≡◌, ℕ, ◌+◌, ◌≤◌, Bool, true, false, cond, List, [], ◌∷◌, ◌++◌, Option, Some, None, inl, inr, refl, ◌∙◌, ap, arith}
 use Rattle.std.specs.Prelude.{is_some}
-use Rattle.std.specs.Map.{lookup, set_value}
+use Rattle.std.specs.Map.{lookup}
 use Rattle.std.proofs.lemmas.List.Sums.{sum_by-cons}
 use Rattle.sc_base.specs.Definitions.{Among, Arc, end_of, same_draw}
 use Rattle.sc_node_table.specs.Values.{Draw, Link, Route}
 use Rattle.sc_base.proofs.Lemmas.{same_name}
 use Rattle.sc_client_table.specs.lookup.LookupDefinitions.{KnownGroups, way_to, changed, starting, group_learnt, learnt_from_not_mine, learnt_from_gone, new_way}
 use Rattle.sc_client_table.specs.declared.lookup.ways.Way.{Way}
+use Rattle.sc_client_table.proofs.LookupProofs.KnownLemmas.{set_value-known}
 use Rattle.sc_client_table.specs.table.TableDefinitions.{Client as ClientState, request_sent}
 use Rattle.sc_law_walks.proofs.WalkLemmas.{request_same}
 use Rattle.sc_live_steps.specs.calm.CalmDefinitions.{unknown_one, unknown, LearnsOneGroup, IsSentOn, AreBounded, Ways}
@@ -15,29 +16,12 @@ use Rattle.sc_live_steps.proofs.CalmStepsProofs.ClientRows.{request_owes}
 
 -- ---- whom a client knows
 
--- another value of a known group leaves what is known
-pub set_knows : (test other : Draw → Bool) (known : KnownGroups) (way : Way) → is_some (lookup other (set_value test known way)) ≡ is_some (lookup other known)
-set_knows test other [] way = refl
-set_knows test other (k ∷ ks) way = by (test k.0) (set_knows test other ks way)
-  where
-    head : (d : Bool) → is_some (cond d (Some way) (lookup other ks)) ≡ is_some (cond d (Some k.1) (lookup other ks))
-    head true = refl
-    head false = refl
-
-    tail : (d : Bool) → is_some (lookup other (set_value test ks way)) ≡ is_some (lookup other ks) → is_some (cond d (Some k.1) (lookup other (set_value test ks way))) ≡ is_some (cond d (Some k.1) (lookup other ks))
-    tail true more = refl
-    tail false more = more
-
-    by : (b : Bool) → is_some (lookup other (set_value test ks way)) ≡ is_some (lookup other ks) → is_some (lookup other (cond b ((k.0, way) ∷ ks) (k ∷ set_value test ks way))) ≡ is_some (cond (other k.0) (Some k.1) (lookup other ks))
-    by true more = head (other k.0)
-    by false more = tail (other k.0) more
-
 starting_knows : (other group : Draw) (lo : ℕ) (known : KnownGroups) → is_some (way_to other (starting group lo known)) ≡ is_some (way_to other known)
 starting_knows other group lo known = by (way_to group known)
   where
     by : (o : Option Way) → is_some (way_to other (changed (λ way. record way { lo = lo }) group known o)) ≡ is_some (way_to other known)
     by None = refl
-    by (Some way) = set_knows (same_draw group) (same_draw other) known (record way { lo = lo })
+    by (Some way) = set_value-known (same_draw other) (same_draw group) known (record way { lo = lo })
 
 -- one more is known, and all that were
 push_knows : (test : Draw → Bool) (known : KnownGroups) (entry : Draw × Way) → is_some (lookup test known) ≡ true → is_some (lookup test (known ++ entry ∷ [])) ≡ true
