@@ -200,18 +200,30 @@ module _ (f : PlaceFacts) where
   Hears (TxWatched tx coord part vote) = Unit {0}
   Hears (Told order result) = Unit {0}
 
--- a mail that node `me` may send to a client, or to a party of a transaction
+-- a mail that node `me` may send to a party of a transaction
+abbrev pub IsToPartner : ℕ → MailBody → Type 0
+IsToPartner me (TxPrepare tx offer) = offer.by ≡ me
+IsToPartner me (TxWatch tx watch) = watch.by ≡ me
+IsToPartner me (TxVote tx coord part vote) = Unit {0}
+IsToPartner me (TxWatched tx coord part vote) = Unit {0}
+IsToPartner me (TxOutcome tx part outcome) = Unit {0}
+IsToPartner me (TxElsewhere tx coord hint) = Unit {0}
+IsToPartner me _ = ⊥
+
+-- .. or to a client
 abbrev pub IsToParty : ℕ → ℕ → MailBody → Type 0
 IsToParty me to (Answer group seq answer) = (client : ℕ) × (to ≡ client_actor client)
-IsToParty me to (TxPrepare tx offer) = offer.by ≡ me
-IsToParty me to (TxWatch tx watch) = watch.by ≡ me
-IsToParty me to (TxVote tx coord part vote) = Unit {0}
-IsToParty me to (TxWatched tx coord part vote) = Unit {0}
-IsToParty me to (TxOutcome tx part outcome) = Unit {0}
-IsToParty me to (TxElsewhere tx coord hint) = Unit {0}
-IsToParty me to _ = ⊥
+IsToParty me to body = IsToPartner me body
 
--- that what holds of the mails of node `me` is kept by each mail to a client and to a party of a transaction
+pub to_party : (me to : ℕ) (body : MailBody) → IsToPartner me body → IsToParty me to body
+to_party me to (Answer group seq answer) own = absurd own
+to_party me to _ own = own
+
+-- that what holds of the mails of node `me` is kept by each mail to a party of a transaction
+abbrev pub Partners : ℕ → (List Mail → Type 0) → Type 0
+Partners me Q = (to : ℕ) (body : MailBody) (mails : List Mail) → IsToPartner me body → Q mails → Q (sent me to body mails)
+
+-- .. and to a client
 abbrev pub Parties : ℕ → (List Mail → Type 0) → Type 0
 Parties me Q = (to : ℕ) (body : MailBody) (mails : List Mail) → IsToParty me to body → Q mails → Q (sent me to body mails)
 

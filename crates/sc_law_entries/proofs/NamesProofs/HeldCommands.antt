@@ -48,12 +48,7 @@ module _ (P : Command → Type 0) where
   back_held (Leave node order) r c h = ((c, h.0), h.1, h.2, h.3, h.4)
   back_held (Split at child order) r c h = ((c, h.0), h.1, h.2, h.3, h.4)
   back_held (Begin tx body order) r c h = ((c, h.0), h.1, h.2, h.3, h.4)
-  back_held (Prepared tx offer) r c h = (h.0, (c, h.1), h.2, h.3, h.4)
-  back_held (RecordVote tx vote by) r c h = (h.0, (c, h.1), h.2, h.3, h.4)
-  back_held (GiveUp tx) r c h = (h.0, (c, h.1), h.2, h.3, h.4)
-  back_held (Finish tx outcome) r c h = (h.0, (c, h.1), h.2, h.3, h.4)
-  back_held (Watched tx watch) r c h = (h.0, (c, h.1), h.2, h.3, h.4)
-  back_held (RecordWatch tx vote by) r c h = (h.0, (c, h.1), h.2, h.3, h.4)
+  back_held _ r c h = (h.0, (c, h.1), h.2, h.3, h.4)
 
   pub last_held : (commands : List Command) (command : Command) → P command → Commands commands → Commands (commands ++ command ∷ [])
   last_held commands command c h = Each-append P commands (command ∷ []) h (c, tt)

@@ -45,9 +45,6 @@ module _ (ahead : Ahead) (base : Base) (made : Command → Type 0) (heard : Mail
 
   -- ---- a command goes back
 
-  waits : (r : ReplicaState) (mails : List Mail) (acts backlog : List Command) → Each made acts → Each made backlog → Ok (r, mails) → Ok (record r { acts = acts; backlog = backlog }, mails)
-  waits r mails acts backlog a b f = with_queues ahead base made heard me older before some r mails acts backlog a b f
-
   before_calls : (o : Option ℕ) (client seq : ℕ) (c : Command) (backlog : List Command) → made c → Each made backlog → Each made (request_before o client seq c backlog)
   before_calls None client seq c backlog m e = (m, e)
   before_calls (Some other) client seq c backlog m e = cond_both (nat_lt other seq) (c ∷ without_request backlog client) backlog (Each made) (λ _. (m, Each-without_request made backlog client e)) (λ _. e)
@@ -55,12 +52,12 @@ module _ (ahead : Ahead) (base : Base) (made : Command → Type 0) (heard : Mail
   back_place : (c : Command) (r : ReplicaState) (mails : List Mail) → made c → Ok (r, mails) → Ok (put_back c r, mails)
   unfolding put_back
   back_place Noop r mails m f = f
-  back_place (Call client seq op) r mails m f = waits r mails r.acts _ f.replica.acts (before_calls (queued_number r.backlog client) client seq (Call client seq op) r.backlog m f.replica.backlog) f
-  back_place (Join node order) r mails m f = waits r mails r.acts (Join node order ∷ r.backlog) f.replica.acts (m, f.replica.backlog) f
-  back_place (Leave node order) r mails m f = waits r mails r.acts (Leave node order ∷ r.backlog) f.replica.acts (m, f.replica.backlog) f
-  back_place (Split at child order) r mails m f = waits r mails r.acts (Split at child order ∷ r.backlog) f.replica.acts (m, f.replica.backlog) f
-  back_place (Begin tx body order) r mails m f = waits r mails r.acts (Begin tx body order ∷ r.backlog) f.replica.acts (m, f.replica.backlog) f
-  back_place c r mails m f = waits r mails (c ∷ r.acts) r.backlog (m, f.replica.acts) f.replica.backlog f
+  back_place (Call client seq op) r mails m f = with_queues ahead base made heard me older before some r mails r.acts _ f.replica.acts (before_calls (queued_number r.backlog client) client seq (Call client seq op) r.backlog m f.replica.backlog) f
+  back_place (Join node order) r mails m f = with_queues ahead base made heard me older before some r mails r.acts (Join node order ∷ r.backlog) f.replica.acts (m, f.replica.backlog) f
+  back_place (Leave node order) r mails m f = with_queues ahead base made heard me older before some r mails r.acts (Leave node order ∷ r.backlog) f.replica.acts (m, f.replica.backlog) f
+  back_place (Split at child order) r mails m f = with_queues ahead base made heard me older before some r mails r.acts (Split at child order ∷ r.backlog) f.replica.acts (m, f.replica.backlog) f
+  back_place (Begin tx body order) r mails m f = with_queues ahead base made heard me older before some r mails r.acts (Begin tx body order ∷ r.backlog) f.replica.acts (m, f.replica.backlog) f
+  back_place c r mails m f = with_queues ahead base made heard me older before some r mails (c ∷ r.acts) r.backlog (m, f.replica.acts) f.replica.backlog f
 
   -- ---- a counted call is answered, or goes back
 

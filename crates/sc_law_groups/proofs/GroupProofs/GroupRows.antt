@@ -108,15 +108,12 @@ module _ (ahead : Ahead) (base : Base) (made : Command → Type 0) (heard : Mail
   said : (r : ReplicaState) (mails more : List Mail) → AreSaid heard more → Ok (r, mails) → Ok (r, mails ++ more)
   said r mails more a f = says_all ahead base made heard me older before r mails more f a
 
-  queues : (r : ReplicaState) (mails : List Mail) (acts backlog : List Command) → Each made acts → Each made backlog → Ok (r, mails) → Ok (record r { acts = acts; backlog = backlog }, mails)
-  queues r mails acts backlog a b f = with_queues ahead base made heard me older before some r mails acts backlog a b f
-
   -- a command that was made waits last
   act_waits : (r : ReplicaState) (mails : List Mail) (act : Command) → made act → Ok (r, mails) → Ok (record r { acts = r.acts ++ act ∷ [] }, mails)
-  act_waits r mails act m f = queues r mails (r.acts ++ act ∷ []) r.backlog (Each-append made r.acts (act ∷ []) f.replica.acts (m, tt)) f.replica.backlog f
+  act_waits r mails act m f = with_queues ahead base made heard me older before some r mails (r.acts ++ act ∷ []) r.backlog (Each-append made r.acts (act ∷ []) f.replica.acts (m, tt)) f.replica.backlog f
 
   call_waits : (r : ReplicaState) (mails : List Mail) (backlog : List Command) (command : Command) → Each made backlog → made command → Ok (r, mails) → Ok (record r { backlog = backlog ++ command ∷ [] }, mails)
-  call_waits r mails backlog command b m f = queues r mails r.acts (backlog ++ command ∷ []) f.replica.acts (Each-append made backlog (command ∷ []) b (m, tt)) f
+  call_waits r mails backlog command b m f = with_queues ahead base made heard me older before some r mails r.acts (backlog ++ command ∷ []) f.replica.acts (Each-append made backlog (command ∷ []) b (m, tt)) f
 
   split : (commands rest : List Command) (command : Command) → commands ≡ command ∷ rest → Each made commands → made command × Each made rest
   split commands rest command e m = subst (λ (cs : List Command). Each made cs) e m
@@ -124,7 +121,7 @@ module _ (ahead : Ahead) (base : Base) (made : Command → Type 0) (heard : Mail
   offers : (slot : ℕ) (set : List ℕ) (r : ReplicaState) (mails : List Mail) (command : Command) (acts backlog : List Command) → r.running ≡ true → IsOpenOffer slot set command r → taken_at r slot ≡ None → made command → Each made acts → Each made backlog → Ok (r, mails)
       → Ok (offered slot set command (record r { acts = acts; backlog = backlog }, mails))
   offers slot set r mails command acts backlog on at free m a b f =
-      fine_offered ahead base made heard me older before some slot set command (record r { acts = acts; backlog = backlog }) mails on free (offer_still slot set command r acts backlog at) m (queues r mails acts backlog a b f)
+      fine_offered ahead base made heard me older before some slot set command (record r { acts = acts; backlog = backlog }) mails on free (offer_still slot set command r acts backlog at) m (with_queues ahead base made heard me older before some r mails acts backlog a b f)
 
   -- ---- the walk
 
@@ -186,7 +183,7 @@ module _ (ahead : Ahead) (base : Base) (made : Command → Type 0) (heard : Mail
     requested = λ client seq op r mails request e f. call_waits r mails r.backlog (Call client seq op) f.replica.backlog request.brought f;
     requested_again = λ client seq other op r mails request e g f. call_waits r mails (without_request r.backlog client) (Call client seq op) (Each-without_request made r.backlog client f.replica.backlog) request.brought f;
     turned = λ command answer backlog r mails on e no f. answered_one ahead base made heard me older before (record r { backlog = backlog }) mails r.group.core.id answer (named_so r mails f) (turned_dull ahead base made heard me older before some r.group.core command answer no) command
-        (queues r mails r.acts backlog f.replica.acts (split r.backlog backlog command e f.replica.backlog).1 f);
+        (with_queues ahead base made heard me older before some r mails r.acts backlog f.replica.acts (split r.backlog backlog command e f.replica.backlog).1 f);
     offers_value = λ slot set command r mails on at free e f. offers slot set r mails command r.acts r.backlog on at free (reported_made ahead base made heard me older before some slot command r mails f on e) f.replica.acts f.replica.backlog f;
     offers_noop = λ slot set r mails on at free f. offers slot set r mails Noop r.acts r.backlog on at free speaks.noop f.replica.acts f.replica.backlog f;
     offers_act = λ slot set act acts r mails on at free e f. (let one = split r.acts acts act e f.replica.acts in offers slot set r mails act acts r.backlog on at free one.0 one.1 f.replica.backlog f);

@@ -31,15 +31,7 @@ IsPlaced who line = IsAtPosition line.order
 
 placed_line : (nodes : ℕ) (clients : List Asks) (line : SchedLine) → IsBoundedLine nodes clients line → OrdersOnly IsPlaced (line_of line)
 placed_line nodes clients (scheduled.Told node line) bounded = at_position nodes line.order bounded.1
-placed_line nodes clients (scheduled.Go client) bounded = tt
-placed_line nodes clients (scheduled.Deliver who k) bounded = tt
-placed_line nodes clients (scheduled.Drop who k) bounded = tt
-placed_line nodes clients (scheduled.Again mail) bounded = tt
-placed_line nodes clients (scheduled.Tick who) bounded = tt
-placed_line nodes clients (scheduled.Crash node) bounded = tt
-placed_line nodes clients (scheduled.Settle most) bounded = tt
-placed_line nodes clients (scheduled.Free most workers) bounded = tt
-placed_line nodes clients (scheduled.Storm number most) bounded = tt
+placed_line nodes clients _ bounded = tt
 
 placed_lines : (nodes : ℕ) (clients : List Asks) (lines : List SchedLine) → Each (IsBoundedLine nodes clients) lines → Each (OrdersOnly IsPlaced) (map line_of lines)
 placed_lines nodes clients [] bounded = tt

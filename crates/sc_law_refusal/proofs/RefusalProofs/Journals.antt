@@ -71,11 +71,7 @@ module _ (ahead : Ahead) (scenario : Scenario) where
 go_event : (sent : List Mail) (event : Event OrderLine) → input_of sent event ≡ Some Go → is_go event ≡ true
 go_event sent event.Go e = refl
 go_event sent (event.Deliver mail) e = absurd (got_no_go (numbered sent mail) Go e refl)
-go_event sent event.Tick e = cc
-go_event sent (event.Told order) e = cc
-go_event sent event.Crash e = cc
-go_event sent (event.Drop mail) e = cc
-go_event sent (event.Again mail) e = cc
+go_event sent _ e = cc
 
 module _ (ahead : Ahead) (words : ℕ → ℕ → ℕ × ℕ) (scenario : Scenario) (rows : Rows) where
   abbrev S : Row Mail OrderLine → Type 0

@@ -1,20 +1,16 @@
 -- What is sent is no answer but where a client is answered: all other mail keeps what such mail leaves as it is.
-use Rattle.std.proofs.Common.{◌≡◌, ◌∙◌, ap, refl, append-nil, ℕ, zero, suc, ◌+◌, ◌-◌, nat_lt, eqb, Bool, false, cond, List, [], ◌∷◌, ◌++◌, Option, Some, None}
+use Rattle.std.proofs.Common.{◌≡◌, ◌∙◌, ap, refl, append-nil, ℕ, zero, suc, ◌+◌, ◌-◌, nat_lt, Bool, false, cond, List, [], ◌∷◌, ◌++◌, Option, Some, None}
 use Rattle.std.proofs.lemmas.Bool.{cond_both}
 use Rattle.std.proofs.lemmas.List.Elements.{filter-append}
-use Rattle.sc_base.specs.Definitions.{same_draw, Each, least_of}
-use Rattle.sc_node_table.specs.Values.{Draw, Offer, Body, Watch, Command, Split, Begin, Prepared, RecordVote, GiveUp, Watched, RecordWatch, Core, Lock, Free, Coordinating, Promised, Watching, Effect, Link, OrderResult, Heard, Outcome, Past, Vote, AnswerBody, Mail, MailBody, Answer, Accept, Learn, TxPrepare, TxVote, TxOutcome, TxWatched, Told}
-use Rattle.sc_words.specs.declared.commands.bodies.Body.TheVariants as At
-use Rattle.sc_words.specs.declared.commands.effects.Effect.TheVariants as Was
-use Rattle.sc_words.specs.declared.commands.votes.Outcome.TheVariants as Is
-use Rattle.sc_words.specs.declared.commands.votes.Past.TheVariants as Cast
-use Rattle.sc_words.specs.declared.commands.votes.Vote.TheVariants as Says
-use Rattle.sc_words.specs.commands.CommandDefinitions.{decided_in, cast_in}
-use Rattle.sc_group_table.specs.machine.MachineDefinitions.{Group, frozen_of}
+use Rattle.sc_base.specs.Definitions.{Each}
+use Rattle.sc_node_table.specs.Values.{Draw, Offer, Watch, Command, Core, Lock, Effect, OrderResult, Past, AnswerBody, Mail, MailBody, Answer, Accept, Learn, Told}
+use Rattle.sc_group_table.specs.machine.MachineDefinitions.{Group}
 use Rattle.sc_words.specs.paxos.PaxosDefinitions.{entry_at}
 use Rattle.sc_node_table.specs.declared.Before.{Before}
-use Rattle.sc_node_table.specs.NodeDefinitions.{sent, sent_all, sent_others, order_reported, offer_of, question, asked_first, asked_link, ReplicaState, name_of, flying, members, next, reminders, taught, uncounted, asked_again, last_entry_sent, voted_to, watched_to, outcome_sent, next_asked, asked_next, begun_result, spoken_number, result_reported, begun_reported, asked_on, begun_asks, vote_sent, watch_sent, aborted_to, aborted_watcher, given_up_by, vote_answered, released_to, watch_answered_by, went_on, spoken_mails}
+use Rattle.sc_node_table.specs.NodeDefinitions.{sent, sent_all, sent_others, order_reported, ReplicaState, name_of, flying, members, next, reminders, taught, uncounted, asked_again, last_entry_sent, voted_to, watched_to, asked_next, begun_result, spoken_number, result_reported, begun_reported, went_on, spoken_mails}
 use Rattle.sc_law_walks.proofs.WalkLemmas.{either_way}
+use Rattle.sc_law_walks.proofs.PlaceWalks.{IsToPartner, Partners}
+use Rattle.sc_law_walks.proofs.Talks.{all_sent, others_sent, vote_told, watch_told, next_told, all_told, went_told}
 use Rattle.sc_law_refusal.specs.refusal.RefusalDefinitions.{IfAnswer, answers_in, is_answer}
 
 -- a mail that is no answer
@@ -30,14 +26,9 @@ answer_weaker P Q f _ p = p
 pub plain_has : (P : Draw → ℕ → AnswerBody → Type 0) (body : MailBody) → IsPlain body → IfAnswer P body
 plain_has P body p = answer_weaker (λ group seq answer. ⊥) P (λ group seq answer none. absurd none) body p
 
-question_plain : (me : ℕ) (core : Core) (tx : Draw) (body : Body) (heard : Option Heard) → IsPlain (question me core tx body heard)
-question_plain me core tx At.Merge None = tt
-question_plain me core tx At.Merge (Some heard) = tt
-question_plain me core tx (At.Repart at) None = tt
-question_plain me core tx (At.Repart at) (Some heard) = tt
-question_plain me core tx (At.Migrate node) None = tt
-question_plain me core tx (At.Migrate node) (Some heard) = tt
-question_plain me core tx (At.Split at child) heard = tt
+partner_plain : (me : ℕ) (body : MailBody) → IsToPartner me body → IsPlain body
+partner_plain me (Answer group seq answer) own = own
+partner_plain me _ own = tt
 
 -- ---- the answers among mails
 
@@ -65,15 +56,10 @@ all_from_answers P plain (mail ∷ mails) each =
 
 module _ (Sent : List Mail → Type 0) (plain : (me to : ℕ) (body : MailBody) (mails : List Mail) → IsPlain body → Sent mails → Sent (sent me to body mails)) where
   pub all_plain : (me : ℕ) (nodes : List ℕ) (body : MailBody) (mails : List Mail) → IsPlain body → Sent mails → Sent (sent_all me nodes body mails)
-  unfolding sent_all
-  all_plain me [] body mails b m = m
-  all_plain me (node ∷ nodes) body mails b m = all_plain me nodes body (sent me node body mails) b (plain me node body mails b m)
+  all_plain me nodes body mails b m = all_sent me Sent body (λ to ms q. plain me to body ms b q) nodes mails m
 
   pub others_plain : (me : ℕ) (nodes : List ℕ) (body : MailBody) (mails : List Mail) → IsPlain body → Sent mails → Sent (sent_others me nodes body mails)
-  unfolding sent_others
-  others_plain me [] body mails b m = m
-  others_plain me (node ∷ nodes) body mails b m =
-      others_plain me nodes body (cond (eqb node me) mails (sent me node body mails)) b (either_way Sent (eqb node me) mails (sent me node body mails) m (plain me node body mails b m))
+  others_plain me nodes body mails b m = others_sent me Sent body (λ to ms q. plain me to body ms b q) nodes mails m
 
   pub reported_plain : (me number : ℕ) (result : OrderResult) (mails : List Mail) → Sent mails → Sent (order_reported me number result mails)
   unfolding order_reported
@@ -81,34 +67,20 @@ module _ (Sent : List Mail → Type 0) (plain : (me to : ℕ) (body : MailBody) 
 
   -- ---- the parties of a transaction
 
-  first_plain : (lock : Lock) (me : ℕ) (core : Core) (mails : List Mail) → Sent mails → Sent (asked_first lock me core mails)
-  first_plain Free me core mails m = m
-  first_plain (Coordinating tx body order heard) me core mails m = plain me _ (question me core tx body heard) mails (question_plain me core tx body heard) m
-  first_plain (Promised tx offer) me core mails m = m
-  first_plain (Watching tx watch) me core mails m = m
+  partners : (me : ℕ) → Partners me Sent
+  partners me to body mails own m = plain me to body mails (partner_plain me body own) m
 
   pub vote_plain : (me : ℕ) (group : Group) (node : ℕ) (tx : Draw) (offer : Offer) (vote : Past) (mails : List Mail) → Sent mails → Sent (voted_to me group node tx offer vote mails)
-  vote_plain me group node tx offer Cast.Yes mails m = plain me node (TxVote tx offer.coord offer.part (Says.Yes (frozen_of group))) mails tt m
-  vote_plain me group node tx offer (Cast.No why) mails m = plain me node (TxVote tx offer.coord offer.part (Says.No why)) mails tt m
-  vote_plain me group node tx offer Cast.Ended mails m = m
+  vote_plain me group node tx offer vote mails m = vote_told me Sent (partners me) group node tx offer vote mails m
 
   pub watched_plain : (me node : ℕ) (tx : Draw) (watch : Watch) (vote : Past) (mails : List Mail) → Sent mails → Sent (watched_to me node tx watch vote mails)
-  watched_plain me node tx watch Cast.Yes mails m = plain me node (TxWatched tx watch.coord watch.part Cast.Yes) mails tt m
-  watched_plain me node tx watch (Cast.No why) mails m = plain me node (TxWatched tx watch.coord watch.part (Cast.No why)) mails tt m
-  watched_plain me node tx watch Cast.Ended mails m = m
+  watched_plain me node tx watch vote mails m = watch_told me Sent (partners me) node tx watch vote mails m
 
   pub next_plain : (lock : Lock) (me : ℕ) (core : Core) (from : ℕ) (tx : Draw) (hint : Option ℕ) (mails : List Mail) → Sent mails → Sent (asked_next lock me core from tx hint mails)
-  next_plain Free me core from tx hint mails m = m
-  next_plain (Promised locked offer) me core from tx hint mails m = m
-  next_plain (Watching locked watch) me core from tx hint mails m = m
-  next_plain (Coordinating locked body order heard) me core from tx hint mails m =
-      either_way Sent (same_draw locked tx) _ _ (plain me (next_asked hint (asked_link core body heard).members from) (question me core tx body heard) mails (question_plain me core tx body heard) m) m
+  next_plain lock me core from tx hint mails m = next_told me Sent (partners me) lock core from tx hint mails m
 
   pub reminders_plain : (lock : Lock) (me : ℕ) (group : Group) (mails : List Mail) → Sent mails → Sent (reminders lock me group mails)
-  reminders_plain Free me group mails m = m
-  reminders_plain (Coordinating tx body order heard) me group mails m = all_plain me (asked_link group.core body heard).members (question me group.core tx body heard) mails (question_plain me group.core tx body heard) m
-  reminders_plain (Promised tx offer) me group mails m = all_plain me offer.members (TxVote tx offer.coord offer.part (Says.Yes (frozen_of group))) mails tt m
-  reminders_plain (Watching tx watch) me group mails m = all_plain me watch.members (TxWatched tx watch.coord watch.part Cast.Yes) mails tt m
+  reminders_plain lock me group mails m = all_told me Sent (partners me) lock group mails m
 
   -- ---- what is said of an executed entry
 
@@ -120,69 +92,12 @@ module _ (Sent : List Mail → Type 0) (plain : (me to : ℕ) (body : MailBody) 
   unfolding begun_reported
   begun_plain me before effect command mails m = result_plain me (begun_result before.alone effect command) (spoken_number before.order command) mails m
 
-  on_plain : (effect : Effect) (me : ℕ) (core : Core) (mails : List Mail) → Sent mails → Sent (asked_on effect me core mails)
-  on_plain Was.Changed me core mails m = first_plain core.lock me core mails m
-  on_plain _ me core mails m = m
-
-  begun_asks_plain : (effect : Effect) (me : ℕ) (core : Core) (tx : Draw) (body : Body) (mails : List Mail) → Sent mails → Sent (begun_asks effect me core tx body mails)
-  begun_asks_plain Was.Changed me core tx body mails m = plain me (least_of core.succ.members) (TxPrepare tx (offer_of me core body)) mails tt m
-  begun_asks_plain _ me core tx body mails m = m
-
-  cast_plain : (vote : Option Past) (me : ℕ) (group : Group) (tx : Draw) (offer : Offer) (mails : List Mail) → Sent mails → Sent (vote_sent vote me group tx offer mails)
-  cast_plain None me group tx offer mails m = m
-  cast_plain (Some vote) me group tx offer mails m = vote_plain me group offer.by tx offer vote mails m
-
-  watch_plain : (vote : Option Past) (me : ℕ) (tx : Draw) (watch : Watch) (mails : List Mail) → Sent mails → Sent (watch_sent vote me tx watch mails)
-  watch_plain None me tx watch mails m = m
-  watch_plain (Some vote) me tx watch mails m = watched_plain me watch.by tx watch vote mails m
-
-  aborted_plain : (me : ℕ) (tx : Draw) (link : Link) (mails : List Mail) → Sent mails → Sent (aborted_to me tx link mails)
-  aborted_plain me tx link mails m = all_plain me link.members (TxOutcome tx link.group Is.Abort) mails tt m
-
-  watcher_plain : (me : ℕ) (tx : Draw) (heard : Option (ℕ × Link)) (mails : List Mail) → Sent mails → Sent (aborted_watcher me tx heard mails)
-  watcher_plain me tx None mails m = m
-  watcher_plain me tx (Some heard) mails m = aborted_plain me tx heard.1 mails m
-
-  given_up_plain : (outcome : Option Outcome) (me : ℕ) (before : Before) (tx : Draw) (mails : List Mail) → Sent mails → Sent (given_up_by outcome me before tx mails)
-  given_up_plain None me before tx mails m = m
-  given_up_plain (Some outcome) me before tx mails m = watcher_plain me tx before.heard (aborted_to me tx before.succ mails) (aborted_plain me tx before.succ mails m)
-
-  outcome_plain : (me node : ℕ) (tx part : Draw) (outcome : Outcome) (mails : List Mail) → Sent mails → Sent (outcome_sent me node tx part outcome mails)
-  outcome_plain me node tx part outcome mails m = plain me node (TxOutcome tx part outcome) mails tt m
-
-  answered_plain : (outcome : Option Outcome) (vote : Vote) (me : ℕ) (before : Before) (tx : Draw) (by : ℕ) (mails : List Mail) → Sent mails → Sent (vote_answered outcome vote me before tx by mails)
-  answered_plain None vote me before tx by mails m = m
-  answered_plain (Some outcome) (Says.Yes frozen) me before tx by mails m = outcome_plain me by tx before.succ.group outcome mails m
-  answered_plain (Some outcome) (Says.No why) me before tx by mails m = m
-
-  released_plain : (heard : Option (ℕ × Link)) (me : ℕ) (succ : Link) (tx : Draw) (by : ℕ) (outcome : Outcome) (mails : List Mail) → Sent mails → Sent (released_to heard me succ tx by outcome mails)
-  released_plain None me succ tx by outcome mails m = outcome_plain me by tx succ.group outcome mails m
-  released_plain (Some heard) me succ tx by outcome mails m =
-      outcome_plain me by tx heard.1.group outcome (outcome_sent me heard.0 tx succ.group outcome mails) (outcome_plain me heard.0 tx succ.group outcome mails m)
-
-  watcher_answered : (outcome : Option Outcome) (vote : Past) (me : ℕ) (before : Before) (tx : Draw) (by : ℕ) (mails : List Mail) → Sent mails → Sent (watch_answered_by outcome vote me before tx by mails)
-  watcher_answered None vote me before tx by mails m = m
-  watcher_answered (Some outcome) Cast.Yes me before tx by mails m = released_plain before.heard me before.succ tx by outcome mails m
-  watcher_answered (Some outcome) (Cast.No why) me before tx by mails m = either_way Sent before.merges (aborted_to me tx before.succ mails) mails (aborted_plain me tx before.succ mails m) m
-  watcher_answered (Some outcome) Cast.Ended me before tx by mails m = m
-
-  went_plain : (me : ℕ) (group : Group) (before : Before) (effect : Effect) (command : Command) (mails : List Mail) → Sent mails → Sent (went_on me group before effect command mails)
-  unfolding went_on
-  went_plain me group before effect (Split at child order) mails m = on_plain effect me group.core mails m
-  went_plain me group before effect (Begin tx body order) mails m = begun_asks_plain effect me group.core tx body mails m
-  went_plain me group before effect (Prepared tx offer) mails m = cast_plain (cast_in effect) me group tx offer mails m
-  went_plain me group before effect (RecordVote tx vote by) mails m = answered_plain (decided_in effect) vote me before tx by (asked_on effect me group.core mails) (on_plain effect me group.core mails m)
-  went_plain me group before effect (GiveUp tx) mails m = given_up_plain (decided_in effect) me before tx mails m
-  went_plain me group before effect (Watched tx watch) mails m = watch_plain (cast_in effect) me tx watch mails m
-  went_plain me group before effect (RecordWatch tx vote by) mails m = watcher_answered (decided_in effect) vote me before tx by mails m
-  went_plain me group before effect _ mails m = m
-
   -- all that is said of an executed entry
   pub spoken_plain : (counted : Bool) (me : ℕ) (group : Group) (before : Before) (effect : Effect) (command : Command) (mails : List Mail) → Sent mails → Sent (spoken_mails counted me group before effect command mails)
   unfolding spoken_mails
   spoken_plain counted me group before effect command mails m =
       either_way Sent counted (went_on me group before effect command (begun_reported me before effect command mails)) (begun_reported me before effect command mails)
-      (went_plain me group before effect command (begun_reported me before effect command mails) (begun_plain me before effect command mails m)) (begun_plain me before effect command mails m)
+      (went_told me Sent (partners me) group before effect command (begun_reported me before effect command mails) (begun_plain me before effect command mails m)) (begun_plain me before effect command mails m)
 
   -- ---- entries that are taught, and what a leader asks again
 

@@ -79,11 +79,7 @@ not_got (Some mail) input e tick = cc
 tick_event : (sent : List Mail) (event : Event OrderLine) → input_of sent event ≡ Some Tick → is_tick event ≡ true
 tick_event sent event.Tick e = refl
 tick_event sent (event.Deliver mail) e = absurd (not_got (numbered sent mail) Tick e refl)
-tick_event sent event.Go e = cc
-tick_event sent (event.Told order) e = cc
-tick_event sent event.Crash e = cc
-tick_event sent (event.Drop mail) e = cc
-tick_event sent (event.Again mail) e = cc
+tick_event sent _ e = cc
 
 -- a node keeps its number
 me_children : (children : List Base) (node : NodeState) → (with_children children node).me ≡ node.me

@@ -34,11 +34,7 @@ line_number on r line e =
 -- the command of an order has the order's number
 pub number_is : (name : Draw) (number other : ℕ) (order : Order) → IsOf other (ordered_command name number order) → number ≡ other
 number_is name number other (An.Join node group) own = own
-number_is name number other (An.Leave node group) own = own
-number_is name number other (An.Split group at) own = own
-number_is name number other (An.Merge group) own = own
-number_is name number other (An.Repart group at) own = own
-number_is name number other (An.Migrate group node) own = own
+number_is name number other _ own = own
 
 module _ (ahead : Ahead) (base : Base) (h : Steps) (lawful : IsLawfulHistory (rule ahead base) (first ahead base) h) (made : Command → Type 0) (Fact : ℕ → OrderResult → Type 0)
     (decided : (whole : List Command) (command : Command) → IsLog (rule ahead base) h (whole ++ command ∷ []) → (number : ℕ) (result : OrderResult) → EndsOrder (state_after (birth ahead base) whole) command number result → Fact number result)

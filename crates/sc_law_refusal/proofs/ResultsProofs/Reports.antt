@@ -95,10 +95,7 @@ module _ (group : Group) (command : Command) (number : ℕ) where
   -- an outcome stands for a commit or an abort
   stands_for : (outcome : Outcome) → ((Such : Outcome → Type 0) → Such outcome → DecidesFor group command number Such) → EndsOrder group command number (outcome_result outcome)
   stands_for Is.Abort decides = decides (λ other. other ≡ Is.Abort) refl
-  stands_for (Is.Merged into) decides = decides IsCommit tt
-  stands_for (Is.Moved at gift) decides = decides IsCommit tt
-  stands_for (Is.Migrated node) decides = decides IsCommit tt
-  stands_for Is.Divided decides = decides IsCommit tt
+  stands_for _ decides = decides IsCommit tt
 
   decided_ends : (tx : Draw) (body : Body) (heard : Option Heard) → group.core.lock ≡ Coordinating tx body number heard → (effect : Effect) → (applied group command).1 ≡ effect → (result : OrderResult) → decided_result effect ≡ Some result → EndsOrder group command number result
   decided_ends tx body heard locked (Was.Decided outcome) e result f =
@@ -117,9 +114,7 @@ locked_ends group command (Watching tx watch) e result f t = cc
 
 before_alone : (lock : Lock) (core : Core) → (before_in lock core).alone ≡ is_alone core
 before_alone Free core = refl
-before_alone (Coordinating tx body order heard) core = refl
-before_alone (Promised tx offer) core = refl
-before_alone (Watching tx watch) core = refl
+before_alone _ core = refl
 
 pub order_ends : (group : Group) (command : Command) (result : OrderResult) → order_result command (applied group command).1 ≡ Some result → EndsOrder group command (order_number command) result
 order_ends group (Join node order) result e =
