@@ -77,15 +77,17 @@ module _ (F : Place → Type 0) (ends : (hint : Option ℕ) (answer : AnswerBody
   unfolding left
   leaving_kept (r, mails) p = either_way F r.running (left_gone r.group.core.gone (r, mails)) (r, mails) (gone_leaves r.group.core.gone (r, mails) p) p
 
--- what is kept by who elects itself and who follows is kept where a replica looks for a leader
-module _ (F : Place → Type 0) (elects : (place : Place) → F place → F (elected place)) (follows : (hint : Option ℕ) (r : ReplicaState) (mails : List Mail) → F (r, mails) → F (record r { hint = hint }, mails)) where
-  looks_for : (gone : Option Route) (place : Place) → F place → F (looked_for gone place)
-  looks_for (Some into) place p = p
-  looks_for None (r, mails) p =
-      either_way F (is_among (members r) r.hint) (r, mails) _ p
-      (either_way F (eqb (least_of (members r)) r.me) (elected (record r { hint = Some r.me }, mails)) (record r { hint = Some (least_of (members r)) }, mails) (elects (record r { hint = Some r.me }, mails) (follows (Some r.me) r mails p))
-      (follows (Some (least_of (members r))) r mails p))
+-- what holds of a replica whatever its hint, and of it elected, holds once it looked for a leader
+pub looks_from : (P : Place → Type 0) (r : ReplicaState) (mails : List Mail) → ((hint : Option ℕ) → P (record r { hint = hint }, mails)) → P (elected (record r { hint = Some r.me }, mails)) → P (looked (r, mails))
+unfolding looked
+looks_from P r mails any mine = either_way P r.running (r, mails) (looked_for r.group.core.gone (r, mails)) (any r.hint) (by_gone r.group.core.gone)
+  where
+    by_gone : (gone : Option Route) → P (looked_for gone (r, mails))
+    by_gone (Some into) = any r.hint
+    by_gone None =
+        either_way P (is_among (members r) r.hint) (r, mails) _ (any r.hint)
+        (either_way P (eqb (least_of (members r)) r.me) (elected (record r { hint = Some r.me }, mails)) (record r { hint = Some (least_of (members r)) }, mails) mine (any (Some (least_of (members r)))))
 
-  pub looking_kept : (place : Place) → F place → F (looked place)
-  unfolding looked
-  looking_kept (r, mails) p = either_way F r.running (r, mails) (looked_for r.group.core.gone (r, mails)) p (looks_for r.group.core.gone (r, mails) p)
+-- what is kept by who elects itself and who follows is kept where a replica looks for a leader
+pub looking_kept : (F : Place → Type 0) → ((place : Place) → F place → F (elected place)) → ((hint : Option ℕ) (r : ReplicaState) (mails : List Mail) → F (r, mails) → F (record r { hint = hint }, mails)) → (place : Place) → F place → F (looked place)
+looking_kept F elects follows (r, mails) p = looks_from F r mails (λ hint. follows hint r mails p) (elects (record r { hint = Some r.me }, mails) (follows (Some r.me) r mails p))

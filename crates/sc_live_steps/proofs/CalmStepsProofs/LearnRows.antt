@@ -1,13 +1,13 @@
 -- The row of a Learn at a replica that does not run: the entry, and the pump where it is elected by it.
-use Rattle.std.proofs.Common.{◌≡◌, ℕ, ◌+◌, ◌-◌, ◌^◌, ◌≤◌, eqb, ltb, Bool, true, false, true≢false, cond, List, [], ◌∷◌, Option, Some, None, ◌⊎◌, inl, inr, refl, sym, ◌∙◌, ap, subst, arith}
+use Rattle.std.proofs.Common.{◌≡◌, ℕ, ◌+◌, ◌-◌, ◌^◌, ◌≤◌, eqb, ltb, Bool, true, false, cond, List, [], ◌∷◌, Some, ◌⊎◌, inl, inr, refl, sym, ◌∙◌, ap, subst, arith}
 use Rattle.std.proofs.lemmas.Bool.{ltb-true, eqb-true}
-use Rattle.sc_node_table.specs.Values.{Ballot, Command, Route, Mail, Prepare, Ask, Report}
-use Rattle.sc_base.specs.Definitions.{least_of}
+use Rattle.sc_node_table.specs.Values.{Command, Mail, Ask, Report}
 use Rattle.sc_words.specs.declared.paxos.answers.Must.TheVariants.{Free as Open}
-use Rattle.sc_words.specs.paxos.PaxosDefinitions.{LeaderState, new_leader, must}
-use Rattle.sc_node_table.specs.NodeDefinitions.{open_nodes, elected, is_among, looked_for, looked, executed_one, executed_ready, all_ready, executed, sent, sent_all, pumped, ReplicaState, Place, Executed, childless, name_of, next, members, last_slot, learn_row}
-use Rattle.sc_law_walks.proofs.WalkLemmas.{idle_ready, idle_pump}
+use Rattle.sc_words.specs.paxos.PaxosDefinitions.{LeaderState, must}
+use Rattle.sc_node_table.specs.NodeDefinitions.{elected, looked, executed_one, executed_ready, all_ready, executed, sent, pumped, ReplicaState, Place, Executed, childless, name_of, next, last_slot, learn_row}
+use Rattle.sc_law_walks.proofs.WalkLemmas.{idle_ready, idle_pump, either_way}
 use Rattle.sc_live_steps.specs.calm.CalmDefinitions.{AreNines, Follows, Ways, place_owes}
+use Rattle.sc_live_steps.proofs.ExecutionParts.{looks_from}
 use Rattle.sc_live_steps.proofs.CalmStepsProofs.PumpPotential.{pump_owes}
 use Rattle.sc_live_steps.proofs.CalmStepsProofs.LearntPotential.{learnt_ends, learnt_owes}
 
@@ -17,34 +17,10 @@ IsFresh place = (place.0.running ≡ false) ⊎ ((place.0.ready ≡ []) × (plac
 
 elected_fresh : (r : ReplicaState) (mails : List Mail) → r.running ≡ false → AreNines r.sets → IsFresh (elected (r, mails))
 unfolding elected
-elected_fresh r mails stopped few = by (eqb r.top.round (2 ^ 32 - 1))
-  where
-    ballot : Ballot
-    ballot = record { round = r.top.round + 1; node = r.me }
-
-    by : (b : Bool) → IsFresh (cond {A = Place} b (r, mails) (
-      record r { top = ballot; hint = Some r.me; running = true; leader = new_leader ballot (next r); ready = []; waits = 0 },
-      sent_all r.me (open_nodes r.sets) (Prepare (name_of r) ballot (next r)) mails,
-    ))
-    by true = inl stopped
-    by false = inr (refl, refl, few)
+elected_fresh r mails stopped few = either_way IsFresh (eqb r.top.round (2 ^ 32 - 1)) (r, mails) _ (inl stopped) (inr (refl, refl, few))
 
 pub looked_fresh : (r : ReplicaState) (mails : List Mail) → r.running ≡ false → AreNines r.sets → IsFresh (looked (r, mails))
-unfolding looked
-looked_fresh r mails stopped few = by r.running stopped r.group.core.gone
-  where
-    by_hint : (b c : Bool) → IsFresh (cond {A = Place} b (r, mails) (cond c (elected (record r { hint = Some r.me }, mails)) (record r { hint = Some (least_of (members r)) }, mails)))
-    by_hint true c = inl stopped
-    by_hint false true = elected_fresh (record r { hint = Some r.me }) mails stopped few
-    by_hint false false = inl stopped
-
-    by_gone : (gone : Option Route) → IsFresh (looked_for gone (r, mails))
-    by_gone (Some into) = inl stopped
-    by_gone None = by_hint (is_among (members r) r.hint) (eqb (least_of (members r)) r.me)
-
-    by : (b : Bool) → b ≡ false → (gone : Option Route) → IsFresh (cond {A = Place} b (r, mails) (looked_for r.group.core.gone (r, mails)))
-    by true e went = absurd (true≢false e)
-    by false e went = by_gone r.group.core.gone
+looked_fresh r mails stopped few = looks_from IsFresh r mails (λ hint. inl stopped) (elected_fresh (record r { hint = Some r.me }) mails stopped few)
 
 -- ---- what follows the entry
 

@@ -1,18 +1,20 @@
 -- A replica that learns an entry raises nothing, also where it is elected by it.
-use Rattle.std.proofs.Common.{◌≡◌, ℕ, zero, suc, ◌+◌, ◌-◌, ◌^◌, ◌≤◌, eqb, Bool, true, false, true≢false, cond, List, [], length, sum_by, Option, Some, None, refl, sym, ◌∙◌, ap, subst, arith}
+use Rattle.std.proofs.Common.{◌≡◌, ℕ, zero, suc, ◌+◌, ◌-◌, ◌^◌, ◌≤◌, eqb, Bool, true, false, cond, List, [], length, sum_by, Option, Some, None, refl, sym, ◌∙◌, ap, subst, arith}
 use Rattle.std.specs.Option.{option_map}
 use Rattle.std.proofs.lemmas.List.Sums.{length-filter, count_by-le-length}
-use Rattle.sc_base.specs.Definitions.{most_nodes, least_of}
-use Rattle.sc_node_table.specs.Values.{Ballot, Command, Effect, Route, OrderResult, Mail, Prepare, Told, Flight}
+use Rattle.sc_base.specs.Definitions.{most_nodes}
+use Rattle.sc_node_table.specs.Values.{Command, Effect, OrderResult, Mail, Prepare, Told, Flight}
 use Rattle.sc_group_table.specs.policy.PolicyDefinitions.{is_reported}
-use Rattle.sc_words.specs.paxos.PaxosDefinitions.{LeaderState, new_leader, flight_at, without_flight_at}
+use Rattle.sc_words.specs.paxos.PaxosDefinitions.{LeaderState, flight_at, without_flight_at}
 use Rattle.sc_group_table.specs.machine.MachineDefinitions.{applied}
 use Rattle.sc_node_table.specs.declared.Before.{Before}
-use Rattle.sc_node_table.specs.NodeDefinitions.{is_in_some, nodes_to, open_nodes, elected, entered, order_result, effect_reported, announced, learnt_to, welcomed, slot_lost, landed, is_among, looked_for, looked, executed_one, order_reported, result_sent, sent_all, order_number, ReplicaState, Place, name_of, next, members, flying, forgotten, numbers_from, without_slot, before_of, begun_result, spoken_number, result_reported, begun_reported, spoken_mails, spoken}
+use Rattle.sc_node_table.specs.NodeDefinitions.{is_in_some, nodes_to, open_nodes, elected, entered, order_result, effect_reported, announced, learnt_to, welcomed, slot_lost, landed, looked, executed_one, order_reported, result_sent, order_number, ReplicaState, Place, name_of, next, members, flying, forgotten, numbers_from, without_slot, before_of, begun_result, spoken_number, result_reported, begun_reported, spoken_mails, spoken}
+use Rattle.sc_live_steps.proofs.ExecutionParts.{looks_from}
 use Rattle.sc_live_steps.specs.calm.CalmDefinitions.{Ways, mail_owes, replica_owes, idle_owes, election, place_owes}
 use Rattle.sc_live_steps.proofs.CalmStepsProofs.PotentialSums.{sent_owes, all_owe, without_flight_owes, without_slot_owes, idle_most as idle_low}
 use Rattle.sc_live_steps.proofs.FollowingProofs.FollowerTables.{left_same as left_learnt, learnt_same as learnt_learnt, welcomed_same as welcomed_learnt}
 use Rattle.std.proofs.lemmas.List.Sums.{length-filter, count_by-le-length}
+use Rattle.sc_law_walks.proofs.WalkLemmas.{either_way}
 pub use Rattle.sc_law_walks.proofs.WalkLemmas.{entered_running, entered_ready}
 
 -- ---- the nodes of an election
@@ -69,44 +71,17 @@ module _ (ways : Ways) where
   -- one that begins to run owes what its group owed for it
   elected_owes : (r : ReplicaState) (mails : List Mail) → r.running ≡ false → place_owes ways (elected (r, mails)) ≤ replica_owes ways.most r + election + sum_by (mail_owes ways) mails
   unfolding elected
-  elected_owes r mails stopped = by (eqb r.top.round (2 ^ 32 - 1))
-    where
-      ballot : Ballot
-      ballot = record { round = r.top.round + 1; node = r.me }
-
-      by : (b : Bool) → place_owes ways (cond b (r, mails) (
-        record r { top = ballot; hint = Some r.me; running = true; leader = new_leader ballot (next r); ready = []; waits = 0 },
-        sent_all r.me (open_nodes r.sets) (Prepare (name_of r) ballot (next r)) mails,
-      )) ≤ replica_owes ways.most r + election + sum_by (mail_owes ways) mails
-      by true = let low = idle_low r.running r.group.core.gone in omega (arith, low)
-      by false =
-          let all = all_owe ways r.me (Prepare (name_of r) ballot (next r)) 2 (λ node. omega arith) (open_nodes r.sets) mails in
-          let few = open_few r.sets in
-          omega (arith, all, few)
+  elected_owes r mails stopped =
+      let low = idle_low r.running r.group.core.gone in
+      let all = all_owe ways r.me (Prepare (name_of r) (record { round = r.top.round + 1; node = r.me }) (next r)) 2 (λ node. omega arith) (open_nodes r.sets) mails in
+      let few = open_few r.sets in
+      either_way (λ (p : Place). place_owes ways p ≤ replica_owes ways.most r + election + sum_by (mail_owes ways) mails) (eqb r.top.round (2 ^ 32 - 1)) (r, mails) _ (omega (arith, low)) (omega (arith, all, few))
 
   -- one that does not run looks for a leader
   pub looked_owes : (r : ReplicaState) (mails : List Mail) → r.running ≡ false → place_owes ways (looked (r, mails)) ≤ replica_owes ways.most r + election + sum_by (mail_owes ways) mails
-  unfolding looked
-  looked_owes r mails stopped = by r.running r.group.core.gone refl stopped
-    where
-      same : (hint : Option ℕ) → place_owes ways (record r { hint = hint }, mails) ≤ replica_owes ways.most r + election + sum_by (mail_owes ways) mails
-      same hint = let low = idle_low r.running r.group.core.gone in omega (arith, low)
-
-      stays : place_owes ways (r, mails) ≤ replica_owes ways.most r + election + sum_by (mail_owes ways) mails
-      stays = let low = idle_low r.running r.group.core.gone in omega (arith, low)
-
-      by_hint : (b c : Bool) → place_owes ways (cond b (r, mails) (cond c (elected (record r { hint = Some r.me }, mails)) (record r { hint = Some (least_of (members r)) }, mails))) ≤ replica_owes ways.most r + election + sum_by (mail_owes ways) mails
-      by_hint true c = stays
-      by_hint false true = elected_owes (record r { hint = Some r.me }) mails stopped
-      by_hint false false = same (Some (least_of (members r)))
-
-      by_gone : (gone : Option Route) → place_owes ways (looked_for gone (r, mails)) ≤ replica_owes ways.most r + election + sum_by (mail_owes ways) mails
-      by_gone (Some into) = stays
-      by_gone None = by_hint (is_among (members r) r.hint) (eqb (least_of (members r)) r.me)
-
-      by : (b : Bool) (gone : Option Route) → r.running ≡ b → b ≡ false → place_owes ways (cond b (r, mails) (looked_for r.group.core.gone (r, mails))) ≤ replica_owes ways.most r + election + sum_by (mail_owes ways) mails
-      by true went fact stays_so = absurd (true≢false stays_so)
-      by false went fact stays_so = by_gone r.group.core.gone
+  looked_owes r mails stopped =
+      looks_from (λ (p : Place). place_owes ways p ≤ replica_owes ways.most r + election + sum_by (mail_owes ways) mails) r mails
+      (λ hint. (let low = idle_low r.running r.group.core.gone in omega (arith, low))) (elected_owes (record r { hint = Some r.me }) mails stopped)
 
   -- ---- the parts of a learnt entry
 

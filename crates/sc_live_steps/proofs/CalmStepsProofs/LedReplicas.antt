@@ -1,12 +1,11 @@
 -- A replica of whose group another leads or is gone: what it learns lowers what is owed but for what its group owes.
-use Rattle.std.proofs.Common.{◌≡◌, ℕ, ◌+◌, ◌-◌, ◌^◌, ◌≤◌, eqb, ltb, Bool, true, false, true≢false, cond, List, [], Option, Some, None, refl, ◌∙◌, ap, arith}
+use Rattle.std.proofs.Common.{◌≡◌, ℕ, ◌+◌, ◌-◌, ◌^◌, ◌≤◌, eqb, ltb, Bool, true, false, true≢false, cond, List, [], Some, refl, ◌∙◌, ap, arith}
 use Rattle.std.proofs.lemmas.Bool.{ltb-true}
-use Rattle.sc_node_table.specs.Values.{Ballot, Command, Route, Mail, Prepare, Ask}
-use Rattle.sc_base.specs.Definitions.{least_of}
-use Rattle.sc_words.specs.paxos.PaxosDefinitions.{new_leader}
-use Rattle.sc_node_table.specs.NodeDefinitions.{open_nodes, elected, is_among, looked_for, looked, executed_one, executed, sent, sent_all, pumped, ReplicaState, Place, Executed, childless, name_of, next, members, last_slot, learn_row, mailed}
+use Rattle.sc_node_table.specs.Values.{Command, Mail, Ask}
+use Rattle.sc_node_table.specs.NodeDefinitions.{elected, looked, executed_one, executed, sent, pumped, ReplicaState, Place, Executed, childless, name_of, next, last_slot, learn_row, mailed}
 use Rattle.sc_live_steps.specs.calm.CalmDefinitions.{led_owes, StaysBehind, LearnsLed, LedLearnsLower, Ways}
-use Rattle.sc_law_walks.proofs.WalkLemmas.{idle_ready, idle_pump}
+use Rattle.sc_law_walks.proofs.WalkLemmas.{idle_ready, idle_pump, either_way}
+use Rattle.sc_live_steps.proofs.ExecutionParts.{looks_from}
 use Rattle.sc_live_steps.proofs.CalmStepsProofs.LearntPotential.{learnt_ends}
 
 module _ (ways : Ways) where
@@ -14,37 +13,10 @@ module _ (ways : Ways) where
 
   elected_led : (r : ReplicaState) (mails : List Mail) → (elected (r, mails)).0.running ≡ false → led_owes ways (elected (r, mails)) ≤ led_owes ways (r, mails)
   unfolding elected
-  elected_led r mails = by (eqb r.top.round (2 ^ 32 - 1))
-    where
-      ballot : Ballot
-      ballot = record { round = r.top.round + 1; node = r.me }
-
-      new : Place
-      new = (
-        record r { top = ballot; hint = Some r.me; running = true; leader = new_leader ballot (next r); ready = []; waits = 0 },
-        sent_all r.me (open_nodes r.sets) (Prepare (name_of r) ballot (next r)) mails,
-      )
-
-      by : (b : Bool) → (cond {A = Place} b (r, mails) new).0.running ≡ false → led_owes ways (cond {A = Place} b (r, mails) new) ≤ led_owes ways (r, mails)
-      by true off = omega arith
-      by false off = absurd (true≢false off)
+  elected_led r mails = either_way (λ (p : Place). p.0.running ≡ false → led_owes ways p ≤ led_owes ways (r, mails)) (eqb r.top.round (2 ^ 32 - 1)) (r, mails) _ (λ off. omega arith) (λ off. absurd (true≢false off))
 
   pub looked_led : (r : ReplicaState) (mails : List Mail) → (looked (r, mails)).0.running ≡ false → led_owes ways (looked (r, mails)) ≤ led_owes ways (r, mails)
-  unfolding looked
-  looked_led r mails = by r.running r.group.core.gone
-    where
-      by_hint : (b c : Bool) → (cond {A = Place} b (r, mails) (cond c (elected (record r { hint = Some r.me }, mails)) (record r { hint = Some (least_of (members r)) }, mails))).0.running ≡ false → led_owes ways (cond {A = Place} b (r, mails) (cond c (elected (record r { hint = Some r.me }, mails)) (record r { hint = Some (least_of (members r)) }, mails))) ≤ led_owes ways (r, mails)
-      by_hint true c off = omega arith
-      by_hint false true off = elected_led (record r { hint = Some r.me }) mails off
-      by_hint false false off = omega arith
-
-      by_gone : (gone : Option Route) → (looked_for gone (r, mails)).0.running ≡ false → led_owes ways (looked_for gone (r, mails)) ≤ led_owes ways (r, mails)
-      by_gone (Some into) off = omega arith
-      by_gone None off = by_hint (is_among (members r) r.hint) (eqb (least_of (members r)) r.me) off
-
-      by : (b : Bool) (went : Option Route) → (cond {A = Place} b (r, mails) (looked_for went (r, mails))).0.running ≡ false → led_owes ways (cond {A = Place} b (r, mails) (looked_for went (r, mails))) ≤ led_owes ways (r, mails)
-      by true went off = omega arith
-      by false went off = by_gone went off
+  looked_led r mails = looks_from (λ (p : Place). p.0.running ≡ false → led_owes ways p ≤ led_owes ways (r, mails)) r mails (λ hint off. omega arith) (elected_led (record r { hint = Some r.me }) mails)
 
   -- ---- the entry
 

@@ -1,12 +1,13 @@
 -- A node among others, and mail that no replica of it takes: it stays as it is, or makes a replica.
-use Rattle.std.proofs.Common.{◌≡◌, ℕ, ◌+◌, ◌-◌, ◌^◌, ◌≤◌, ◌==◌, ◌||◌, not, eqb, Bool, true, false, true≢false, cond, List, [], ◌∷◌, length, Option, Some, None, nat_lt, inl, inr, refl, sym, ◌∙◌, ap, arith}
+use Rattle.std.proofs.Common.{◌≡◌, ℕ, ◌+◌, ◌-◌, ◌^◌, ◌≤◌, ◌==◌, ◌||◌, not, eqb, Bool, true, false, true≢false, cond, List, [], ◌∷◌, length, Some, None, nat_lt, inl, inr, refl, sym, ◌∙◌, ap, arith}
 use Rattle.std.proofs.lemmas.Bool.{cond_both, cond-true, cond-false, cases_Bool}
-use Rattle.sc_base.specs.Definitions.{same_draw, is_member, least_of}
-use Rattle.sc_node_table.specs.Values.{Ballot, Draw, Base, Route, Mail, MailBody, Request, Prepare, Learn, Install, Told}
+use Rattle.sc_base.specs.Definitions.{same_draw, is_member}
+use Rattle.sc_node_table.specs.Values.{Draw, Base, Mail, MailBody, Request, Learn, Install, Told}
 use Rattle.sc_base.proofs.Lemmas.{draw_is, same_name}
 use Rattle.sc_group_table.specs.machine.MachineDefinitions.{Group}
-use Rattle.sc_words.specs.paxos.PaxosDefinitions.{new_leader}
-use Rattle.sc_node_table.specs.NodeDefinitions.{open_nodes, elected, is_among, looked_for, looked, named, sent_all, NodeState, replica_of, is_before, with_new, group_of_mail, with_made, unknown, may_come, taken_by, routed, on_mail, ReplicaState, Place, name_of, next, members, forgotten, installed_replica, last_slot, looked_up, made_by, slots_ahead}
+use Rattle.sc_node_table.specs.NodeDefinitions.{elected, looked, named, NodeState, replica_of, is_before, with_new, group_of_mail, with_made, unknown, may_come, taken_by, routed, on_mail, ReplicaState, Place, name_of, members, forgotten, installed_replica, last_slot, looked_up, made_by, slots_ahead}
+use Rattle.sc_law_walks.proofs.WalkLemmas.{either_way}
+use Rattle.sc_live_steps.proofs.ExecutionParts.{looks_from}
 use Rattle.sc_live_steps.specs.calm.CalmDefinitions.{led_owes, IsDelivered, MayMiss, Ways, idle_with, Elsewhere, groups_owe, party_owes, party_turn_owes, StandsOnce, PartyLowers, IsMadeBehind, StrangersLower}
 use Rattle.sc_live_steps.proofs.CalmStepsProofs.LedReplicas.{looked_led}
 use Rattle.sc_live_steps.proofs.CalmStepsProofs.CreatedPotential.{installed_idle, made_owe}
@@ -18,42 +19,14 @@ use Rattle.sc_live_steps.proofs.CalmStepsProofs.PartyPotential.{new_found, idle_
 -- one that looks for a leader is of the same group
 elected_group : (r : ReplicaState) (mails : List Mail) → (elected (r, mails)).0.group ≡ r.group
 unfolding elected
-elected_group r mails = by (eqb r.top.round (2 ^ 32 - 1))
-  where
-    ballot : Ballot
-    ballot = record { round = r.top.round + 1; node = r.me }
-
-    new : Place
-    new = (
-      record r { top = ballot; hint = Some r.me; running = true; leader = new_leader ballot (next r); ready = []; waits = 0 },
-      sent_all r.me (open_nodes r.sets) (Prepare (name_of r) ballot (next r)) mails,
-    )
-
-    by : (b : Bool) → (cond {A = Place} b (r, mails) new).0.group ≡ r.group
-    by true = refl
-    by false = refl
+elected_group r mails = either_way (λ (p : Place). p.0.group ≡ r.group) (eqb r.top.round (2 ^ 32 - 1)) (r, mails) _ refl refl
 
 looked_group : (r : ReplicaState) (mails : List Mail) → (looked (r, mails)).0.group ≡ r.group
-unfolding looked
-looked_group r mails = by r.running r.group.core.gone
-  where
-    by_hint : (b c : Bool) → (cond {A = Place} b (r, mails) (cond c (elected (record r { hint = Some r.me }, mails)) (record r { hint = Some (least_of (members r)) }, mails))).0.group ≡ r.group
-    by_hint true c = refl
-    by_hint false true = elected_group (record r { hint = Some r.me }) mails
-    by_hint false false = refl
-
-    by : (b : Bool) (went : Option Route) → (cond {A = Place} b (r, mails) (looked_for went (r, mails))).0.group ≡ r.group
-    by true went = refl
-    by false (Some into) = refl
-    by false None = by_hint (is_among (members r) r.hint) (eqb (least_of (members r)) r.me)
+looked_group r mails = looks_from (λ (p : Place). p.0.group ≡ r.group) r mails (λ hint. refl) (elected_group (record r { hint = Some r.me }) mails)
 
 found_group : (from : ℕ) (r : ReplicaState) → (looked_up from (r, [])).0.group ≡ r.group
 unfolding looked_up
-found_group from r = by (is_member (members r) from)
-  where
-    by : (b : Bool) → (cond {A = Place} b (record r { hint = Some from }, []) (looked (r, []))).0.group ≡ r.group
-    by true = refl
-    by false = looked_group r []
+found_group from r = either_way (λ (p : Place). p.0.group ≡ r.group) (is_member (members r) from) (record r { hint = Some from }, []) (looked (r, [])) refl (looked_group r [])
 
 installed_name : (me slot : ℕ) (group : Draw) (base : Base) (sets : List (List ℕ)) → name_of (installed_replica me slot (named group base) sets) ≡ group
 unfolding forgotten

@@ -2,12 +2,12 @@
 use Rattle.std.proofs.Common.{◌≡◌, ℕ, Bool, true, false, cond, [], ◌∷◌, ◌++◌, Option, Some, None, refl, sym, ◌∙◌, ap, subst}
 use Rattle.std.specs.Prelude.{is_none}
 use Rattle.sc_node_table.specs.Values.{Draw, Body, Offer, Watch, Join, Leave, Split, Begin, Prepared, RecordVote, Watched, Core, Lock, Free, Coordinating, Promised, Watching, Effect, Route, OrderRefusal, Frozen, No, Outcome, Abort, TxPrepare, TxVote, TxOutcome, TxWatched}
-use Rattle.sc_words.specs.commands.CommandDefinitions.{is_changed, decided_in}
+use Rattle.sc_words.specs.commands.CommandDefinitions.{is_changed}
 use Rattle.sc_words.specs.declared.commands.bodies.Body.TheVariants as At
 use Rattle.sc_words.specs.declared.commands.effects.Effect.TheVariants as Was
 use Rattle.sc_words.specs.declared.commands.votes.Past.TheVariants as Cast
 use Rattle.sc_words.specs.declared.commands.votes.Vote.TheVariants as Says
-use Rattle.sc_group_table.specs.machine.MachineDefinitions.{Group, split_group, refusal_of, ordered, with_node, without_node, Plan, frozen_of, has_named, left_group, begun_group, decided, committed, heard_group, past_of, bound_by as lock_by, voted_on}
+use Rattle.sc_group_table.specs.machine.MachineDefinitions.{Group, split_group, refusal_of, ordered, with_node, without_node, frozen_of, has_named, left_group, begun_group, decided, heard_group, past_of, bound_by as lock_by, voted_on}
 use Rattle.sc_base.specs.Definitions.{least_of}
 use Rattle.sc_node_table.specs.NodeDefinitions.{offer_of, question, asked_first, before_of, went_on, sent}
 use Rattle.sc_node_table.specs.declared.Before.{Before}
@@ -158,17 +158,12 @@ votes-leave = record {
 
 module _ (me : ℕ) (before : Before) (tx : Draw) (by : ℕ) where
   -- a decision is sent to the party that brought the vote
-  decided_leaves : (frozen : Frozen) (asked : Draw) (made : Group) (outcome : Outcome) → before.succ.group ≡ asked → Leaves Unbound (results tx asked First by) (RecordVote tx (Says.Yes frozen) by) me before (decided made tx outcome)
+  pub decided_leaves : (frozen : Frozen) (asked : Draw) (made : Group) (outcome : Outcome) → before.succ.group ≡ asked → Leaves Unbound (results tx asked First by) (RecordVote tx (Says.Yes frozen) by) me before (decided made tx outcome)
   unfolding went_on
   decided_leaves frozen asked made outcome e = record {
     bond_is = refl;
     sends = one-errand me by (TxOutcome tx before.succ.group outcome) asked (Result tx by) (ap (λ x. Some (x, Result tx by)) e);
   }
-
-  pub committed_leaves : (frozen : Frozen) (asked : Draw) (plan : Plan) (group : Group) (outcome : Outcome) → before.succ.group ≡ asked → decided_in (committed plan group tx).1 ≡ Some outcome
-      → Leaves Unbound (results tx asked First by) (RecordVote tx (Says.Yes frozen) by) me before (committed plan group tx)
-  committed_leaves frozen asked None group outcome e d = absurd cc
-  committed_leaves frozen asked (Some plan) group outcome e d = decided_leaves frozen asked plan.0 plan.1 e
 
   pub aborted_leaves : (why : No) (group : Group) → Leaves Unbound [] (RecordVote tx (Says.No why) by) me before (decided group tx Abort)
   unfolding went_on

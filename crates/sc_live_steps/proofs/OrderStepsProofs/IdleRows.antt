@@ -6,12 +6,12 @@ use Rattle.sc_base.specs.Definitions.{same_ballot, is_member}
 use Rattle.sc_node_table.specs.Values.{Ballot, Draw, Command, Noop, Base, Effect, OrderResult, AnswerBody, Mail, Accept, Ask, Install, Learn, Nack, Prepare, Promise, AcceptAnswer, PrepareAnswer, Flight, Report}
 use Rattle.sc_mail.specs.declared.bodies.AnswerBody.TheVariants as Says
 use Rattle.sc_group_table.specs.machine.MachineDefinitions.{applied}
-use Rattle.sc_node_table.specs.NodeDefinitions.{saw, ended, stopped, elected, open_nodes, entered, announced, order_result, effect_reported, learnt_to, welcomed, slot_lost, landed, left, looked, executed_one, executed, install_to, jumped, sent, sent_all, answered_all, order_number, pumped, ReplicaState, Place, Executed, childless, name_of, next, members, flying, under_way, forgotten, last_slot, listed, mailed, learn_row, looked_up, took_over, install_row, without_slot, before_of, spoken, spoken_mails, leads, promise_row, hinted, promise_to, promised, prepare_row, accepted_to, took, accept_row, nack_row}
+use Rattle.sc_node_table.specs.NodeDefinitions.{saw, ended, stopped, elected, open_nodes, entered, announced, order_result, effect_reported, learnt_to, welcomed, slot_lost, landed, left, looked, executed_one, executed, install_to, jumped, sent, answered_all, order_number, pumped, ReplicaState, Place, Executed, childless, name_of, next, members, flying, under_way, forgotten, last_slot, listed, mailed, learn_row, looked_up, took_over, install_row, without_slot, before_of, spoken, spoken_mails, leads, promise_row, hinted, promise_to, promised, prepare_row, accepted_to, took, accept_row, nack_row}
 use Rattle.sc_words.specs.declared.paxos.answers.AcceptAnswer.TheVariants as Asked
 use Rattle.sc_words.specs.declared.paxos.answers.Must.TheVariants.{Free as Open}
 use Rattle.sc_words.specs.declared.paxos.answers.PrepareAnswer.TheVariants as Prepared
-use Rattle.sc_words.specs.paxos.PaxosDefinitions.{accepted as accepted_by, AcceptorState, below, chosen_value, names_above, LeaderState, must, must_without, flight_at, new_leader, without_flight, without_flight_at, prepared}
-use Rattle.sc_law_walks.proofs.WalkLemmas.{idle_pump, none_ready as ready_still}
+use Rattle.sc_words.specs.paxos.PaxosDefinitions.{accepted as accepted_by, AcceptorState, below, chosen_value, names_above, LeaderState, must, must_without, flight_at, without_flight, without_flight_at, prepared}
+use Rattle.sc_law_walks.proofs.WalkLemmas.{idle_pump, none_ready as ready_still, either_way}
 use Rattle.sc_law_walks.specs.WalkDefinitions.{GoesOn}
 use Rattle.sc_live_steps.proofs.ExecutionParts.{leaving_kept, looking_kept}
 use Rattle.sc_live_steps.specs.orders.OrderDefinitions.{Work, works_in, works_flying, works_ready, works, errands_for, IsUnbound, Works, IsIdle, Rested, TablesRest, PromisesKeepWork}
@@ -183,21 +183,14 @@ module _ (command : Command) (r : ReplicaState) (idle : IsIdle r) where
 
   elected_still : (q : ReplicaState) (mails : List Mail) → IsStill q mails → Still (elected (q, mails))
   unfolding elected
-  elected_still q mails s = by (eqb q.top.round (2 ^ 32 - 1))
-    where
-      by : (b : Bool) → Still (cond b (q, mails) (
-        record q { top = record { round = q.top.round + 1; node = q.me }; hint = Some q.me; running = true; leader = new_leader (record { round = q.top.round + 1; node = q.me }) (next q); ready = []; waits = 0 },
-        sent_all q.me (open_nodes q.sets) (Prepare (name_of q) (record { round = q.top.round + 1; node = q.me }) (next q)) mails,
-      ))
-      by true = s
-      by false = record {
-        acts = s.acts;
-        backlog = s.backlog;
-        flights = refl;
-        ready = refl;
-        musts = λ e slot. refl;
-        sends = λ name. errands-all name q.me (open_nodes q.sets) (Prepare (name_of q) (record { round = q.top.round + 1; node = q.me }) (next q)) mails (λ to. refl) ∙ s.sends name;
-      }
+  elected_still q mails s = either_way Still (eqb q.top.round (2 ^ 32 - 1)) (q, mails) _ s (record {
+    acts = s.acts;
+    backlog = s.backlog;
+    flights = refl;
+    ready = refl;
+    musts = λ e slot. refl;
+    sends = λ name. errands-all name q.me (open_nodes q.sets) (Prepare (name_of q) (record { round = q.top.round + 1; node = q.me }) (next q)) mails (λ to. refl) ∙ s.sends name;
+  })
 
   looked_still : (q : ReplicaState) (mails : List Mail) → IsStill q mails → Still (looked (q, mails))
   looked_still q mails s = looking_kept Still (λ place k. elected_still place.0 place.1 k) (λ hint x more k. hinted_still hint x more k) (q, mails) s

@@ -5,12 +5,12 @@ use Rattle.sc_base.specs.Definitions.{client_actor, is_member, least_of}
 use Rattle.sc_node_table.specs.Values.{Draw, Command, Call, Effect, Route, OrderResult, AnswerBody, Mail, MailBody, Answer, Prepare, Learn, Told}
 use Rattle.sc_mail.specs.declared.bodies.AnswerBody.TheVariants as Says
 use Rattle.sc_group_table.specs.machine.MachineDefinitions.{Group, applied}
-use Rattle.sc_node_table.specs.NodeDefinitions.{elected, ended, stopped, open_nodes, entered, answer_of, answered_or_put_back, order_result, effect_reported, announced, learnt_to, welcomed, slot_lost, landed, left_gone, left, executed_one, executed, install_to, asked_to_promise, welcomed_all, sent, sent_all, sent_others, answered, answered_all, dismissed, dismissed_all, order_reported, result_sent, order_number, pumped, ReplicaState, Place, Executed, name_of, next, members, flying, under_way, forgotten, without_slot, before_of, begun_result, result_reported, begun_reported, went_on, spoken_mails, spoken}
+use Rattle.sc_node_table.specs.NodeDefinitions.{elected, ended, stopped, open_nodes, entered, answer_of, answered_or_put_back, order_result, effect_reported, announced, learnt_to, welcomed, slot_lost, landed, left_gone, left, executed_one, executed, install_to, asked_to_promise, welcomed_all, sent, sent_others, answered, answered_all, dismissed, dismissed_all, order_reported, result_sent, order_number, pumped, ReplicaState, Place, Executed, name_of, next, members, flying, under_way, forgotten, without_slot, before_of, begun_result, result_reported, begun_reported, went_on, spoken_mails, spoken}
 use Rattle.sc_node_table.specs.declared.Before.{Before}
 use Rattle.sc_words.specs.declared.paxos.answers.Must.TheVariants.{Free as Open}
-use Rattle.sc_words.specs.paxos.PaxosDefinitions.{must, new_leader, without_flight, without_flight_at}
+use Rattle.sc_words.specs.paxos.PaxosDefinitions.{must, without_flight, without_flight_at}
 use Rattle.sc_group_table.specs.policy.PolicyDefinitions.{is_reported}
-use Rattle.sc_law_walks.proofs.WalkLemmas.{entered_next, lost_counted, none_ready as ready_none}
+use Rattle.sc_law_walks.proofs.WalkLemmas.{entered_next, lost_counted, none_ready as ready_none, either_way}
 use Rattle.sc_live_steps.proofs.ExecutionParts.{looking_kept}
 use Rattle.sc_live_steps.specs.orders.OrderDefinitions.{Work, work_by, works_in, works_flying, works_ready, errand_by, errands_for, IsLone, RunsAlone, EntriesRunAlone}
 use Rattle.sc_live_steps.proofs.OrderStepsProofs.SentErrands.{went-adds}
@@ -238,11 +238,7 @@ module _ (command : Command) (work : Work) (r : ReplicaState) (lone : IsLone com
 
   left_done : (q : ReplicaState) (mails : List Mail) → IsDoneAt (q, mails) → IsDoneAt (left (q, mails))
   unfolding left
-  left_done q mails d = by q.running (gone_done q.group.core.gone q mails refl d)
-    where
-      by : (b : Bool) → IsDoneAt (left_gone q.group.core.gone (q, mails)) → IsDoneAt (cond b (left_gone q.group.core.gone (q, mails)) (q, mails))
-      by true g = g
-      by false g = d
+  left_done q mails d = either_way IsDoneAt q.running (left_gone q.group.core.gone (q, mails)) (q, mails) (gone_done q.group.core.gone q mails refl d) d
 
   -- 6. one that does not run looks for a leader
   hinted_done : (hint : Option ℕ) (q : ReplicaState) (mails : List Mail) → IsDoneAt (q, mails) → IsDoneAt (record q { hint = hint }, mails)
@@ -250,27 +246,20 @@ module _ (command : Command) (work : Work) (r : ReplicaState) (lone : IsLone com
 
   elected_done : (q : ReplicaState) (mails : List Mail) → IsDoneAt (q, mails) → IsDoneAt (elected (q, mails))
   unfolding elected
-  elected_done q mails d = by (eqb q.top.round (2 ^ 32 - 1))
-    where
-      by : (b : Bool) → IsDoneAt (cond b (q, mails) (
-        record q { top = record { round = q.top.round + 1; node = q.me }; hint = Some q.me; running = true; leader = new_leader (record { round = q.top.round + 1; node = q.me }) (next q); ready = []; waits = 0 },
-        sent_all q.me (open_nodes q.sets) (Prepare (name_of q) (record { round = q.top.round + 1; node = q.me }) (next q)) mails,
-      ))
-      by true = d
-      by false = (
-        record {
-          group = d.0.group;
-          me = d.0.me;
-          next_is = d.0.next_is;
-          acts = d.0.acts;
-          backlog = d.0.backlog;
-          flights = refl;
-          ready = refl;
-          musts = λ slot le. refl;
-          sends = λ name. errands-all name q.me (open_nodes q.sets) (Prepare (name_of q) (record { round = q.top.round + 1; node = q.me }) (next q)) mails (λ to. refl) ∙ d.0.sends name;
-        },
-        λ stands member. refl,
-      )
+  elected_done q mails d = either_way IsDoneAt (eqb q.top.round (2 ^ 32 - 1)) (q, mails) _ d (
+    record {
+      group = d.0.group;
+      me = d.0.me;
+      next_is = d.0.next_is;
+      acts = d.0.acts;
+      backlog = d.0.backlog;
+      flights = refl;
+      ready = refl;
+      musts = λ slot le. refl;
+      sends = λ name. errands-all name q.me (open_nodes q.sets) (Prepare (name_of q) (record { round = q.top.round + 1; node = q.me }) (next q)) mails (λ to. refl) ∙ d.0.sends name;
+    },
+    λ stands member. refl,
+  )
 
   one_done : IsDoneAt (executed_one true command (r, []))
   unfolding executed_one
