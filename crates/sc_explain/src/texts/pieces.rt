@@ -24,11 +24,15 @@ pub(crate) trait ToText: Sized {
             text.old.items ++ compact_text (json_of self.now)) };
 }
 
-/// Appends a fixed word.
+/// Appends a fixed word. One of one byte is pushed, since many are, and a copy of a slice costs more.
 #[inline]
 pub(crate) fn add_word(text: &mut Vec<u8>, word: &[u8]) -> Result<(), OutOfMemory>
     ensures { OnOk result (text.new.items ≡ text.old.items ++ word.now) }
 {
+    if word.len() == 1 {
+        text.push(word[0])?;
+        return Ok(());
+    }
     text.extend_from_slice(word)?;
     Ok(())
 }
