@@ -123,12 +123,13 @@ set_starts test (k ∷ ks) way e =
           ap (map start_known) (cond-false (test k.0) ((k.0, way) ∷ ks) (k ∷ set_value test ks way) f) ∙ ap (λ l. start_known k ∷ l) (set_starts test ks way rest))
     ]
 
+-- another value of a known group leaves the names
+changed_names : (change : Way → Way) (group : Draw) (known : KnownGroups) (o : Option Way) → map name_in (changed change group known o) ≡ map name_in known
+changed_names change group known None = refl
+changed_names change group known (Some way) = set_names (same_draw group) known (change way)
+
 pub started_names : (group : Draw) (lo : ℕ) (known : KnownGroups) → map name_in (starting group lo known) ≡ map name_in known
-started_names group lo known = by (way_to group known)
-  where
-    by : (o : Option Way) → map name_in (changed (λ way. record way { lo = lo }) group known o) ≡ map name_in known
-    by None = refl
-    by (Some way) = set_names (same_draw group) known (record way { lo = lo })
+started_names group lo known = changed_names (λ way. record way { lo = lo }) group known (way_to group known)
 
 -- nothing is known of a group whose name is not among those known
 not_known : (name : Draw) (known : KnownGroups) → ((other : Draw) → Among other (map name_in known) → other ≡ name → ⊥) → way_to name known ≡ None
@@ -151,11 +152,7 @@ known_start (k ∷ ks) group way e =
 
 -- another preferred node leaves names and starts
 pub preferring_names : (group : Draw) (node : ℕ) (known : KnownGroups) → map name_in (preferring group node known) ≡ map name_in known
-preferring_names group node known = by (way_to group known)
-  where
-    by : (o : Option Way) → map name_in (changed (λ way. record way { preferred = Some node }) group known o) ≡ map name_in known
-    by None = refl
-    by (Some way) = set_names (same_draw group) known (record way { preferred = Some node })
+preferring_names group node known = changed_names (λ way. record way { preferred = Some node }) group known (way_to group known)
 
 pub preferring_starts : (group : Draw) (node : ℕ) (known : KnownGroups) → map start_known (preferring group node known) ≡ map start_known known
 preferring_starts group node known = by (way_to group known) refl
