@@ -7,6 +7,7 @@ pub mod WalkLemmas
 pub mod Counts
 pub mod Queues
 pub mod PlaceWalks
+pub mod EndedRequests
 pub mod Talks
 pub mod TableWalks
 pub mod TableEntries

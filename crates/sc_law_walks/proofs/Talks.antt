@@ -1,7 +1,7 @@
 -- What holds of the mails of a row is kept by all that a replica tells others by the entries, the locks and the queues of its group.
 use Rattle.std.proofs.Common.{ℕ, refl, eqb, Bool, cond, List, [], ◌∷◌, Option, Some, None}
 use Rattle.sc_base.specs.Definitions.{client_actor, same_draw, least_of, Each}
-use Rattle.sc_node_table.specs.Values.{Draw, Body, Offer, Watch, Command, Call, Split, Begin, Prepared, RecordVote, GiveUp, Watched, RecordWatch, Core, Lock, Free, Coordinating, Promised, Watching, Effect, Link, OrderResult, Heard, Outcome, Past, Vote, AnswerBody, Mail, MailBody, Answer, TxPrepare, TxVote, TxOutcome, TxWatch, TxWatched}
+use Rattle.sc_node_table.specs.Values.{Draw, Body, Offer, Watch, Command, Split, Begin, Prepared, RecordVote, GiveUp, Watched, RecordWatch, Core, Lock, Free, Coordinating, Promised, Watching, Effect, Link, OrderResult, Heard, Outcome, Past, Vote, AnswerBody, Mail, MailBody, Answer, TxPrepare, TxVote, TxOutcome, TxWatch, TxWatched}
 use Rattle.sc_words.specs.declared.commands.bodies.Body.TheVariants as At
 use Rattle.sc_words.specs.declared.commands.votes.Outcome.TheVariants as Is
 use Rattle.sc_words.specs.declared.commands.votes.Past.TheVariants as Cast
@@ -10,7 +10,8 @@ use Rattle.sc_words.specs.commands.CommandDefinitions.{decided_in, cast_in, is_c
 use Rattle.sc_group_table.specs.machine.MachineDefinitions.{Group, frozen_of}
 use Rattle.sc_group_table.specs.policy.PolicyDefinitions.{is_reported}
 use Rattle.sc_node_table.specs.declared.Before.{Before}
-use Rattle.sc_node_table.specs.NodeDefinitions.{sent, sent_all, answer_to, sent_others, answered, answered_all, result_sent, order_reported, dismissed, dismissed_all, offer_of, union_watch, split_watch, heard_question, question, asked_first, asked_link, voted_to, watched_to, outcome_sent, next_asked, asked_next, begun_result, spoken_number, result_reported, begun_reported, asked_on, begun_asks, vote_sent, watch_sent, aborted_to, aborted_watcher, given_up_by, vote_answered, released_to, watch_answered_by, went_on, spoken_mails, reminders}
+use Rattle.sc_node_table.specs.NodeDefinitions.{sent, sent_all, answer_to, sent_others, answered, answered_all, result_sent, order_reported, dismissed_all, offer_of, union_watch, split_watch, heard_question, question, asked_first, asked_link, voted_to, watched_to, outcome_sent, next_asked, asked_next, begun_result, spoken_number, result_reported, begun_reported, asked_on, begun_asks, vote_sent, watch_sent, aborted_to, aborted_watcher, given_up_by, vote_answered, released_to, watch_answered_by, went_on, spoken_mails, reminders}
+use Rattle.sc_law_walks.proofs.EndedRequests.{any_ends, all_end, all_queued_end}
 use Rattle.sc_law_walks.proofs.Ways.{either_way}
 use Rattle.sc_law_walks.proofs.PlaceWalks.{Talk, Partners, Parties, to_party, parties}
 
@@ -152,14 +153,10 @@ module _ (me : ℕ) (Q : List Mail → Type 0) (puts : Parties me Q) where
   client_reported client group seq answer mails m = puts (client_actor client) (Answer group seq answer) mails (client, refl) m
 
   pub one_replied : AnswersOne me Q
-  unfolding answered
-  one_replied group answer (Call client seq op) mails m = client_reported client group seq answer mails m
-  one_replied group answer _ mails m = m
+  one_replied group answer command mails m = any_ends me group answer Q (λ client seq ms q. client_reported client group seq answer ms q) command mails m
 
   pub all_replied : AnswersAll me Q
-  unfolding answered_all
-  all_replied group answer [] mails m = m
-  all_replied group answer (command ∷ commands) mails m = all_replied group answer commands (answered me group answer command mails) (one_replied group answer command mails m)
+  all_replied group answer commands mails m = all_end me group answer Q (λ client seq ms q. client_reported client group seq answer ms q) commands mails m
 
   partners : Partners me Q
   partners to body mails own m = puts to body mails (to_party me to body own) m
@@ -195,15 +192,9 @@ module _ (me : ℕ) (Q : List Mail → Type 0) (t : Talk me Q) where
   unfolding order_reported
   desk_reported number result mails m = either_way Q (is_reported number) (result_sent me number result mails) mails (t.tells number result mails m) m
 
-  one_dismissed : (group : Draw) (hint : Option ℕ) (answer : AnswerBody) (command : Command) (mails : List Mail) → Q mails → Q (dismissed me group hint answer command mails)
-  unfolding dismissed
-  one_dismissed group hint answer (Call client seq op) mails m = client_reported me Q (parties me Q t) client group seq answer mails m
-  one_dismissed group hint answer _ mails m = desk_reported _ _ mails m
-
   pub all_dismissed : (group : Draw) (hint : Option ℕ) (answer : AnswerBody) (commands : List Command) (mails : List Mail) → Q mails → Q (dismissed_all me group hint answer commands mails)
-  unfolding dismissed_all
-  all_dismissed group hint answer [] mails m = m
-  all_dismissed group hint answer (command ∷ commands) mails m = all_dismissed group hint answer commands (dismissed me group hint answer command mails) (one_dismissed group hint answer command mails m)
+  all_dismissed group hint answer commands mails m =
+      all_queued_end me group answer Q (λ client seq ms q. client_reported me Q (parties me Q t) client group seq answer ms q) hint (λ number ms q. desk_reported number _ ms q) commands mails m
 
   begun_said : (before : Before) (effect : Effect) (command : Command) (mails : List Mail) → Q mails → Q (begun_reported me before effect command mails)
   unfolding begun_reported

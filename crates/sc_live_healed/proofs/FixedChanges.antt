@@ -15,6 +15,7 @@ use Rattle.sc_law_walks.specs.WalkDefinitions.{GoesOn}
 use Rattle.sc_live_healed.proofs.FixedWalks.{IsFixedPlace, IsSaid, IsMember, IsFresh}
 use Rattle.sc_live_healed.proofs.FixedEntries.{unreported, unspoken, learner, none_joined}
 use Rattle.sc_law_walks.proofs.Talks.{each_sent}
+use Rattle.sc_law_walks.proofs.EndedRequests.{all_end}
 use Rattle.sc_live_healed.proofs.FixedParts as parts
 use Rattle.sc_live_healed.specs.HealedDefinitions.{IsFixedRequest, IsFixedCommand, IsFixedReplica, KeepsBallots, IsFixedBody, IsFixedAnswer}
 
@@ -53,10 +54,7 @@ module _ (base : Base) (me : ℕ) (fresh : IsFresh base me) where
     leader_said client seq mails s = one_said r (client_actor client) (Answer (name_of r) seq (Says.NotLeader (Some node))) mails fact (same, fresh.member, m) s
 
     all_said : (commands : List Command) (mails : List Mail) → Said mails → Said (answered_all r.me (name_of r) (Says.NotLeader (Some node)) commands mails)
-    unfolding answered_all answered
-    all_said [] mails s = s
-    all_said (Call client seq op ∷ commands) mails s = all_said commands _ (leader_said client seq mails s)
-    all_said (command ∷ commands) mails s = all_said commands mails s
+    all_said commands mails s = all_end r.me (name_of r) (Says.NotLeader (Some node)) Said leader_said commands mails s
 
     requests_said : (commands : List Command) (mails : List Mail) → Each (IsFixedRequest base) commands → Said mails → Said (dismissed_all r.me (name_of r) (Some node) (Says.NotLeader (Some node)) commands mails)
     unfolding dismissed_all dismissed

@@ -11,6 +11,7 @@ use Rattle.sc_words.specs.paxos.PaxosDefinitions.{AcceptorState, below, may_prom
 use Rattle.sc_node_table.specs.NodeDefinitions.{ended, stopped, saw, install_to, install_row, took_over, sent, promise_to, promised, prepare_row, promise_row, nack_row, pumped, leads, hinted, last_slot, name_of, next, under_way, answered, answered_all, dismissed, dismissed_all, order_reported, result_sent, group_of_mail, queued, requested, request_row, refused_at, queued_number, without_request, ReplicaState, Place}
 use Rattle.sc_group_table.specs.policy.PolicyDefinitions.{is_reported}
 use Rattle.sc_law_walks.proofs.WalkLemmas.{either_way}
+use Rattle.sc_law_walks.proofs.EndedRequests.{all_end, all_queued_end}
 use Rattle.sc_live_healed.proofs.FixedWalks.{IsFresh, IsFixedPlace}
 use Rattle.sc_live_healed.proofs.FixedChanges.{polls, with_backlog}
 use Rattle.sc_live_healed.proofs.FixedParts.{request_taken, without_requests}
@@ -31,29 +32,16 @@ pushed : (me to : ℕ) (body : MailBody) (mails : List Mail) → IsAnswerKind bo
 pushed me to body mails a m = Each-append IsAnswerMail mails (record { from = me; to = to; body = body } ∷ []) m (a, tt)
 
 -- a replica that stops answers clients alone: answers and results are of no group
-call_says : (me : ℕ) (group : Draw) (answer : AnswerBody) (command : Command) (mails : List Mail) → Answering mails → Answering (answered me group answer command mails)
-unfolding answered
-call_says me group answer (Call client seq op) mails m = pushed me (client_actor client) (Answer group seq answer) mails (inr refl) m
-call_says me group answer _ mails m = m
-
 calls_say : (me : ℕ) (group : Draw) (answer : AnswerBody) (commands : List Command) (mails : List Mail) → Answering mails → Answering (answered_all me group answer commands mails)
-unfolding answered_all
-calls_say me group answer [] mails m = m
-calls_say me group answer (command ∷ commands) mails m = calls_say me group answer commands (answered me group answer command mails) (call_says me group answer command mails m)
+calls_say me group answer commands mails m = all_end me group answer Answering (λ client seq ms q. pushed me (client_actor client) (Answer group seq answer) ms (inr refl) q) commands mails m
 
 result_says : (me number : ℕ) (result : OrderResult) (mails : List Mail) → Answering mails → Answering (order_reported me number result mails)
 unfolding order_reported
 result_says me number result mails m = either_way Answering (is_reported number) (result_sent me number result mails) mails (pushed me 0 (Told number result) mails (inr refl) m) m
 
-queued_says : (me : ℕ) (group : Draw) (hint : Option ℕ) (answer : AnswerBody) (command : Command) (mails : List Mail) → Answering mails → Answering (dismissed me group hint answer command mails)
-unfolding dismissed
-queued_says me group hint answer (Call client seq op) mails m = pushed me (client_actor client) (Answer group seq answer) mails (inr refl) m
-queued_says me group hint answer _ mails m = result_says me _ _ mails m
-
 queues_say : (me : ℕ) (group : Draw) (hint : Option ℕ) (answer : AnswerBody) (commands : List Command) (mails : List Mail) → Answering mails → Answering (dismissed_all me group hint answer commands mails)
-unfolding dismissed_all
-queues_say me group hint answer [] mails m = m
-queues_say me group hint answer (command ∷ commands) mails m = queues_say me group hint answer commands (dismissed me group hint answer command mails) (queued_says me group hint answer command mails m)
+queues_say me group hint answer commands mails m =
+    all_queued_end me group answer Answering (λ client seq ms q. pushed me (client_actor client) (Answer group seq answer) ms (inr refl) q) hint (λ number ms q. result_says me number _ ms q) commands mails m
 
 seen_says : (ballot : Ballot) (place : Place) → Answering place.1 → Answering (saw ballot place).1
 unfolding saw ended

@@ -16,6 +16,8 @@ use Rattle.sc_node_table.specs.declared.Before.{Before}
 use Rattle.sc_node_table.specs.NodeDefinitions.{sent, sent_all, sent_others, answered, answered_all, order_reported, dismissed, dismissed_all, offer_of, heard_question, question, asked_first, voted_to, watched_to, outcome_sent, heard_from, before_in, before_of, outcome_result, decided_result, begun_result, spoken_number, result_reported, begun_reported, asked_on, begun_asks, vote_sent, watch_sent, aborted_to, aborted_watcher, given_up_by, vote_answered, released_to, watch_answered_by, went_on, spoken_mails}
 use Rattle.sc_law_entries.specs.names.NameDefinitions.{Opt, BodyNames, OfferNames, WatchNames, PastNames, OutcomeNames, HeardNames, LockNames, CoreNames, CommandNames, EffectNames, ResultNames, AnswerNames, BodiesNames, MailNames}
 use Rattle.sc_law_walks.proofs.WalkLemmas.{either_way}
+use Rattle.sc_law_walks.proofs.EndedRequests.{any_ends, all_end, all_queued_end}
+use Rattle.sc_law_walks.proofs.Talks.{all_sent}
 
 module _ (K : Draw → Type 0) where
   abbrev pub Sent : List Mail → Type 0
@@ -26,45 +28,23 @@ module _ (K : Draw → Type 0) where
   sent_names me to body mails b m = Each-append (MailNames K) mails (record { from = me; to = to; body = body } ∷ []) m (record { body = b }, tt)
 
   pub sent_all_names : (me : ℕ) (nodes : List ℕ) (body : MailBody) (mails : List Mail) → BodiesNames K body → Sent mails → Sent (sent_all me nodes body mails)
-  unfolding sent_all
-  sent_all_names me [] body mails b m = m
-  sent_all_names me (node ∷ nodes) body mails b m = sent_all_names me nodes body (sent me node body mails) b (sent_names me node body mails b m)
-
-  pub sent_others_names : (me : ℕ) (nodes : List ℕ) (body : MailBody) (mails : List Mail) → BodiesNames K body → Sent mails → Sent (sent_others me nodes body mails)
-  unfolding sent_others
-  sent_others_names me [] body mails b m = m
-  sent_others_names me (node ∷ nodes) body mails b m =
-      sent_others_names me nodes body (cond (eqb node me) mails (sent me node body mails)) b (either_way Sent (eqb node me) mails (sent me node body mails) m (sent_names me node body mails b m))
+  sent_all_names me nodes body mails b m = all_sent me Sent body (λ to ms q. sent_names me to body ms b q) nodes mails m
 
   -- ---- answers, and the desk
 
   pub answered_names : (me : ℕ) (group : Draw) (answer : AnswerBody) (command : Command) (mails : List Mail) → K group → AnswerNames K answer → Sent mails → Sent (answered me group answer command mails)
-  unfolding answered
-  answered_names me group answer (Call client seq op) mails g a m = sent_names me _ (Answer group seq answer) mails (g, a) m
-  answered_names me group answer _ mails g a m = m
+  answered_names me group answer command mails g a m = any_ends me group answer Sent (λ client seq ms q. sent_names me _ (Answer group seq answer) ms (g, a) q) command mails m
 
   pub answered_all_names : (me : ℕ) (group : Draw) (answer : AnswerBody) (commands : List Command) (mails : List Mail) → K group → AnswerNames K answer → Sent mails → Sent (answered_all me group answer commands mails)
-  unfolding answered_all
-  answered_all_names me group answer [] mails g a m = m
-  answered_all_names me group answer (command ∷ commands) mails g a m = answered_all_names me group answer commands (answered me group answer command mails) g a (answered_names me group answer command mails g a m)
+  answered_all_names me group answer commands mails g a m = all_end me group answer Sent (λ client seq ms q. sent_names me _ (Answer group seq answer) ms (g, a) q) commands mails m
 
   pub reported_names : (me number : ℕ) (result : OrderResult) (mails : List Mail) → ResultNames K result → Sent mails → Sent (order_reported me number result mails)
   unfolding order_reported
   reported_names me number result mails r m = either_way Sent (nat_lt 0 number) _ _ (sent_names me 0 (Told number result) mails r m) m
 
-  dismissed_names : (me : ℕ) (group : Draw) (hint : Option ℕ) (answer : AnswerBody) (command : Command) (mails : List Mail) → K group → AnswerNames K answer → Sent mails → Sent (dismissed me group hint answer command mails)
-  unfolding dismissed
-  dismissed_names me group hint answer (Call client seq op) mails g a m = sent_names me _ (Answer group seq answer) mails (g, a) m
-  dismissed_names me group hint answer (Join node order) mails g a m = reported_names me order (Results.Refused (Why.NotLeader hint)) mails tt m
-  dismissed_names me group hint answer (Leave node order) mails g a m = reported_names me order (Results.Refused (Why.NotLeader hint)) mails tt m
-  dismissed_names me group hint answer (Split at child order) mails g a m = reported_names me order (Results.Refused (Why.NotLeader hint)) mails tt m
-  dismissed_names me group hint answer (Begin tx body order) mails g a m = reported_names me order (Results.Refused (Why.NotLeader hint)) mails tt m
-  dismissed_names me group hint answer _ mails g a m = reported_names me 0 (Results.Refused (Why.NotLeader hint)) mails tt m
-
   pub dismissed_all_names : (me : ℕ) (group : Draw) (hint : Option ℕ) (answer : AnswerBody) (commands : List Command) (mails : List Mail) → K group → AnswerNames K answer → Sent mails → Sent (dismissed_all me group hint answer commands mails)
-  unfolding dismissed_all
-  dismissed_all_names me group hint answer [] mails g a m = m
-  dismissed_all_names me group hint answer (command ∷ commands) mails g a m = dismissed_all_names me group hint answer commands (dismissed me group hint answer command mails) g a (dismissed_names me group hint answer command mails g a m)
+  dismissed_all_names me group hint answer commands mails g a m =
+      all_queued_end me group answer Sent (λ client seq ms q. sent_names me _ (Answer group seq answer) ms (g, a) q) hint (λ number ms q. reported_names me number (Results.Refused (Why.NotLeader hint)) ms tt q) commands mails m
 
   -- ---- what a coordinator asks
 

@@ -9,8 +9,9 @@ use Rattle.sc_words.specs.paxos.PaxosDefinitions.{AcceptorState, may_promise, ma
 use Rattle.sc_words.proofs.PaxosProofs.PaxosLemmas.{Each-weaker, Each-append}
 use Rattle.sc_paxos_law.specs.PaxosLawDefinitions.{Step, Prepared, Promised, Offered, Accepted, state_of, IsLawfulStep, IsLawfulHistory}
 use Rattle.sc_paxos_law.proofs.Lemmas.{Among-right, Among-either}
-use Rattle.sc_node_table.specs.NodeDefinitions.{sent, answered, answered_all, order_number, order_reported, dismissed, dismissed_all, install_to, ended, saw, ReplicaState, Place, name_of, hinted, promise_to, promised, prepare_row, accepted_to, took, accept_row}
+use Rattle.sc_node_table.specs.NodeDefinitions.{answer_to, sent, answered, answered_all, order_number, order_reported, dismissed, dismissed_all, install_to, ended, saw, ReplicaState, Place, name_of, hinted, promise_to, promised, prepare_row, accepted_to, took, accept_row}
 use Rattle.sc_meaning.specs.sound.SoundDefinitions.{is_accepted, Ahead}
+use Rattle.sc_law_walks.proofs.EndedRequests.{all_end, all_queued_end}
 use Rattle.sc_law_groups.specs.group.GroupDefinitions.{asked_in, promised_by}
 use Rattle.sc_law_groups.proofs.GroupProofs.Growth.{By, later_learnt}
 use Rattle.sc_law_groups.proofs.GroupProofs.ForgottenEntries.{Mirrors, promise_mirrors, accept_mirrors}
@@ -38,33 +39,18 @@ IsPlain _ = ⊥
 abbrev pub ArePlain : List Mail → Type 0
 ArePlain mails = Each (λ mail. IsPlain mail.body) mails
 
-answered_replies : (me : ℕ) (group : Draw) (answer : AnswerBody) (c : Command) (mails : List Mail) → ArePlain mails → ArePlain (answered me group answer c mails)
-unfolding answered
-answered_replies me group answer (Call client seq op) mails e = Each-append _ mails _ e (tt, tt)
-answered_replies me group answer _ mails e = e
-
 told_replies : (me number : ℕ) (result : OrderResult) (mails : List Mail) → ArePlain mails → ArePlain (order_reported me number result mails)
 unfolding order_reported
 told_replies me number result mails e = cond_both (nat_lt 0 number) (sent me 0 (Told number result) mails) mails ArePlain (λ _. Each-append _ mails _ e (tt, tt)) (λ _. e)
 
-dismissed_replies : (me : ℕ) (group : Draw) (hint : Option ℕ) (answer : AnswerBody) (c : Command) (mails : List Mail) → ArePlain mails → ArePlain (dismissed me group hint answer c mails)
-unfolding dismissed
-dismissed_replies me group hint answer (Call client seq op) mails e = Each-append _ mails _ e (tt, tt)
-dismissed_replies me group hint answer c mails e = told_replies me (order_number c) (Refused (NotLeader hint)) mails e
-
-all_dismissed : (me : ℕ) (group : Draw) (hint : Option ℕ) (answer : AnswerBody) (cs : List Command) (mails : List Mail) → ArePlain mails → ArePlain (dismissed_all me group hint answer cs mails)
-unfolding dismissed_all
-all_dismissed me group hint answer [] mails e = e
-all_dismissed me group hint answer (c ∷ cs) mails e = all_dismissed me group hint answer cs (dismissed me group hint answer c mails) (dismissed_replies me group hint answer c mails e)
-
-all_replies : (me : ℕ) (group : Draw) (answer : AnswerBody) (cs : List Command) (mails : List Mail) → ArePlain mails → ArePlain (answered_all me group answer cs mails)
-unfolding answered_all
-all_replies me group answer [] mails e = e
-all_replies me group answer (c ∷ cs) mails e = all_replies me group answer cs (answered me group answer c mails) (answered_replies me group answer c mails e)
+answer_replies : (me : ℕ) (group : Draw) (answer : AnswerBody) (client seq : ℕ) (mails : List Mail) → ArePlain mails → ArePlain (answer_to me group client seq answer mails)
+answer_replies me group answer client seq mails e = Each-append _ mails _ e (tt, tt)
 
 ended_replies : (hint : Option ℕ) (answer : AnswerBody) (r : ReplicaState) (mails : List Mail) → ArePlain mails → ArePlain (ended hint answer (r, mails)).1
 unfolding ended
-ended_replies hint answer r mails e = all_dismissed r.me (name_of r) hint answer r.backlog _ (all_replies r.me (name_of r) answer _ mails e)
+ended_replies hint answer r mails e =
+    let says = answer_replies r.me (name_of r) answer in
+    all_queued_end r.me (name_of r) answer ArePlain says hint (λ number ms q. told_replies r.me number (Refused (NotLeader hint)) ms q) r.backlog _ (all_end r.me (name_of r) answer ArePlain says _ mails e)
 
 pub saw_replies : (b : Ballot) (r : ReplicaState) (mails : List Mail) → ArePlain mails → ArePlain (saw b (r, mails)).1
 unfolding saw

@@ -10,6 +10,7 @@ use Rattle.sc_words.specs.paxos.PaxosDefinitions.{below}
 use Rattle.sc_law_walks.proofs.WalkLemmas.{below_round, elected_place}
 use Rattle.sc_law_walks.proofs.PlaceWalks.{elected_replica as elected, ended_replica as stopped_one}
 use Rattle.sc_law_walks.proofs.Talks.{all_sent}
+use Rattle.sc_law_walks.proofs.EndedRequests.{any_ends, all_end, all_queued_end}
 use Rattle.sc_paxos_law.specs.PaxosLawDefinitions.{Step, Prepared, Offered}
 use Rattle.sc_node_table.specs.NodeDefinitions.{ended, stopped, open_nodes, sent, answered, answered_all, order_number, order_reported, dismissed, dismissed_all, ReplicaState, Place, name_of, next, under_way}
 use Rattle.sc_meaning.specs.sound.SoundDefinitions.{Ahead}
@@ -101,17 +102,13 @@ module _ (ahead : Ahead) (base : Base) (made : Command → Type 0) (heard : Mail
   abbrev pub IsDull : AnswerBody → Type 0
   IsDull answer = (h : Steps) (to seq : ℕ) → IsTrueAnswer ahead base h to seq answer
 
+  answer_said : (r : ReplicaState) (group : Draw) (answer : AnswerBody) → group ≡ base.core.id → IsDull answer → (client seq : ℕ) (mails : List Mail) → Ok (r, mails) → Ok (r, sent r.me (client_actor client) (Answer group seq answer) mails)
+  answer_said r group answer named dull client seq mails f =
+      says ahead base made heard me older before r mails (record { from = r.me; to = client_actor client; body = Answer group seq answer }) f refl named (λ _. dull (f.newer ++ before) (client_actor client) seq)
+
   -- an answer that names no entry keeps what holds
   pub answered_one : (r : ReplicaState) (mails : List Mail) (group : Draw) (answer : AnswerBody) → group ≡ base.core.id → IsDull answer → (c : Command) → Ok (r, mails) → Ok (r, answered r.me group answer c mails)
-  unfolding answered
-  answered_one r mails group answer named dull (Call client seq op) f =
-      says ahead base made heard me older before r mails (record { from = r.me; to = client_actor client; body = Answer group seq answer }) f refl named (λ _. dull (f.newer ++ before) (client_actor client) seq)
-  answered_one r mails group answer named dull _ f = f
-
-  pub answered_each : (r : ReplicaState) (mails : List Mail) (group : Draw) (answer : AnswerBody) → group ≡ base.core.id → IsDull answer → (cs : List Command) → Ok (r, mails) → Ok (r, answered_all r.me group answer cs mails)
-  unfolding answered_all
-  answered_each r mails group answer named dull [] f = f
-  answered_each r mails group answer named dull (c ∷ cs) f = answered_each r (answered r.me group answer c mails) group answer named dull cs (answered_one r mails group answer named dull c f)
+  answered_one r mails group answer named dull c f = any_ends r.me group answer (λ ms. Ok (r, ms)) (answer_said r group answer named dull) c mails f
 
   -- ---- the reports of orders
 
@@ -120,18 +117,6 @@ module _ (ahead : Ahead) (base : Base) (made : Command → Type 0) (heard : Mail
   told_one r mails number result f =
       cond_both (nat_lt 0 number) (sent r.me 0 (Told number result) mails) mails (λ ms. Ok (r, ms))
       (λ _. says ahead base made heard me older before r mails (record { from = r.me; to = 0; body = Told number result }) f refl tt tt) (λ _. f)
-
-  dismissed_one : (r : ReplicaState) (mails : List Mail) (group : Draw) (hint : Option ℕ) (answer : AnswerBody) → group ≡ base.core.id → IsDull answer → (c : Command) → Ok (r, mails) → Ok (r, dismissed r.me group hint answer c mails)
-  unfolding dismissed
-  dismissed_one r mails group hint answer named dull (Call client seq op) f =
-      says ahead base made heard me older before r mails (record { from = r.me; to = client_actor client; body = Answer group seq answer }) f refl named (λ _. dull (f.newer ++ before) (client_actor client) seq)
-  dismissed_one r mails group hint answer named dull c f = told_one r mails (order_number c) (Refused (NotLeader hint)) f
-
-  dismissed_each : (r : ReplicaState) (mails : List Mail) (group : Draw) (hint : Option ℕ) (answer : AnswerBody) → group ≡ base.core.id → IsDull answer → (cs : List Command) → Ok (r, mails) → Ok (r, dismissed_all r.me group hint answer cs mails)
-  unfolding dismissed_all
-  dismissed_each r mails group hint answer named dull [] f = f
-  dismissed_each r mails group hint answer named dull (c ∷ cs) f =
-      dismissed_each r (dismissed r.me group hint answer c mails) group hint answer named dull cs (dismissed_one r mails group hint answer named dull c f)
 
   -- ---- an election
 
@@ -193,8 +178,9 @@ module _ (ahead : Ahead) (base : Base) (made : Command → Type 0) (heard : Mail
   unfolding ended
   fine_ended hint answer dull r mails f =
       let named = name_is (f.newer ++ before) r f.replica in
-      let told = dismissed_each r (answered_all r.me (name_of r) answer (under_way r) mails) (name_of r) hint answer named dull r.backlog
-      (answered_each r mails (name_of r) answer named dull (under_way r) f) in
+      let says_so = answer_said r (name_of r) answer named dull in
+      let told = all_queued_end r.me (name_of r) answer (λ ms. Ok (r, ms)) says_so hint (λ number ms q. told_one r ms number (Refused (NotLeader hint)) q) r.backlog (answered_all r.me (name_of r) answer (under_way r) mails)
+          (all_end r.me (name_of r) answer (λ ms. Ok (r, ms)) says_so (under_way r) mails f) in
       turn ahead base made heard me older before r _ _ told (ended_replica (told.newer ++ before) r hint told.replica)
 
   -- a stop keeps what holds

@@ -1,14 +1,15 @@
 -- A replica that stops answers all calls that it keeps, each with its cause; one that is elected has waited for nothing yet.
 use Rattle.std.proofs.Common.{◌≡◌, ℕ, ◌+◌, ◌-◌, ◌^◌, refl, arith, ◌&&◌, eqb, Bool, true, false, cond, List, [], ◌∷◌, Option, Some}
 use Rattle.sc_base.specs.Definitions.{client_actor}
-use Rattle.sc_node_table.specs.Values.{Ballot, Draw, Op, Command, Call, Join, Leave, Split, Begin, AnswerBody, Mail, Answer, Prepare, Install}
+use Rattle.sc_node_table.specs.Values.{Ballot, Draw, Op, Command, Call, AnswerBody, Mail, Answer, Prepare, Install}
 use Rattle.sc_words.specs.declared.commands.orders.OrderRefusal.TheVariants as Why
 use Rattle.sc_words.specs.declared.commands.orders.OrderResult.TheVariants as Results
 use Rattle.sc_mail.specs.declared.bodies.AnswerBody.TheVariants as Says
 use Rattle.sc_group_table.specs.machine.MachineDefinitions.{base_of}
 use Rattle.sc_words.specs.paxos.PaxosDefinitions.{below, new_leader}
-use Rattle.sc_node_table.specs.NodeDefinitions.{open_nodes, elected, ended, stopped, saw, install_to, asked_to_promise, welcomed_all, sent, answered, answered_all, order_reported, dismissed, dismissed_all, ReplicaState, Place, name_of, next, under_way}
+use Rattle.sc_node_table.specs.NodeDefinitions.{open_nodes, elected, ended, stopped, saw, install_to, asked_to_promise, welcomed_all, sent, answered_all, order_number, dismissed_all, ReplicaState, Place, name_of, next, under_way}
 use Rattle.sc_law_walks.proofs.WalkLemmas.{either_way}
+use Rattle.sc_law_walks.proofs.EndedRequests.{requests_end, queue_ends}
 use Rattle.sc_law_refusal.proofs.RefusalProofs.Keeping.{Kept, KeptAll, way_kept, fewer_due}
 use Rattle.sc_law_refusal.proofs.RefusalProofs.Plain.{reported_plain}
 use Rattle.sc_law_refusal.proofs.RefusalProofs.Standing.{CauseSo, AllCaused, plain_caused, answer_caused, stopped_caused, Stands, FineAs, Fine, with_plain, with_all}
@@ -27,32 +28,12 @@ module _ (start : ReplicaState) (A : Command → Type 0) (G : Draw → ℕ → T
     answered_one client seq op mails a c =
         answer_caused start A G W Q entries refused turned me (client_actor client) group seq answer mails (record { own = own; client = client; op = op; receiver = refl; was_asked = a; cause = causes op }) c
 
-    answered_caused : (command : Command) (mails : List Mail) → Kept A G command → C mails → C (answered me group answer command mails)
-    unfolding answered
-    answered_caused (Call client seq op) mails k c = answered_one client seq op mails k c
-    answered_caused _ mails k c = c
-
     pub answers_caused : (commands : List Command) (mails : List Mail) → KeptAll A G commands → C mails → C (answered_all me group answer commands mails)
-    unfolding answered_all
-    answers_caused [] mails k c = c
-    answers_caused (command ∷ commands) mails k c = answers_caused commands (answered me group answer command mails) k.1 (answered_caused command mails k.0 c)
-
-    desk : (number : ℕ) (hint : Option ℕ) (mails : List Mail) → C mails → C (order_reported me number (Results.Refused (Why.NotLeader hint)) mails)
-    desk number hint mails c = reported_plain (AllCaused start A G W Q entries refused turned) (plain_caused start A G W Q entries refused turned) me number (Results.Refused (Why.NotLeader hint)) mails c
-
-    dismissed_caused : (hint : Option ℕ) (command : Command) (mails : List Mail) → Kept A G command → C mails → C (dismissed me group hint answer command mails)
-    unfolding dismissed
-    dismissed_caused hint (Call client seq op) mails k c = answered_one client seq op mails k c
-    dismissed_caused hint (Join node order) mails k c = desk order hint mails c
-    dismissed_caused hint (Leave node order) mails k c = desk order hint mails c
-    dismissed_caused hint (Split at child order) mails k c = desk order hint mails c
-    dismissed_caused hint (Begin tx body order) mails k c = desk order hint mails c
-    dismissed_caused hint _ mails k c = desk 0 hint mails c
+    answers_caused commands mails k c = requests_end (Kept A G) me group answer C answered_one commands mails k c
 
     pub dismissals_caused : (hint : Option ℕ) (commands : List Command) (mails : List Mail) → KeptAll A G commands → C mails → C (dismissed_all me group hint answer commands mails)
-    unfolding dismissed_all
-    dismissals_caused hint [] mails k c = c
-    dismissals_caused hint (command ∷ commands) mails k c = dismissals_caused hint commands (dismissed me group hint answer command mails) k.1 (dismissed_caused hint command mails k.0 c)
+    dismissals_caused hint commands mails k c =
+        queue_ends (Kept A G) me group answer C answered_one hint (λ command ms k q. reported_plain C (plain_caused start A G W Q entries refused turned) me (order_number command) (Results.Refused (Why.NotLeader hint)) ms q) commands mails k c
 
   -- ---- it stops
 

@@ -10,13 +10,14 @@ use Rattle.sc_words.specs.declared.commands.orders.OrderResult.TheVariants.{Done
 use Rattle.sc_words.specs.declared.commands.votes.Outcome.TheVariants as Is
 use Rattle.sc_words.specs.commands.CommandDefinitions.{is_alone, refused_result, result_of}
 use Rattle.sc_group_table.specs.machine.MachineDefinitions.{Group, applied, begun_group, has_named, ordered, refusal_of, split_group, with_node, without_node}
-use Rattle.sc_words.proofs.PaxosProofs.PaxosLemmas.{Each-append}
+use Rattle.sc_words.proofs.PaxosProofs.PaxosLemmas.{Each-append, Each-from}
 use Rattle.sc_group_table.specs.policy.PolicyDefinitions.{is_reported}
 use Rattle.sc_node_table.specs.declared.Before.{Before}
-use Rattle.sc_node_table.specs.NodeDefinitions.{ReplicaState, Place, name_of, under_way, sent, answered_all, answer_of, answered_or_put_back, order_result, effect_reported, announced, entered, before_of, before_in, begun_result, decided_result, dismissed, dismissed_all, ended, order_number, outcome_result, spoken, spoken_mails, spoken_number, begun_reported, result_sent, order_reported, result_reported, went_on}
+use Rattle.sc_node_table.specs.NodeDefinitions.{ReplicaState, Place, name_of, under_way, sent, answered_all, answer_of, answered_or_put_back, order_result, effect_reported, announced, entered, before_of, before_in, begun_result, decided_result, dismissed_all, ended, order_number, outcome_result, spoken, spoken_mails, spoken_number, begun_reported, result_sent, order_reported, result_reported, went_on}
 use Rattle.sc_law_walks.proofs.Ways.{either_way}
 use Rattle.sc_law_walks.proofs.PlaceWalks.{IsToParty, Parties}
 use Rattle.sc_law_walks.proofs.Talks.{went_said, all_replied}
+use Rattle.sc_law_walks.proofs.EndedRequests.{queue_ends}
 use Rattle.sc_law_walks.proofs.RefusedOrders.{order_refused}
 use Rattle.sc_law_refusal.specs.results.ResultDefinitions.{IsOf, IsAtOnce, IsCommit, DecidesFor, FindsCause, EndsOrder, IfReported, ReportAs, said_of_entry, IsGivenBack, ReportsAreDecided}
 
@@ -46,17 +47,10 @@ module _ (me : ℕ) (Fact : ℕ → OrderResult → Type 0) where
 
   -- ---- who stops
 
-  one_dismissed : (group : Draw) (hint : Option ℕ) (answer : AnswerBody) (command : Command) (mails : List Mail) → (is_reported (order_number command) ≡ true → Fact (order_number command) (Refused (NotLeader hint))) → Q mails → Q (dismissed me group hint answer command mails)
-  unfolding dismissed
-  one_dismissed group hint answer (Call client seq op) mails fact m = puts _ _ mails tt m
-  one_dismissed group hint answer Noop mails fact m = reported _ _ mails fact m
-  one_dismissed group hint answer _ mails fact m = reported _ _ mails fact m
-
   pub all_dismissed : (group : Draw) (hint : Option ℕ) (answer : AnswerBody) (commands : List Command) (mails : List Mail) → ((command : Command) → Among command commands → is_reported (order_number command) ≡ true → Fact (order_number command) (Refused (NotLeader hint))) → Q mails → Q (dismissed_all me group hint answer commands mails)
-  unfolding dismissed_all
-  all_dismissed group hint answer [] mails fact m = m
-  all_dismissed group hint answer (command ∷ commands) mails fact m =
-      all_dismissed group hint answer commands (dismissed me group hint answer command mails) (λ other a. fact other (inr a)) (one_dismissed group hint answer command mails (fact command (inl refl)) m)
+  all_dismissed group hint answer commands mails fact m =
+      let K = λ (command : Command). is_reported (order_number command) ≡ true → Fact (order_number command) (Refused (NotLeader hint)) in
+      queue_ends K me group answer Q (λ client seq op ms k q. puts _ _ ms tt q) hint (λ command ms k q. reported (order_number command) _ ms k q) commands mails (Each-from K commands fact) m
 
 -- ---- how an entry ends an order
 

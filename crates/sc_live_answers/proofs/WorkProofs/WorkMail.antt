@@ -13,6 +13,8 @@ use Rattle.sc_group_table.specs.policy.PolicyDefinitions.{is_reported}
 use Rattle.sc_node_table.specs.declared.Before.{Before}
 use Rattle.sc_node_table.specs.NodeDefinitions.{sent, sent_all, sent_others, answered, answered_all, result_sent, order_reported, dismissed_all, offer_of, heard_question, question, asked_first, asked_link, voted_to, watched_to, outcome_sent, next_asked, asked_next, begun_result, spoken_number, result_reported, begun_reported, asked_on, begun_asks, vote_sent, watch_sent, aborted_to, aborted_watcher, given_up_by, vote_answered, released_to, watch_answered_by, went_on, spoken_mails}
 use Rattle.sc_law_walks.proofs.WalkLemmas.{either_way}
+use Rattle.sc_law_walks.proofs.EndedRequests.{requests_end}
+use Rattle.sc_law_walks.proofs.Talks.{all_sent as sent_each, others_sent as sent_rest}
 use Rattle.sc_live_answers.proofs.WorkProofs.Affairs.{Affair, Says, IsGood, AreGood}
 
 module _ (a : Affair) (me : ℕ) where
@@ -20,15 +22,10 @@ module _ (a : Affair) (me : ℕ) where
   one_sent to body mails q m = Each-append (IsGood a) mails (record { from = me; to = to; body = body } ∷ []) m (q, tt)
 
   pub all_sent : (nodes : List ℕ) (body : MailBody) (mails : List Mail) → Says a body → AreGood a mails → AreGood a (sent_all me nodes body mails)
-  unfolding sent_all
-  all_sent [] body mails q m = m
-  all_sent (node ∷ nodes) body mails q m = all_sent nodes body (sent me node body mails) q (one_sent node body mails q m)
+  all_sent nodes body mails q m = sent_each me (AreGood a) body (λ to ms g. one_sent to body ms q g) nodes mails m
 
   pub others_sent : (nodes : List ℕ) (body : MailBody) (mails : List Mail) → Says a body → AreGood a mails → AreGood a (sent_others me nodes body mails)
-  unfolding sent_others
-  others_sent [] body mails q m = m
-  others_sent (node ∷ nodes) body mails q m =
-      others_sent nodes body (cond (eqb node me) mails (sent me node body mails)) q (either_way (AreGood a) (eqb node me) mails (sent me node body mails) m (one_sent node body mails q m))
+  others_sent nodes body mails q m = sent_rest me (AreGood a) body (λ to ms g. one_sent to body ms q g) nodes mails m
 
   -- ---- the desk, and clients of whom no call stands
 
@@ -36,15 +33,8 @@ module _ (a : Affair) (me : ℕ) where
   unfolding order_reported
   desk_reported number result mails m = either_way (AreGood a) (is_reported number) (result_sent me number result mails) mails (one_sent 0 (Told number result) mails tt m) m
 
-  one_answered : (name group : Draw) (answer : AnswerBody) (command : Command) (mails : List Mail) → a.Does name command → AreGood a mails → AreGood a (answered me group answer command mails)
-  unfolding answered
-  one_answered name group answer (Call client seq op) mails d m = absurd (a.backlog name client seq op d)
-  one_answered name group answer _ mails d m = m
-
   pub all_answered : (name group : Draw) (answer : AnswerBody) (commands : List Command) (mails : List Mail) → Each (a.Does name) commands → AreGood a mails → AreGood a (answered_all me group answer commands mails)
-  unfolding answered_all
-  all_answered name group answer [] mails d m = m
-  all_answered name group answer (command ∷ commands) mails d m = all_answered name group answer commands (answered me group answer command mails) d.1 (one_answered name group answer command mails d.0 m)
+  all_answered name group answer commands mails d m = requests_end (a.Does name) me group answer (AreGood a) (λ client seq op ms k q. absurd (a.backlog name client seq op k)) commands mails d m
 
   pub none_dismissed : (group : Draw) (hint : Option ℕ) (answer : AnswerBody) (backlog : List Command) (mails : List Mail) → backlog ≡ [] → AreGood a mails → AreGood a (dismissed_all me group hint answer backlog mails)
   unfolding dismissed_all
