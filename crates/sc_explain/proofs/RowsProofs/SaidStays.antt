@@ -16,6 +16,7 @@ use Rattle.sc_meaning.specs.declared.entries.Cut.{Cut}
 use Rattle.sc_meaning.specs.declared.entries.LogEntry.{LogEntry}
 use Rattle.sc_meaning.specs.entries.EntryDefinitions.{StoreWorld, after_command, birth_of, effective, effective_by, is_named, named_group, recorded, with_group}
 use Rattle.sc_meaning.proofs.EntriesProofs.EntryLemmas.{found_name, names_differ}
+use Rattle.sc_law_entries.proofs.HistoryProofs.Divisions.{found_left}
 use Rattle.sc_law_entries.proofs.HistoryProofs.Found.{found_still}
 use Rattle.sc_law_entries.proofs.HistoryProofs.HistoryLemmas.{applied_same}
 use Rattle.sc_world_entries.proofs.DecidedProofs.Pools.{each_at}
@@ -50,16 +51,13 @@ said_here world groups at said name are within is named =
 
 -- ---- the entry of another group
 
-found_before : (name : Draw) (groups more : List Group) (group : Group) → named_group name groups ≡ Some group → named_group name (groups ++ more) ≡ Some group
-found_before name groups more group is = find-append (is_named name) groups more ∙ ap (λ (o : Option Group). option_or o (named_group name more)) is
-
 -- the group is found as it was
 found_after : (before : StoreWorld) (entry : LogEntry) (name : Draw) (group : Group) (own : Option Group) → named_group entry.group before.groups ≡ own → (name ≡ entry.group → ⊥) → named_group name before.groups ≡ Some group
     → named_group name (after_command before own entry.command).groups ≡ Some group
 found_after before entry name group None found differs is = is
 found_after before entry name group (Some own) found differs is =
     let made : Group × Effect = applied own entry.command in
-    found_before name (with_group own.core.id made.0 before.groups) (map group_of (option_to_list (birth_of own entry.command made.1))) group
+    found_left name (with_group own.core.id made.0 before.groups) (map group_of (option_to_list (birth_of own entry.command made.1))) group
     (found_still own.core.id name made.0 before.groups (applied_same own entry.command).0 (λ e. differs (e ∙ found_name entry.group before.groups own found)) ∙ is)
 
 -- the same is said of it

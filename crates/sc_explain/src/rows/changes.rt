@@ -73,7 +73,7 @@ fn is_group_at(one: &RingGroup, before: &[RingGroup], at: usize) -> bool
     }
 }
 
-// Returns whether this of a group of the ring was said before. It is looked for at its own place first.
+// Returns whether this of a group of the ring was said before. It is looked for at a place first.
 fn was_in_ring(one: &RingGroup, before: &[RingGroup], at: usize) -> bool
     ensures { result ≡ list_any (same_ring_group one.now) before.now }
 {
