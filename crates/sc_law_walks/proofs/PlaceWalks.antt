@@ -200,32 +200,27 @@ module _ (f : PlaceFacts) where
   Hears (TxWatched tx coord part vote) = Unit {0}
   Hears (Told order result) = Unit {0}
 
--- a mail that node `me` may send to a party of a transaction
-abbrev pub IsToPartner : ℕ → MailBody → Type 0
-IsToPartner me (TxPrepare tx offer) = offer.by ≡ me
-IsToPartner me (TxWatch tx watch) = watch.by ≡ me
-IsToPartner me (TxVote tx coord part vote) = Unit {0}
-IsToPartner me (TxWatched tx coord part vote) = Unit {0}
-IsToPartner me (TxOutcome tx part outcome) = Unit {0}
-IsToPartner me (TxElsewhere tx coord hint) = Unit {0}
-IsToPartner me _ = ⊥
+-- a mail that node `me` may send to a party of a transaction, or to the actors of whom C holds as an answer
+abbrev pub IsToParty : (ℕ → Type 0) → ℕ → ℕ → MailBody → Type 0
+IsToParty C me to (Answer group seq answer) = C to
+IsToParty C me to (TxPrepare tx offer) = offer.by ≡ me
+IsToParty C me to (TxWatch tx watch) = watch.by ≡ me
+IsToParty C me to (TxVote tx coord part vote) = Unit {0}
+IsToParty C me to (TxWatched tx coord part vote) = Unit {0}
+IsToParty C me to (TxOutcome tx part outcome) = Unit {0}
+IsToParty C me to (TxElsewhere tx coord hint) = Unit {0}
+IsToParty C me to _ = ⊥
 
--- .. or to a client
-abbrev pub IsToParty : ℕ → ℕ → MailBody → Type 0
-IsToParty me to (Answer group seq answer) = (client : ℕ) × (to ≡ client_actor client)
-IsToParty me to body = IsToPartner me body
+-- that what holds of the mails of node `me` is kept by each such mail
+abbrev pub PartiesAnd : (ℕ → Type 0) → ℕ → (List Mail → Type 0) → Type 0
+PartiesAnd C me Q = (to : ℕ) (body : MailBody) (mails : List Mail) → IsToParty C me to body → Q mails → Q (sent me to body mails)
 
-pub to_party : (me to : ℕ) (body : MailBody) → IsToPartner me body → IsToParty me to body
-to_party me to (Answer group seq answer) own = absurd own
-to_party me to _ own = own
+-- .. to a client too
+abbrev pub IsClient : ℕ → Type 0
+IsClient to = (client : ℕ) × (to ≡ client_actor client)
 
--- that what holds of the mails of node `me` is kept by each mail to a party of a transaction
-abbrev pub Partners : ℕ → (List Mail → Type 0) → Type 0
-Partners me Q = (to : ℕ) (body : MailBody) (mails : List Mail) → IsToPartner me body → Q mails → Q (sent me to body mails)
-
--- .. and to a client
 abbrev pub Parties : ℕ → (List Mail → Type 0) → Type 0
-Parties me Q = (to : ℕ) (body : MailBody) (mails : List Mail) → IsToParty me to body → Q mails → Q (sent me to body mails)
+Parties me Q = PartiesAnd IsClient me Q
 
 -- who may talk to the desk too talks to them
 pub parties : (me : ℕ) (Q : List Mail → Type 0) → Talk me Q → Parties me Q

@@ -13,7 +13,7 @@ use Rattle.sc_node_table.specs.declared.Before.{Before}
 use Rattle.sc_node_table.specs.NodeDefinitions.{sent, sent_all, answer_to, sent_others, answered, answered_all, result_sent, order_reported, dismissed_all, offer_of, union_watch, split_watch, heard_question, question, asked_first, asked_link, voted_to, watched_to, outcome_sent, next_asked, asked_next, begun_result, spoken_number, result_reported, begun_reported, asked_on, begun_asks, vote_sent, watch_sent, aborted_to, aborted_watcher, given_up_by, vote_answered, released_to, watch_answered_by, went_on, spoken_mails, reminders}
 use Rattle.sc_law_walks.proofs.EndedRequests.{any_ends, all_end, all_queued_end}
 use Rattle.sc_law_walks.proofs.Ways.{either_way}
-use Rattle.sc_law_walks.proofs.PlaceWalks.{Talk, Partners, Parties, to_party, parties}
+use Rattle.sc_law_walks.proofs.PlaceWalks.{Talk, PartiesAnd, Parties, parties}
 
 -- the same mail to nodes of which M holds
 module _ (me : ℕ) (M : ℕ → Type 0) (Q : List Mail → Type 0) (body : MailBody) (puts : (to : ℕ) (mails : List Mail) → M to → Q mails → Q (sent me to body mails)) where
@@ -48,7 +48,7 @@ AnswersAll me Q = (group : Draw) (answer : AnswerBody) (commands : List Command)
 
 -- ---- the parties of a transaction
 
-module _ (me : ℕ) (Q : List Mail → Type 0) (puts : Partners me Q) where
+module _ {C : ℕ → Type 0} (me : ℕ) (Q : List Mail → Type 0) (puts : PartiesAnd C me Q) where
   heard_said : (to : ℕ) (core : Core) (tx : Draw) (body : Body) (heard : Option Heard) (mails : List Mail) → Q mails → Q (sent me to (heard_question me core tx body heard) mails)
   heard_said to core tx body None mails m = puts to (TxPrepare tx (offer_of me core body)) mails refl m
   heard_said to core tx body (Some heard) mails m = puts to (TxWatch tx (union_watch me core heard)) mails refl m
@@ -65,11 +65,11 @@ module _ (me : ℕ) (Q : List Mail → Type 0) (puts : Partners me Q) where
   first_asked (Promised tx offer) core mails m = m
   first_asked (Watching tx watch) core mails m = m
 
-  pub next_told : (lock : Lock) (core : Core) (from : ℕ) (tx : Draw) (hint : Option ℕ) (mails : List Mail) → Q mails → Q (asked_next lock me core from tx hint mails)
-  next_told Free core from tx hint mails m = m
-  next_told (Promised locked offer) core from tx hint mails m = m
-  next_told (Watching locked watch) core from tx hint mails m = m
-  next_told (Coordinating locked body order heard) core from tx hint mails m =
+  pub next_one_asked : (lock : Lock) (core : Core) (from : ℕ) (tx : Draw) (hint : Option ℕ) (mails : List Mail) → Q mails → Q (asked_next lock me core from tx hint mails)
+  next_one_asked Free core from tx hint mails m = m
+  next_one_asked (Promised locked offer) core from tx hint mails m = m
+  next_one_asked (Watching locked watch) core from tx hint mails m = m
+  next_one_asked (Coordinating locked body order heard) core from tx hint mails m =
       let to : ℕ = next_asked hint (asked_link core body heard).members from in
       either_way Q (same_draw locked tx) (sent me to (question me core tx body heard) mails) mails (question_said to core tx body heard mails m) m
 
@@ -81,23 +81,23 @@ module _ (me : ℕ) (Q : List Mail → Type 0) (puts : Partners me Q) where
       let to : ℕ = least_of core.succ.members in
       either_way Q (is_changed effect) (sent me to (TxPrepare tx (offer_of me core body)) mails) mails (puts to (TxPrepare tx (offer_of me core body)) mails refl m) m
 
-  pub vote_told : (group : Group) (node : ℕ) (tx : Draw) (offer : Offer) (vote : Past) (mails : List Mail) → Q mails → Q (voted_to me group node tx offer vote mails)
-  vote_told group node tx offer Cast.Yes mails m = puts node (TxVote tx offer.coord offer.part (Says.Yes (frozen_of group))) mails tt m
-  vote_told group node tx offer (Cast.No why) mails m = puts node (TxVote tx offer.coord offer.part (Says.No why)) mails tt m
-  vote_told group node tx offer Cast.Ended mails m = m
+  pub vote_reported : (group : Group) (node : ℕ) (tx : Draw) (offer : Offer) (vote : Past) (mails : List Mail) → Q mails → Q (voted_to me group node tx offer vote mails)
+  vote_reported group node tx offer Cast.Yes mails m = puts node (TxVote tx offer.coord offer.part (Says.Yes (frozen_of group))) mails tt m
+  vote_reported group node tx offer (Cast.No why) mails m = puts node (TxVote tx offer.coord offer.part (Says.No why)) mails tt m
+  vote_reported group node tx offer Cast.Ended mails m = m
 
-  pub watch_told : (node : ℕ) (tx : Draw) (watch : Watch) (vote : Past) (mails : List Mail) → Q mails → Q (watched_to me node tx watch vote mails)
-  watch_told node tx watch Cast.Yes mails m = puts node (TxWatched tx watch.coord watch.part Cast.Yes) mails tt m
-  watch_told node tx watch (Cast.No why) mails m = puts node (TxWatched tx watch.coord watch.part (Cast.No why)) mails tt m
-  watch_told node tx watch Cast.Ended mails m = m
+  pub watch_reported : (node : ℕ) (tx : Draw) (watch : Watch) (vote : Past) (mails : List Mail) → Q mails → Q (watched_to me node tx watch vote mails)
+  watch_reported node tx watch Cast.Yes mails m = puts node (TxWatched tx watch.coord watch.part Cast.Yes) mails tt m
+  watch_reported node tx watch (Cast.No why) mails m = puts node (TxWatched tx watch.coord watch.part (Cast.No why)) mails tt m
+  watch_reported node tx watch Cast.Ended mails m = m
 
   vote_said : (o : Option Past) (group : Group) (tx : Draw) (offer : Offer) (mails : List Mail) → Q mails → Q (vote_sent o me group tx offer mails)
   vote_said None group tx offer mails m = m
-  vote_said (Some vote) group tx offer mails m = vote_told group offer.by tx offer vote mails m
+  vote_said (Some vote) group tx offer mails m = vote_reported group offer.by tx offer vote mails m
 
   watch_said : (o : Option Past) (tx : Draw) (watch : Watch) (mails : List Mail) → Q mails → Q (watch_sent o me tx watch mails)
   watch_said None tx watch mails m = m
-  watch_said (Some vote) tx watch mails m = watch_told watch.by tx watch vote mails m
+  watch_said (Some vote) tx watch mails m = watch_reported watch.by tx watch vote mails m
 
   aborted_said : (tx : Draw) (link : Link) (mails : List Mail) → Q mails → Q (aborted_to me tx link mails)
   aborted_said tx link mails m = all_sent me Q (TxOutcome tx link.group Is.Abort) (λ to ms q. puts to (TxOutcome tx link.group Is.Abort) ms tt q) link.members mails m
@@ -110,17 +110,17 @@ module _ (me : ℕ) (Q : List Mail → Type 0) (puts : Partners me Q) where
   given_up_said None before tx mails m = m
   given_up_said (Some outcome) before tx mails m = watcher_said tx before.heard (aborted_to me tx before.succ mails) (aborted_said tx before.succ mails m)
 
-  pub outcome_told : (node : ℕ) (tx part : Draw) (outcome : Outcome) (mails : List Mail) → Q mails → Q (outcome_sent me node tx part outcome mails)
-  outcome_told node tx part outcome mails m = puts node (TxOutcome tx part outcome) mails tt m
+  pub outcome_said : (node : ℕ) (tx part : Draw) (outcome : Outcome) (mails : List Mail) → Q mails → Q (outcome_sent me node tx part outcome mails)
+  outcome_said node tx part outcome mails m = puts node (TxOutcome tx part outcome) mails tt m
 
   vote_replied : (o : Option Outcome) (vote : Vote) (before : Before) (tx : Draw) (by : ℕ) (mails : List Mail) → Q mails → Q (vote_answered o vote me before tx by mails)
   vote_replied None vote before tx by mails m = m
-  vote_replied (Some outcome) (Says.Yes frozen) before tx by mails m = outcome_told by tx before.succ.group outcome mails m
+  vote_replied (Some outcome) (Says.Yes frozen) before tx by mails m = outcome_said by tx before.succ.group outcome mails m
   vote_replied (Some outcome) (Says.No why) before tx by mails m = m
 
   released_said : (o : Option (ℕ × Link)) (succ : Link) (tx : Draw) (by : ℕ) (outcome : Outcome) (mails : List Mail) → Q mails → Q (released_to o me succ tx by outcome mails)
-  released_said None succ tx by outcome mails m = outcome_told by tx succ.group outcome mails m
-  released_said (Some heard) succ tx by outcome mails m = outcome_told by tx heard.1.group outcome (outcome_sent me heard.0 tx succ.group outcome mails) (outcome_told heard.0 tx succ.group outcome mails m)
+  released_said None succ tx by outcome mails m = outcome_said by tx succ.group outcome mails m
+  released_said (Some heard) succ tx by outcome mails m = outcome_said by tx heard.1.group outcome (outcome_sent me heard.0 tx succ.group outcome mails) (outcome_said heard.0 tx succ.group outcome mails m)
 
   watch_replied : (o : Option Outcome) (vote : Past) (before : Before) (tx : Draw) (by : ℕ) (mails : List Mail) → Q mails → Q (watch_answered_by o vote me before tx by mails)
   watch_replied None vote before tx by mails m = m
@@ -128,23 +128,23 @@ module _ (me : ℕ) (Q : List Mail → Type 0) (puts : Partners me Q) where
   watch_replied (Some outcome) (Cast.No why) before tx by mails m = either_way Q before.merges (aborted_to me tx before.succ mails) mails (aborted_said tx before.succ mails m) m
   watch_replied (Some outcome) Cast.Ended before tx by mails m = m
 
-  pub went_told : (group : Group) (before : Before) (effect : Effect) (command : Command) (mails : List Mail) → Q mails → Q (went_on me group before effect command mails)
+  pub went_said : (group : Group) (before : Before) (effect : Effect) (command : Command) (mails : List Mail) → Q mails → Q (went_on me group before effect command mails)
   unfolding went_on
-  went_told group before effect (Split at child order) mails m = on_asked effect group.core mails m
-  went_told group before effect (Begin tx body order) mails m = begun_asked effect group.core tx body mails m
-  went_told group before effect (Prepared tx offer) mails m = vote_said (cast_in effect) group tx offer mails m
-  went_told group before effect (RecordVote tx vote by) mails m = vote_replied (decided_in effect) vote before tx by (asked_on effect me group.core mails) (on_asked effect group.core mails m)
-  went_told group before effect (GiveUp tx) mails m = given_up_said (decided_in effect) before tx mails m
-  went_told group before effect (Watched tx watch) mails m = watch_said (cast_in effect) tx watch mails m
-  went_told group before effect (RecordWatch tx vote by) mails m = watch_replied (decided_in effect) vote before tx by mails m
-  went_told group before effect _ mails m = m
+  went_said group before effect (Split at child order) mails m = on_asked effect group.core mails m
+  went_said group before effect (Begin tx body order) mails m = begun_asked effect group.core tx body mails m
+  went_said group before effect (Prepared tx offer) mails m = vote_said (cast_in effect) group tx offer mails m
+  went_said group before effect (RecordVote tx vote by) mails m = vote_replied (decided_in effect) vote before tx by (asked_on effect me group.core mails) (on_asked effect group.core mails m)
+  went_said group before effect (GiveUp tx) mails m = given_up_said (decided_in effect) before tx mails m
+  went_said group before effect (Watched tx watch) mails m = watch_said (cast_in effect) tx watch mails m
+  went_said group before effect (RecordWatch tx vote by) mails m = watch_replied (decided_in effect) vote before tx by mails m
+  went_said group before effect _ mails m = m
 
   -- who is bound in a transaction asks again, or says its vote again
-  pub all_told : (lock : Lock) (group : Group) (mails : List Mail) → Q mails → Q (reminders lock me group mails)
-  all_told Free group mails m = m
-  all_told (Coordinating tx body order heard) group mails m = all_sent me Q (question me group.core tx body heard) (λ to ms q. question_said to group.core tx body heard ms q) (asked_link group.core body heard).members mails m
-  all_told (Promised tx offer) group mails m = all_sent me Q (TxVote tx offer.coord offer.part (Says.Yes (frozen_of group))) (λ to ms q. puts to (TxVote tx offer.coord offer.part (Says.Yes (frozen_of group))) ms tt q) offer.members mails m
-  all_told (Watching tx watch) group mails m = all_sent me Q (TxWatched tx watch.coord watch.part Cast.Yes) (λ to ms q. puts to (TxWatched tx watch.coord watch.part Cast.Yes) ms tt q) watch.members mails m
+  pub all_reminded : (lock : Lock) (group : Group) (mails : List Mail) → Q mails → Q (reminders lock me group mails)
+  all_reminded Free group mails m = m
+  all_reminded (Coordinating tx body order heard) group mails m = all_sent me Q (question me group.core tx body heard) (λ to ms q. question_said to group.core tx body heard ms q) (asked_link group.core body heard).members mails m
+  all_reminded (Promised tx offer) group mails m = all_sent me Q (TxVote tx offer.coord offer.part (Says.Yes (frozen_of group))) (λ to ms q. puts to (TxVote tx offer.coord offer.part (Says.Yes (frozen_of group))) ms tt q) offer.members mails m
+  all_reminded (Watching tx watch) group mails m = all_sent me Q (TxWatched tx watch.coord watch.part Cast.Yes) (λ to ms q. puts to (TxWatched tx watch.coord watch.part Cast.Yes) ms tt q) watch.members mails m
 
 -- ---- .. and clients
 
@@ -157,27 +157,6 @@ module _ (me : ℕ) (Q : List Mail → Type 0) (puts : Parties me Q) where
 
   pub all_replied : AnswersAll me Q
   all_replied group answer commands mails m = all_end me group answer Q (λ client seq ms q. client_reported client group seq answer ms q) commands mails m
-
-  partners : Partners me Q
-  partners to body mails own m = puts to body mails (to_party me to body own) m
-
-  pub next_one_asked : (lock : Lock) (core : Core) (from : ℕ) (tx : Draw) (hint : Option ℕ) (mails : List Mail) → Q mails → Q (asked_next lock me core from tx hint mails)
-  next_one_asked lock core from tx hint mails m = next_told me Q partners lock core from tx hint mails m
-
-  pub vote_reported : (group : Group) (node : ℕ) (tx : Draw) (offer : Offer) (vote : Past) (mails : List Mail) → Q mails → Q (voted_to me group node tx offer vote mails)
-  vote_reported group node tx offer vote mails m = vote_told me Q partners group node tx offer vote mails m
-
-  pub watch_reported : (node : ℕ) (tx : Draw) (watch : Watch) (vote : Past) (mails : List Mail) → Q mails → Q (watched_to me node tx watch vote mails)
-  watch_reported node tx watch vote mails m = watch_told me Q partners node tx watch vote mails m
-
-  pub outcome_said : (node : ℕ) (tx part : Draw) (outcome : Outcome) (mails : List Mail) → Q mails → Q (outcome_sent me node tx part outcome mails)
-  outcome_said node tx part outcome mails m = outcome_told me Q partners node tx part outcome mails m
-
-  pub went_said : (group : Group) (before : Before) (effect : Effect) (command : Command) (mails : List Mail) → Q mails → Q (went_on me group before effect command mails)
-  went_said group before effect command mails m = went_told me Q partners group before effect command mails m
-
-  pub all_reminded : (lock : Lock) (group : Group) (mails : List Mail) → Q mails → Q (reminders lock me group mails)
-  all_reminded lock group mails m = all_told me Q partners lock group mails m
 
 -- ---- .. and the desk
 

@@ -9,8 +9,8 @@ use Rattle.sc_words.specs.paxos.PaxosDefinitions.{entry_at}
 use Rattle.sc_node_table.specs.declared.Before.{Before}
 use Rattle.sc_node_table.specs.NodeDefinitions.{sent, sent_all, sent_others, order_reported, ReplicaState, name_of, flying, members, next, reminders, taught, uncounted, asked_again, last_entry_sent, voted_to, watched_to, asked_next, begun_result, spoken_number, result_reported, begun_reported, went_on, spoken_mails}
 use Rattle.sc_law_walks.proofs.WalkLemmas.{either_way}
-use Rattle.sc_law_walks.proofs.PlaceWalks.{IsToPartner, Partners}
-use Rattle.sc_law_walks.proofs.Talks.{all_sent, others_sent, vote_told, watch_told, next_told, all_told, went_told}
+use Rattle.sc_law_walks.proofs.PlaceWalks.{IsToParty, PartiesAnd}
+use Rattle.sc_law_walks.proofs.Talks.{all_sent, others_sent, vote_reported, watch_reported, next_one_asked, all_reminded, went_said}
 use Rattle.sc_law_refusal.specs.refusal.RefusalDefinitions.{IfAnswer, answers_in, is_answer}
 
 -- a mail that is no answer
@@ -26,9 +26,9 @@ answer_weaker P Q f _ p = p
 pub plain_has : (P : Draw → ℕ → AnswerBody → Type 0) (body : MailBody) → IsPlain body → IfAnswer P body
 plain_has P body p = answer_weaker (λ group seq answer. ⊥) P (λ group seq answer none. absurd none) body p
 
-partner_plain : (me : ℕ) (body : MailBody) → IsToPartner me body → IsPlain body
-partner_plain me (Answer group seq answer) own = own
-partner_plain me _ own = tt
+party_plain : (me to : ℕ) (body : MailBody) → IsToParty (λ n. ⊥) me to body → IsPlain body
+party_plain me to (Answer group seq answer) own = own
+party_plain me to _ own = tt
 
 -- ---- the answers among mails
 
@@ -67,20 +67,20 @@ module _ (Sent : List Mail → Type 0) (plain : (me to : ℕ) (body : MailBody) 
 
   -- ---- the parties of a transaction
 
-  partners : (me : ℕ) → Partners me Sent
-  partners me to body mails own m = plain me to body mails (partner_plain me body own) m
+  parties : (me : ℕ) → PartiesAnd (λ n. ⊥) me Sent
+  parties me to body mails own m = plain me to body mails (party_plain me to body own) m
 
   pub vote_plain : (me : ℕ) (group : Group) (node : ℕ) (tx : Draw) (offer : Offer) (vote : Past) (mails : List Mail) → Sent mails → Sent (voted_to me group node tx offer vote mails)
-  vote_plain me group node tx offer vote mails m = vote_told me Sent (partners me) group node tx offer vote mails m
+  vote_plain me group node tx offer vote mails m = vote_reported me Sent (parties me) group node tx offer vote mails m
 
   pub watched_plain : (me node : ℕ) (tx : Draw) (watch : Watch) (vote : Past) (mails : List Mail) → Sent mails → Sent (watched_to me node tx watch vote mails)
-  watched_plain me node tx watch vote mails m = watch_told me Sent (partners me) node tx watch vote mails m
+  watched_plain me node tx watch vote mails m = watch_reported me Sent (parties me) node tx watch vote mails m
 
   pub next_plain : (lock : Lock) (me : ℕ) (core : Core) (from : ℕ) (tx : Draw) (hint : Option ℕ) (mails : List Mail) → Sent mails → Sent (asked_next lock me core from tx hint mails)
-  next_plain lock me core from tx hint mails m = next_told me Sent (partners me) lock core from tx hint mails m
+  next_plain lock me core from tx hint mails m = next_one_asked me Sent (parties me) lock core from tx hint mails m
 
   pub reminders_plain : (lock : Lock) (me : ℕ) (group : Group) (mails : List Mail) → Sent mails → Sent (reminders lock me group mails)
-  reminders_plain lock me group mails m = all_told me Sent (partners me) lock group mails m
+  reminders_plain lock me group mails m = all_reminded me Sent (parties me) lock group mails m
 
   -- ---- what is said of an executed entry
 
@@ -97,7 +97,7 @@ module _ (Sent : List Mail → Type 0) (plain : (me to : ℕ) (body : MailBody) 
   unfolding spoken_mails
   spoken_plain counted me group before effect command mails m =
       either_way Sent counted (went_on me group before effect command (begun_reported me before effect command mails)) (begun_reported me before effect command mails)
-      (went_told me Sent (partners me) group before effect command (begun_reported me before effect command mails) (begun_plain me before effect command mails m)) (begun_plain me before effect command mails m)
+      (went_said me Sent (parties me) group before effect command (begun_reported me before effect command mails) (begun_plain me before effect command mails m)) (begun_plain me before effect command mails m)
 
   -- ---- entries that are taught, and what a leader asks again
 

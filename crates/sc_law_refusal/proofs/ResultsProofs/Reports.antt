@@ -15,7 +15,7 @@ use Rattle.sc_group_table.specs.policy.PolicyDefinitions.{is_reported}
 use Rattle.sc_node_table.specs.declared.Before.{Before}
 use Rattle.sc_node_table.specs.NodeDefinitions.{ReplicaState, Place, name_of, under_way, sent, answered_all, answer_of, answered_or_put_back, order_result, effect_reported, announced, entered, before_of, before_in, begun_result, decided_result, dismissed_all, ended, order_number, outcome_result, spoken, spoken_mails, spoken_number, begun_reported, result_sent, order_reported, result_reported, went_on}
 use Rattle.sc_law_walks.proofs.Ways.{either_way}
-use Rattle.sc_law_walks.proofs.PlaceWalks.{IsToParty, Parties}
+use Rattle.sc_law_walks.proofs.PlaceWalks.{IsToParty, IsClient, Parties}
 use Rattle.sc_law_walks.proofs.Talks.{went_said, all_replied}
 use Rattle.sc_law_walks.proofs.EndedRequests.{queue_ends}
 use Rattle.sc_law_walks.proofs.RefusedOrders.{order_refused}
@@ -33,7 +33,7 @@ module _ (me : ℕ) (Fact : ℕ → OrderResult → Type 0) where
   reported number result mails fact m = cond_both (is_reported number) (result_sent me number result mails) mails Q (λ t. puts 0 _ mails (fact t) m) (λ _. m)
 
   -- a mail to a client or to a party of a transaction tells no result
-  untold : (to : ℕ) (body : MailBody) → IsToParty me to body → IfReported Fact body
+  untold : (to : ℕ) (body : MailBody) → IsToParty IsClient me to body → IfReported Fact body
   untold to (Told number result) q = absurd q
   untold to _ q = tt
 
