@@ -12,11 +12,11 @@ begun_ones client = length client.replies + waiting_one client.waiting
 
 -- the ways of plain journals: each node that is asked leads
 abbrev pub direct : Ways
-direct = record { far = λ group node. 0; most = 0; asks = λ tx. None }
+direct = record { far = λ group node. 0; most = 0; asked_group = λ tx. None }
 
 -- how far a client is sent on in a plain journal: to each of these groups, which all stand, that it does not know
 abbrev pub reach_of : List Frame → Reach
-reach_of frames = record { stands = map (λ frame. frame.core.id) frames; ends = λ group. 0; most = length frames - 1 }
+reach_of frames = record { standing = map (λ frame. frame.core.id) frames; distance = λ group. 0; most = length frames - 1 }
 
 -- what is owed is reckoned by these ways and this reach; no group owes an election
 abbrev pub chart_of : List Frame → Chart

@@ -46,7 +46,7 @@ hints_left latest (Some r) = if r.running || is_some r.group.core.gone then 0 el
 
 -- the ways of a journal: how far a node is from its group's leader is `hints_left` by the latest round that was seen in the group
 abbrev pub ways_at : Replicas → (Draw → ℕ) → ℕ → (Draw → Option (Draw × Bool)) → Ways
-ways_at at latest most asks = record { far = λ group node. hints_left (latest group) (at group node); most = most; asks = asks }
+ways_at at latest most asks = record { far = λ group node. hints_left (latest group) (at group node); most = most; asked_group = asks }
 
 -- in a quiet journal hints lead nearer to a leader by the ways of `ways_at`, where no replica of a group that stands is gone
 abbrev pub QuietHintsRise : Type 0

@@ -35,7 +35,7 @@ leaders_of scenario group node = option_map (λ base. born_replica slots_ahead n
 
 -- a leader is where hints lead, and each other node is one hint away
 abbrev pub ways_to_leaders : Scenario → Ways
-ways_to_leaders scenario = record { far = λ group node. cond (is_some (leaders_of scenario group node)) 0 1; most = 1; asks = λ tx. None }
+ways_to_leaders scenario = record { far = λ group node. cond (is_some (leaders_of scenario group node)) 0 1; most = 1; asked_group = λ tx. None }
 
 abbrev pub plain_setting : Scenario → Setting
 plain_setting scenario = record { frames = frames_of scenario; at = leaders_of scenario; ways = ways_to_leaders scenario }
