@@ -180,7 +180,7 @@ module _ (ahead : Ahead) (base : Base) (made : Command → Type 0) (heard : Mail
       let named = name_is (f.newer ++ before) r f.replica in
       let says_so = answer_said r (name_of r) answer named dull in
       let told = all_queued_end r.me (name_of r) answer (λ ms. Ok (r, ms)) says_so hint (λ number ms q. told_one r ms number (Refused (NotLeader hint)) q) r.backlog (answered_all r.me (name_of r) answer (under_way r) mails)
-          (all_end r.me (name_of r) answer (λ ms. Ok (r, ms)) says_so (under_way r) mails f) in
+      (all_end r.me (name_of r) answer (λ ms. Ok (r, ms)) says_so (under_way r) mails f) in
       turn ahead base made heard me older before r _ _ told (ended_replica (told.newer ++ before) r hint told.replica)
 
   -- a stop keeps what holds
