@@ -195,7 +195,7 @@ module _ (begun : Requests) (frame : Frame) (fact : IsFrame frame) (first free :
           reached = k.reached;
           more = omega (arith, more);
           begun_flights = k.begun_flights ++ (record { slot = slot; value = Call client seq op; voters = None }) ∷ [];
-          flights_are = ap (λ l. l ++ (record { slot = slot; value = Call client seq op; voters = None }) ∷ []) k.flights_are ∙ append_assoc held k.begins ((record { slot = slot; value = Call client seq op; voters = None }) ∷ []);
+          flights_are = ap (λ l. l ++ (record { slot = slot; value = Call client seq op; voters = None }) ∷ []) k.flights_are ∙ append_assoc held k.begun_flights ((record { slot = slot; value = Call client seq op; voters = None }) ∷ []);
           new = Each-push (IsNew free) k.begun_flights (record { slot = slot; value = Call client seq op; voters = None }) k.new (record { late = omega (arith, more, at); unvoted = refl });
           early = k.early;
           said = offered_said;
