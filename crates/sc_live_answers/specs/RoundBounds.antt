@@ -37,7 +37,7 @@ pub record StaysGone (first : Ballot) (course : Course) : Type 0 where
 
 -- since a quiet prefix, by the course that the group had there, the group has begun one round more at most, or it was gone and still is
 abbrev pub IsRoundSince : Course → Stage → Draw → Course → Type 0
-IsRoundSince quiet stage name course = (quiet.runs ≡ true → HasOneRound quiet.ballot stage name course) × (quiet.runs ≡ false → StaysGone quiet.ballot course)
+IsRoundSince quiet stage name course = (quiet.running ≡ true → HasOneRound quiet.ballot stage name course) × (quiet.running ≡ false → StaysGone quiet.ballot course)
 
 -- while an order is under way since a quiet prefix each group begins one round more at most
 pub record OrdersKeepRounds : Type 0 where
@@ -66,7 +66,7 @@ RowsKeepRound =
 
 -- since a quiet prefix the group has the ballot that it had there, in which a node leads, or it was gone and still is
 abbrev pub IsBallotSince : Course → Course → Type 0
-IsBallotSince quiet course = (quiet.runs ≡ true → (course.ballot ≡ quiet.ballot) × (course.running ≡ true)) × (quiet.runs ≡ false → StaysGone quiet.ballot course)
+IsBallotSince quiet course = (quiet.running ≡ true → (course.ballot ≡ quiet.ballot) × (course.running ≡ true)) × (quiet.running ≡ false → StaysGone quiet.ballot course)
 
 -- while no order is under way each group keeps its ballot: `IsBallotSince` holds in quiet, and after each row before which no command of an order stood at a leader at the row's node; and none stands where no part of an order is left
 pub record RequestsKeepBallots : Type 0 where

@@ -90,7 +90,7 @@ orders_keep idle wb = record {
             (λ deal to fact named. asked_same words at over by scenario quiet rows base q t members stage untouched deal to fact named runs) (was.0 runs),
         λ off. gone_then words at over by scenario rows seat (Deliver number) base idle (wb scenario) timely born calm t s q.course.ballot (was.1 off),
       );
-  few = λ quiet stage name course since. elim (cases_Bool quiet.runs) [
+  few = λ quiet stage name course since. elim (cases_Bool quiet.running) [
     | inl runs ↦ elim ((since.0 runs).one) [ inl same ↦ (let e = ap (λ (b : Ballot). b.round) same in omega (arith, e)) | inr low ↦ low.0 ]
     | inr off ↦ (let e = ap (λ (b : Ballot). b.round) (since.1 off).ballot in omega (arith, e))
   ];
