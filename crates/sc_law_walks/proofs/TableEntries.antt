@@ -67,10 +67,10 @@ module _ (counted : Bool) (command : Command) (start : ReplicaState) (P Q : Plac
   unfolding welcomed_all install_to
   all_welcomed [] r mails t new k = k
   all_welcomed (node ∷ nodes) r mails t new k =
-      let told : List Mail = sent r.me node (Install (name_of r) (next r - 1) (base_of r.group) r.sets) mails in
-      let asked : List Mail = sent r.me node (Prepare (name_of r) r.leader.ballot (next r)) told in
-      let q : Q (r, told) = p.installs node r mails t new.0 k in
-      either_way (λ (place : Place). Q (welcomed_all nodes place)) r.leader.is_first (r, told) (r, asked) (all_welcomed nodes r told t new.1 q) (all_welcomed nodes r asked t new.1 (p.repolls node r told t new.0 q))
+      let reported : List Mail = sent r.me node (Install (name_of r) (next r - 1) (base_of r.group) r.sets) mails in
+      let asked : List Mail = sent r.me node (Prepare (name_of r) r.leader.ballot (next r)) reported in
+      let q : Q (r, reported) = p.installs node r mails t new.0 k in
+      either_way (λ (place : Place). Q (welcomed_all nodes place)) r.leader.is_first (r, reported) (r, asked) (all_welcomed nodes r reported t new.1 q) (all_welcomed nodes r asked t new.1 (p.repolls node r reported t new.0 q))
 
   welcomed_kept : (place : Place) → Q place → Q (welcomed counted (members start) place)
   unfolding welcomed

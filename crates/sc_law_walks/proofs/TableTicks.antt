@@ -64,9 +64,9 @@ module _ (w : TableWalk) (a : TableAgains w.facts) where
   settled_ticks : (on : Bool) (drawer : Drawer) (r : ReplicaState) (mails : List Mail) → MayWish on drawer r → MayWait r → Runs (r, mails) → After w (pumped (wishing on drawer (reminded (r, mails))))
   unfolding wishing reminded
   settled_ticks on drawer r mails may waits k =
-      let told : List Mail = reminders r.group.core.lock r.me r.group mails in
+      let reported : List Mail = reminders r.group.core.lock r.me r.group mails in
       let longer : ReplicaState = waited_in r.group.core.lock r in
-      pumps w (with_line drawer (wished_line on longer) longer, told) (wished (wished_line on longer) drawer longer told may (waits told (a.reminds r mails k.1 k.0, k.1)))
+      pumps w (with_line drawer (wished_line on longer) longer, reported) (wished (wished_line on longer) drawer longer reported may (waits reported (a.reminds r mails k.1 k.0, k.1)))
 
   -- the tick of one replica, where its waiting keeps the invariant
   pub ticks_where : (on : Bool) (drawer : Drawer) (r : ReplicaState) (mails : List Mail)

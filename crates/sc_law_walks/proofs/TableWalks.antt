@@ -172,15 +172,15 @@ pub talk_said : (f : TableFacts) → ((r : ReplicaState) → Talk r.me (λ mails
     → ((from : ℕ) (group : Draw) (slot : ℕ) (command : Command) (r : ReplicaState) (mails : List Mail) → f.Hears from (Learn group slot command) → next r < slot → f.Early (r, mails) → f.Early (r, sent r.me from (Ask (name_of r) (next r)) mails))
     → ((to : ℕ) (r : ReplicaState) (mails : List Mail) → f.Early (r, mails) → f.Early (r, sent r.me to (Nack (name_of r) r.acceptor.promised) mails)) → TableSays f
 talk_said f talk installs recalls wants nacks = record {
-  refuses = λ from group client seq op answer r mails h e m. client_reported r.me (λ ms. f.Early (r, ms)) (told r) client (name_of r) seq answer mails m;
+  refuses = λ from group client seq op answer r mails h e m. client_reported r.me (λ ms. f.Early (r, ms)) (recorded r) client (name_of r) seq answer mails m;
   tells = λ drawer line why r mails given e m. (talk r).tells line.number (Refused why) mails m;
-  votes = λ from tx offer vote r mails h e m. vote_reported r.me (λ ms. f.Early (r, ms)) (told r) r.group from tx offer vote mails m;
-  sees = λ from tx watch vote r mails h e m. watch_reported r.me (λ ms. f.Early (r, ms)) (told r) from tx watch vote mails m;
-  vote_ends = λ from tx coord part vote outcome r mails h e m. outcome_said r.me (λ ms. f.Early (r, ms)) (told r) from tx part outcome mails m;
-  watch_ends = λ from tx coord part vote outcome r mails h e m. outcome_said r.me (λ ms. f.Early (r, ms)) (told r) from tx part outcome mails m;
+  votes = λ from tx offer vote r mails h e m. vote_reported r.me (λ ms. f.Early (r, ms)) (recorded r) r.group from tx offer vote mails m;
+  sees = λ from tx watch vote r mails h e m. watch_reported r.me (λ ms. f.Early (r, ms)) (recorded r) from tx watch vote mails m;
+  vote_ends = λ from tx coord part vote outcome r mails h e m. outcome_said r.me (λ ms. f.Early (r, ms)) (recorded r) from tx part outcome mails m;
+  watch_ends = λ from tx coord part vote outcome r mails h e m. outcome_said r.me (λ ms. f.Early (r, ms)) (recorded r) from tx part outcome mails m;
   offer_sent_on = λ from tx offer r mails h m. (talk r).sends_on from tx offer.coord r.hint mails m;
   watch_sent_on = λ from tx watch r mails h m. (talk r).sends_on from tx watch.coord r.hint mails m;
-  asks_next = λ from tx coord hint r mails h m. next_one_asked r.me (λ ms. f.Early (r, ms)) (told r) r.group.core.lock r.group.core from tx hint mails m;
+  asks_next = λ from tx coord hint r mails h m. next_one_asked r.me (λ ms. f.Early (r, ms)) (recorded r) r.group.core.lock r.group.core from tx hint mails m;
   prepare_behind = λ from group ballot from_slot r mails h found low m. installs from r mails m;
   accept_behind = λ from group report r mails h found low m. installs from r mails m;
   ask_behind = λ from group slot r mails h m. installs from r mails m;
@@ -190,5 +190,5 @@ talk_said f talk installs recalls wants nacks = record {
   accept_nacked = λ from group report r mails h found no m. nacks from r mails m;
 }
   where
-    told : (r : ReplicaState) → Parties r.me (λ ms. f.Early (r, ms))
-    told r = parties r.me (λ ms. f.Early (r, ms)) (talk r)
+    recorded : (r : ReplicaState) → Parties r.me (λ ms. f.Early (r, ms))
+    recorded r = parties r.me (λ ms. f.Early (r, ms)) (talk r)

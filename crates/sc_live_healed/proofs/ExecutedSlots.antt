@@ -251,19 +251,19 @@ module _ (base : Base) (me : ℕ) (ballot : Ballot) (Held : Flight Command → T
   unfolding entered forgotten
   same_members command r fixed e = ap (λ (core : Core). core.members) (core_after command r.group fixed e ∙ sym e)
 
-  told : (counted : Bool) (r : ReplicaState) (mails : List Mail) → r.group.core ≡ base.core → (c : Command) → IsFixedCommand base c
+  reported : (counted : Bool) (r : ReplicaState) (mails : List Mail) → r.group.core ≡ base.core → (c : Command) → IsFixedCommand base c
       → Says (entered c r) mails (spoken counted (before_of r.group.core) (applied r.group c).1 c (announced counted (applied r.group c).1 c (entered c r, mails)))
-  told counted r mails e (Call client seq op) (inl held) =
+  reported counted r mails e (Call client seq op) (inl held) =
       let answer = (called_core r.group.core.gone r.group.core.lock r.group client seq op (ap (λ (core : Core). core.gone) e ∙ stands) (ap (λ (core : Core). core.lock) e ∙ free) (ap (λ (core : Core). holds_key core.arc (key_of op)) e ∙ held)).1 in
       says_then (entered (Call client seq op) r) mails (λ place. spoken counted (before_of r.group.core) (applied r.group (Call client seq op)).1 (Call client seq op) place) (announced counted (applied r.group (Call client seq op)).1 (Call client seq op) (entered (Call client seq op) r, mails))
       (announced_call counted client seq op (applied r.group (Call client seq op)).1 answer.0 (entered (Call client seq op) r) mails answer.1)
       (λ more. spoken_call counted (before_of r.group.core) client seq op (applied r.group (Call client seq op)).1 (entered (Call client seq op) r) more)
-  told counted r mails e Noop f =
+  reported counted r mails e Noop f =
       says_then (entered Noop r) mails (λ place. spoken counted (before_of r.group.core) (applied r.group Noop).1 Noop place) (announced counted (applied r.group Noop).1 Noop (entered Noop r, mails))
       (announced_noop counted (applied r.group Noop).1 (entered Noop r) mails)
       (λ more. spoken_noop counted (before_of r.group.core) (applied r.group Noop).1 (entered Noop r) more)
-  told counted r mails e _ (inl held) = absurd held
-  told counted r mails e _ (inr same) = cc
+  reported counted r mails e _ (inl held) = absurd held
+  reported counted r mails e _ (inr same) = cc
 
   pub entry_says : (counted : Bool) (command : Command) (r : ReplicaState) (mails : List Mail) → IsFixedCommand base command → r.group.core ≡ base.core
       → Says (entered command r) mails (welcomed counted (members r) (learnt_to counted (members r) (next r) command (spoken counted (before_of r.group.core) (applied r.group command).1 command (announced counted (applied r.group command).1 command (entered command r, mails)))))
@@ -271,7 +271,7 @@ module _ (base : Base) (me : ℕ) (ballot : Ballot) (Held : Flight Command → T
       let spoke : Place = spoken counted (before_of r.group.core) (applied r.group command).1 command (announced counted (applied r.group command).1 command (entered command r, mails)) in
       says_then (entered command r) mails (λ place. welcomed counted (members r) place) (learnt_to counted (members r) (next r) command spoke)
       (says_then (entered command r) mails (λ place. learnt_to counted (members r) (next r) command place) spoke
-      (told counted r mails e command fixed) (λ more. learnt_says counted (members r) (next r) command (entered command r) more))
+      (reported counted r mails e command fixed) (λ more. learnt_says counted (members r) (next r) command (entered command r) more))
       (λ more. welcomed_says counted (members r) (entered command r) more (same_members command r fixed e))
 
   -- the whole entry

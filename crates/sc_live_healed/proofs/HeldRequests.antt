@@ -40,12 +40,12 @@ back_runs command r b e = back_any (λ x. x.running ≡ b) (λ x acts backlog k.
 
 module _ (base : Base) (me client seq : ℕ) (Elsewhere : Type 0) where
   -- the client is answered by these mails
-  abbrev pub IsTold : List Mail → Type 0
-  IsTold mails = (answer : AnswerBody) × Answers answer × Among (reply_mail client seq me base.core.id answer) mails
+  abbrev pub IsAnsweredBy : List Mail → Type 0
+  IsAnsweredBy mails = (answer : AnswerBody) × Answers answer × Among (reply_mail client seq me base.core.id answer) mails
 
   -- a leader holds the request, or its client is answered, here or elsewhere
   abbrev pub HeldOr : Place → Type 0
-  HeldOr (r, mails) = Elsewhere ⊎ ((r.running ≡ true) × IsHeld client seq r) ⊎ IsTold mails
+  HeldOr (r, mails) = Elsewhere ⊎ ((r.running ≡ true) × IsHeld client seq r) ⊎ IsAnsweredBy mails
 
   -- nothing is lost where the replica goes on and mails are put behind
   pub held_on : (r after : ReplicaState) (mails more : List Mail) → (r.running ≡ true → after.running ≡ true) → (r.running ≡ true → IsHeld client seq r → IsHeld client seq after) → ((mail : Mail) → Among mail mails → Among mail more) → HeldOr (r, mails) → HeldOr (after, more)

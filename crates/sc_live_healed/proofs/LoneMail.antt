@@ -117,7 +117,7 @@ module _ (base : Base) (me : ℕ) (born : IsFresh base me) (client first seq : �
     serves : (place : Place) → HeldOr base me client seq ⊥ place → IsServed place
     serves place (inl no_way) = absurd no_way
     serves place (inr (inl held)) = inl held
-    serves place (inr (inr told)) = inr (told.0, answers_reply_or_redirect told.0 told.1, told.2)
+    serves place (inr (inr reported)) = inr (reported.0, answers_reply_or_redirect reported.0 reported.1, reported.2)
 
     -- a mail brings no Learn of the request
     abbrev Unheard : MailBody → Type 0

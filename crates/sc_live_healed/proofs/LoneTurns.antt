@@ -148,9 +148,9 @@ module _ (words : ℕ → ℕ → ℕ × ℕ) (scenario : Scenario) (bounded : I
         served early late logs unlearnt base a id at (inr (answer, inl red, said)) =
             let mail : Mail = reply_mail client seq node.me base.core.id answer in
             Waits early late logs unlearnt (IsSentOn mail (answer_pending mail said refl) (who_is.0 ∙ at) refl answer (ap (λ (d : Draw). Answer d seq answer) id) red)
-        served early late logs unlearnt base a id at (inr (answer, inr told, said)) =
+        served early late logs unlearnt base a id at (inr (answer, inr reported, said)) =
             let mail : Mail = reply_mail client seq node.me base.core.id answer in
-            IsReplied (record { mail = mail; among = answer_pending mail said refl; to = refl; group = base.core.id; reply = told.0; body = ap (λ (x : AnswerBody). Answer base.core.id seq x) told.1 })
+            IsReplied (record { mail = mail; among = answer_pending mail said refl; to = refl; group = base.core.id; reply = reported.0; body = ap (λ (x : AnswerBody). Answer base.core.id seq x) reported.1 })
 
         still_waits : (early : Bool) → (late : early ≡ true → first ≡ seq) → AtNodes rows (λ n. Logs seq early n) → Each (Unlearnt early) (mail_at rows) → Where rows seq group target → Stands after seq group target
         still_waits early late logs unlearnt w =

@@ -33,16 +33,16 @@ elected_at_tick base me fresh drawer r mails f off room =
 
 -- ---- each member is asked
 
-told_among : (me : ℕ) (body : MailBody) (mail : Mail) (nodes : List ℕ) (mails : List Mail) → Among mail mails → Among mail (sent_all me nodes body mails)
+taught_among : (me : ℕ) (body : MailBody) (mail : Mail) (nodes : List ℕ) (mails : List Mail) → Among mail mails → Among mail (sent_all me nodes body mails)
 unfolding sent_all
-told_among me body mail [] mails a = a
-told_among me body mail (node ∷ nodes) mails a = told_among me body mail nodes (sent me node body mails) (Among-left mail mails (record { from = me; to = node; body = body } ∷ []) a)
+taught_among me body mail [] mails a = a
+taught_among me body mail (node ∷ nodes) mails a = taught_among me body mail nodes (sent me node body mails) (Among-left mail mails (record { from = me; to = node; body = body } ∷ []) a)
 
 all_among : (me : ℕ) (body : MailBody) (to : ℕ) (nodes : List ℕ) (mails : List Mail) → Among to nodes → Among (record { from = me; to = to; body = body }) (sent_all me nodes body mails)
 unfolding sent_all
 all_among me body to [] mails a = absurd a
 all_among me body to (node ∷ nodes) mails (inl same) =
-    told_among me body (record { from = me; to = to; body = body }) nodes (sent me node body mails)
+    taught_among me body (record { from = me; to = to; body = body }) nodes (sent me node body mails)
     (Among-right (record { from = me; to = to; body = body }) mails (record { from = me; to = node; body = body } ∷ []) (inl (ap (λ (n : ℕ). record { from = me; to = n; body = body }) same)))
 all_among me body to (node ∷ nodes) mails (inr a) = all_among me body to nodes (sent me node body mails) a
 

@@ -13,23 +13,23 @@ module _ (P : ReplicaState → Type 0) (queues : (r : ReplicaState) (acts backlo
   abbrev E : Place → Type 0
   E place = P place.0
 
-  call_told : (answer : Option AnswerBody) (command : Command) (place : Place) → E place → E (answered_or_put_back answer command place)
+  call_reported : (answer : Option AnswerBody) (command : Command) (place : Place) → E place → E (answered_or_put_back answer command place)
   unfolding answered_or_put_back
-  call_told (Some answer) (Call client seq op) (r, mails) p = p
-  call_told None (Call client seq op) (r, mails) p = back_any P queues (Call client seq op) r p
-  call_told (Some answer) _ place p = p
-  call_told None _ place p = p
+  call_reported (Some answer) (Call client seq op) (r, mails) p = p
+  call_reported None (Call client seq op) (r, mails) p = back_any P queues (Call client seq op) r p
+  call_reported (Some answer) _ place p = p
+  call_reported None _ place p = p
 
-  effect_told : (result : Option OrderResult) (command : Command) (place : Place) → E place → E (effect_reported result command place)
+  effect_recorded : (result : Option OrderResult) (command : Command) (place : Place) → E place → E (effect_reported result command place)
   unfolding effect_reported
-  effect_told None command place p = p
-  effect_told (Some result) command (r, mails) p = p
+  effect_recorded None command place p = p
+  effect_recorded (Some result) command (r, mails) p = p
 
   announces : (counted : Bool) (effect : Effect) (command : Command) (place : Place) → E place → E (announced counted effect command place)
   unfolding announced
   announces counted effect command place p =
-      effect_told (order_result command effect) command (cond counted (answered_or_put_back (answer_of effect) command place) place)
-      (either_way E counted (answered_or_put_back (answer_of effect) command place) place (call_told (answer_of effect) command place p) p)
+      effect_recorded (order_result command effect) command (cond counted (answered_or_put_back (answer_of effect) command place) place)
+      (either_way E counted (answered_or_put_back (answer_of effect) command place) place (call_reported (answer_of effect) command place p) p)
 
   sent_state : (node : ℕ) (place : Place) → E place → E (install_to node place)
   unfolding install_to
@@ -59,9 +59,9 @@ module _ (P : ReplicaState → Type 0) (queues : (r : ReplicaState) (acts backlo
   pub entry_reported : (counted : Bool) (before : Before) (effect : Effect) (nodes : List ℕ) (slot : ℕ) (command : Command) (place : Place) → E place
       → E (welcomed counted nodes (learnt_to counted nodes slot command (spoken counted before effect command (announced counted effect command place))))
   entry_reported counted before effect nodes slot command place p =
-      let told : Place = announced counted effect command place in
-      let said : Place = spoken counted before effect command told in
-      welcomes counted nodes (learnt_to counted nodes slot command said) (teaches counted nodes slot command said (speaks counted before effect command told (announces counted effect command place p)))
+      let reported : Place = announced counted effect command place in
+      let said : Place = spoken counted before effect command reported in
+      welcomes counted nodes (learnt_to counted nodes slot command said) (teaches counted nodes slot command said (speaks counted before effect command reported (announces counted effect command place p)))
 
   pub slot_lost_kept : (counted : Bool) (command : Command) (o : Option Command) (r : ReplicaState) → P r → P (slot_lost counted command o r)
   slot_lost_kept counted command None r p = p

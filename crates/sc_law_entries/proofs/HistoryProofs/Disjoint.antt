@@ -106,5 +106,5 @@ module _ (history : List Entry) (holdings : Holdings) (group other : Draw) (mine
         only_at p name second (place name) (place second) (record { holding = holding; fact = fact; at = at }) (record { holding = another; fact = its; at = there });
   }
 
-  pub shared_told : (name : Draw) (holding : Holding) → shared name ≡ Some holding → IsReportedOf history holding
-  shared_told name holding found = (good_at name (place name) holding found).1
+  pub shared_reported : (name : Draw) (holding : Holding) → shared name ≡ Some holding → IsReportedOf history holding
+  shared_reported name holding found = (good_at name (place name) holding found).1

@@ -9,7 +9,7 @@ use Rattle.sc_meaning.specs.entries.EntryDefinitions.{StoreWorld, after_command,
 use Rattle.sc_law_entries.specs.history.HistoryDefinitions.{RequestOf, MatchesHoldings, Unmoved, EntriesMakeMoves, AppliedEntriesMakeHistory, AllMayBeApplied, MayExecute, AllMakeMoves, IsMoveTo, holdings_in}
 use Rattle.sc_law_entries.proofs.HistoryProofs.Coordinators.{split_goes, vote_goes, watch_goes}
 use Rattle.sc_law_entries.proofs.HistoryProofs.Ending.{finish_goes}
-use Rattle.sc_law_entries.proofs.HistoryProofs.MoveLaw.{move_told, moves_make_worlds}
+use Rattle.sc_law_entries.proofs.HistoryProofs.MoveLaw.{move_reported, moves_make_worlds}
 use Rattle.sc_law_entries.proofs.HistoryProofs.QuietLaw.{first_recorded}
 use Rattle.sc_law_entries.proofs.HistoryProofs.Serves.{call_goes}
 use Rattle.sc_law_entries.proofs.HistoryProofs.Staying.{Goes, begin_goes, give_up_goes, join_goes, leave_goes, noop_goes, prepared_goes, watched_goes}
@@ -52,7 +52,7 @@ all_move : (request : RequestOf) (world : StoreWorld) (entries : List LogEntry) 
 all_move request world [] holds may = tt
 all_move request world (entry ∷ entries) holds may =
     let moves = entries_move request world entry holds may.0 in
-    (moves, all_move request (recorded world entry) entries (move_told request world (recorded world entry) holds moves) may.1)
+    (moves, all_move request (recorded world entry) entries (move_reported request world (recorded world entry) holds moves) may.1)
 
 pub entries_report : AppliedEntriesMakeHistory
 entries_report request bases begin entries may =

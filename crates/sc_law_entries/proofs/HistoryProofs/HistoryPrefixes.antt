@@ -28,8 +28,8 @@ other_first name entry entries ne =
     ap (map (λ (x : LogEntry). x.command)) (cond-false (same_draw entry.group name) (entry ∷ filter (λ (x : LogEntry). same_draw x.group name) entries) (filter (λ (x : LogEntry). same_draw x.group name) entries) (other_name entry.group name ne))
 
 -- the group that an entry is of, and any other
-own_told : (world : StoreWorld) (name : Draw) (group : Group) → named_group name world.groups ≡ Some group → (c : Command) → named_group name (after_command world (Some group) c).groups ≡ Some (applied group c).0
-own_told world name group found c =
+own_reported : (world : StoreWorld) (name : Draw) (group : Group) → named_group name world.groups ≡ Some group → (c : Command) → named_group name (after_command world (Some group) c).groups ≡ Some (applied group c).0
+own_reported world name group found c =
     let id = found_name name world.groups group found in
     let same = (applied_same group c).0 in
     let now : named_group group.core.id (with_group group.core.id (applied group c).0 world.groups) ≡ Some (applied group c).0 =
@@ -37,10 +37,10 @@ own_told world name group found c =
     found_left name (with_group group.core.id (applied group c).0 world.groups) (map group_of (option_to_list (birth_of group c (applied group c).1))) (applied group c).0
     (ap (λ n. named_group n (with_group group.core.id (applied group c).0 world.groups)) (sym id) ∙ now)
 
-other_told : (world : StoreWorld) (name : Draw) (group : Group) → named_group name world.groups ≡ Some group → (other : Draw) → (other ≡ name → ⊥) → (o : Option Group) → named_group other world.groups ≡ o → (c : Command)
+other_reported : (world : StoreWorld) (name : Draw) (group : Group) → named_group name world.groups ≡ Some group → (other : Draw) → (other ≡ name → ⊥) → (o : Option Group) → named_group other world.groups ≡ o → (c : Command)
     → named_group name (after_command world o c).groups ≡ Some group
-other_told world name group found other ne None e c = found
-other_told world name group found other ne (Some it) e c =
+other_reported world name group found other ne None e c = found
+other_reported world name group found other ne (Some it) e c =
     let id = found_name other world.groups it e in
     found_left name (with_group it.core.id (applied it c).0 world.groups) (map group_of (option_to_list (birth_of it c (applied it c).1))) group
     (found_still it.core.id name (applied it c).0 world.groups (applied_same it c).0 (λ same. ne (sym id ∙ sym same)) ∙ found)
@@ -52,10 +52,10 @@ logs_make_states world name group found [] = found
 logs_make_states world name group found (entry ∷ entries) = elim (draw_cases entry.group name) [
   | inl e ↦ (
       let now : named_group name (recorded world entry).groups ≡ Some (applied group entry.command).0 =
-      ap (λ o. named_group name (after_command world o entry.command).groups) (ap (λ n. named_group n world.groups) e ∙ found) ∙ own_told world name group found entry.command in
+      ap (λ o. named_group name (after_command world o entry.command).groups) (ap (λ n. named_group n world.groups) e ∙ found) ∙ own_reported world name group found entry.command in
       logs_make_states (recorded world entry) name (applied group entry.command).0 now entries ∙ ap (λ log. Some (state_after group log)) (sym (own_first name entry entries e)))
   | inr ne ↦ (
-      let still = other_told world name group found entry.group ne (named_group entry.group world.groups) refl entry.command in
+      let still = other_reported world name group found entry.group ne (named_group entry.group world.groups) refl entry.command in
       logs_make_states (recorded world entry) name group still entries ∙ ap (λ log. Some (state_after group log)) (sym (other_first name entry entries ne)))
 ]
 

@@ -39,19 +39,19 @@ parts_apart arc at fact fits can p first second =
     both_ways (holds (before arc at) p && holds (from arc at) p) ((joins_hold (before arc at) (from arc at) fact.1 parts.first parts.second parts.can).apart p) (and_from (holds (before arc at) p) (holds (from arc at) p) first second)
 
 -- a part on an arc that lies in the whole
-part_told : (history : List Entry) (holding : Holding) (arc : Arc) → LiesIn arc holding.arc → IsReportedOf history holding
+part_reported : (history : List Entry) (holding : Holding) (arc : Arc) → LiesIn arc holding.arc → IsReportedOf history holding
     → IsReportedOf history (record holding { arc = arc; pairs = part_of arc holding.pairs })
-part_told history holding arc lies recorded = record {
+part_reported history holding arc lies recorded = record {
   pairs = ap (part_of arc) recorded.pairs ∙ part_within arc holding.arc (contents_after empty history) lies;
   noted = λ entry among held. recorded.noted entry among (lies (pos_of (key_of entry.op)) held);
   notes = recorded.notes;
 }
 
-pub before_told : (history : List Entry) (holding : Holding) (at : ℕ) → IsOnRing holding.arc → at < 2 ^ 32 → CanCut holding.arc at → IsReportedOf history holding → IsReportedOf history (part_before at holding)
-before_told history holding at fact fits can = part_told history holding (before holding.arc at) (before_arc holding.arc at fact fits can).1
+pub before_reported : (history : List Entry) (holding : Holding) (at : ℕ) → IsOnRing holding.arc → at < 2 ^ 32 → CanCut holding.arc at → IsReportedOf history holding → IsReportedOf history (part_before at holding)
+before_reported history holding at fact fits can = part_reported history holding (before holding.arc at) (before_arc holding.arc at fact fits can).1
 
-pub from_told : (history : List Entry) (holding : Holding) (at : ℕ) → IsOnRing holding.arc → at < 2 ^ 32 → CanCut holding.arc at → IsReportedOf history holding → IsReportedOf history (part_from at holding)
-from_told history holding at fact fits can = part_told history holding (from holding.arc at) (from_arc holding.arc at fact fits can).1
+pub from_reported : (history : List Entry) (holding : Holding) (at : ℕ) → IsOnRing holding.arc → at < 2 ^ 32 → CanCut holding.arc at → IsReportedOf history holding → IsReportedOf history (part_from at holding)
+from_reported history holding at fact fits can = part_reported history holding (from holding.arc at) (from_arc holding.arc at fact fits can).1
 
 -- ---- two as one
 
@@ -63,9 +63,9 @@ joined_from arc next fact its can p e =
 pub joined_arc : (arc next : Arc) → IsOnRing arc → IsOnRing next → CanJoin arc next → IsOnRing (joined arc next)
 joined_arc arc next fact its can = ((joins_hold arc next fact.1 fact.0 its.0 can).is_arc, fact.1)
 
-pub next_told : (history : List Entry) (holding next : Holding) → IsOnRing holding.arc → IsOnRing next.arc → CanJoin holding.arc next.arc → IsReportedOf history holding → IsReportedOf history next
+pub next_reported : (history : List Entry) (holding next : Holding) → IsOnRing holding.arc → IsOnRing next.arc → CanJoin holding.arc next.arc → IsReportedOf history holding → IsReportedOf history next
     → IsReportedOf history (with_next holding next)
-next_told history holding next fact its can recorded other =
+next_reported history holding next fact its can recorded other =
     let map = contents_after empty history in
     record {
       pairs = ap (λ m. with_pairs m (entries next.pairs)) recorded.pairs
@@ -78,9 +78,9 @@ next_told history holding next fact its can recorded other =
       notes = notes_joined history holding.clients next.clients recorded.notes other.notes;
     }
 
-pub previous_told : (history : List Entry) (holding previous : Holding) → IsOnRing holding.arc → IsOnRing previous.arc → CanJoin previous.arc holding.arc → IsReportedOf history holding → IsReportedOf history previous
+pub previous_reported : (history : List Entry) (holding previous : Holding) → IsOnRing holding.arc → IsOnRing previous.arc → CanJoin previous.arc holding.arc → IsReportedOf history holding → IsReportedOf history previous
     → IsReportedOf history (with_previous holding previous)
-previous_told history holding previous fact its can recorded other =
+previous_reported history holding previous fact its can recorded other =
     let map = contents_after empty history in
     record {
       pairs = ap (λ m. with_pairs m (entries previous.pairs)) recorded.pairs

@@ -15,7 +15,7 @@ use Rattle.sc_meaning.specs.entries.EntryDefinitions.{effective, arc_in, StoreWo
 use Rattle.sc_meaning.proofs.EntriesProofs.EntryLemmas.{world_append}
 use Rattle.sc_law_entries.specs.history.HistoryDefinitions.{RequestOf, HasNotes, MatchesHoldings, entries_by, holding_of, holdings_after, AllMakeMoves, BeginBare, MovingEntriesMakeHistory, HasKnownTable, IsMoveTo, MakesMove, holdings_in}
 use Rattle.sc_law_entries.proofs.HistoryProofs.Cuts.{has_cut}
-use Rattle.sc_law_entries.proofs.HistoryProofs.MovesKept.{move_kept, same_told}
+use Rattle.sc_law_entries.proofs.HistoryProofs.MovesKept.{move_kept, same_reported}
 use Rattle.sc_law_entries.proofs.HistoryProofs.QuietLaw.{first_notes, first_recorded}
 use Rattle.sc_law_entries.proofs.HistoryProofs.QuietWorlds.{notes_grow, tables_grow}
 use Rattle.std.proofs.lemmas.Option.{none-some}
@@ -32,16 +32,16 @@ same_notes : (history : List Entry) (clients others : ClientTable) → clients �
 same_notes history clients others same notes = subst (HasNotes history) same notes
 
 -- one move more
-pub move_told : (request : RequestOf) (before after : StoreWorld) → MatchesHoldings request before.history (holdings_in before) → IsMoveTo request before after → MatchesHoldings request after.history (holdings_in after)
-move_told request before after holds makes =
+pub move_reported : (request : RequestOf) (before after : StoreWorld) → MatchesHoldings request before.history (holdings_in before) → IsMoveTo request before after → MatchesHoldings request after.history (holdings_in after)
+move_reported request before after holds makes =
     subst (λ es. MatchesHoldings request es (holdings_in after)) (sym makes.adds)
-    (same_told request (before.history ++ entries_by makes.move (holdings_in before)) (holdings_after makes.move (holdings_in before)) (holdings_in after) makes.holds
+    (same_reported request (before.history ++ entries_by makes.move (holdings_in before)) (holdings_after makes.move (holdings_in before)) (holdings_in after) makes.holds
     (move_kept request before.history (holdings_in before) makes.move holds makes.may))
 
 -- one entry more
 moved : (request : RequestOf) (world : StoreWorld) (entry : LogEntry) → IsMoved request world → MakesMove request world entry → IsMoved request (recorded world entry)
 moved request world entry fact makes =
-    let holds = move_told request world (recorded world entry) fact.holds makes in
+    let holds = move_reported request world (recorded world entry) fact.holds makes in
     record { holds = holds; notes = λ name group found. known name group holds (makes.tables name group found) }
   where
     known : (name : Draw) (group : Group) → MatchesHoldings request (recorded world entry).history (holdings_in (recorded world entry)) → HasKnownTable world (recorded world entry) name group → HasNotes (recorded world entry).history group.clients

@@ -6,7 +6,7 @@ use Rattle.sc_base.specs.declared.names.Draw.{Draw}
 use Rattle.sc_words.specs.ideal.IdealDefinitions.{HasEntry}
 use Rattle.sc_words.specs.declared.ideal.Entry.{Entry}
 use Rattle.sc_law_entries.specs.history.HistoryDefinitions.{Holding, Holdings, RequestOf, Move, Unmoved, ServedBy, DividedAt, JoinedTo, GivenFrom, TakenUpTo, MayMakeAll, MovesKeepHistories, MovesMakeHistories, AreBare, MatchesHoldings, with_holding, holdings_after, holdings_after_all, history_by, entries_by}
-use Rattle.sc_law_entries.proofs.HistoryProofs.Disjoint.{IsGood, SharesOut, shared_disjoint, shared_told}
+use Rattle.sc_law_entries.proofs.HistoryProofs.Disjoint.{IsGood, SharesOut, shared_disjoint, shared_reported}
 use Rattle.sc_law_entries.proofs.HistoryProofs.Shares.{divided, joined_up, given, taken}
 use Rattle.sc_law_entries.proofs.HistoryProofs.Serving.{served_kept}
 use Rattle.sc_law_entries.proofs.HistoryProofs.StoreAdditions.{entry_later}
@@ -30,7 +30,7 @@ shared_kept request history holdings group other mine theirs recorded share =
       legal = recorded.legal;
       asked = recorded.asked;
       disjoint = shared_disjoint history holdings group other mine theirs recorded.disjoint good share;
-      recorded = shared_told history holdings group other mine theirs recorded.disjoint good share;
+      recorded = shared_reported history holdings group other mine theirs recorded.disjoint good share;
     })
 
 pub move_kept : MovesKeepHistories
@@ -46,8 +46,8 @@ move_kept request history holdings (TakenUpTo group at next) recorded may =
     shared_kept request history holdings group next _ _ recorded (taken history holdings recorded.disjoint (all_good request history holdings recorded) group at next may)
 
 -- holdings that are the same at each name match the same history
-pub same_told : (request : RequestOf) (history : List Entry) (holdings others : Holdings) → ((name : Draw) → others name ≡ holdings name) → MatchesHoldings request history holdings → MatchesHoldings request history others
-same_told request history holdings others same recorded = record {
+pub same_reported : (request : RequestOf) (history : List Entry) (holdings others : Holdings) → ((name : Draw) → others name ≡ holdings name) → MatchesHoldings request history holdings → MatchesHoldings request history others
+same_reported request history holdings others same recorded = record {
   legal = recorded.legal;
   asked = recorded.asked;
   disjoint = record {
@@ -80,8 +80,8 @@ history_prefix holdings (move ∷ prefix) more =
 -- ---- from a bare start
 
 -- at an empty start nothing is in the history
-pub bare_told : (request : RequestOf) (holdings : Holdings) → AreBare holdings → MatchesHoldings request [] holdings
-bare_told request holdings bare = record {
+pub bare_reported : (request : RequestOf) (holdings : Holdings) → AreBare holdings → MatchesHoldings request [] holdings
+bare_reported request holdings bare = record {
   legal = record { replay = tt; once = λ i j d below inside. absurd (omega arith) };
   asked = λ e a. absurd a;
   disjoint = bare.disjoint;
@@ -95,7 +95,7 @@ bare_told request holdings bare = record {
 }
 
 tells_all : (request : RequestOf) (holdings : Holdings) → AreBare holdings → (moves : List Move) → MayMakeAll request holdings moves → MatchesHoldings request (history_by holdings moves) (holdings_after_all holdings moves)
-tells_all request holdings bare moves may = tells_on request [] holdings moves (bare_told request holdings bare) may
+tells_all request holdings bare moves may = tells_on request [] holdings moves (bare_reported request holdings bare) may
 
 pub moves_make_history : MovesMakeHistories
 moves_make_history request holdings bare moves may = (

@@ -17,7 +17,7 @@ use Rattle.sc_meaning.proofs.EntriesProofs.EntryLemmas.{world_append}
 use Rattle.sc_words.proofs.PaxosProofs.PaxosLemmas.{find_found, Each-split, one_of_name}
 use Rattle.sc_paxos_law.proofs.Lemmas.{from_map}
 use Rattle.sc_law_entries.specs.history.HistoryDefinitions.{Holding, RequestOf, AreBare, HasNotes, MatchesHoldings, holding_of, BeginBare, IsQuiet, HistoryMatchesWorld, QuietEntriesMakeHistory, holdings_in}
-use Rattle.sc_law_entries.proofs.HistoryProofs.MovesKept.{bare_told}
+use Rattle.sc_law_entries.proofs.HistoryProofs.MovesKept.{bare_reported}
 use Rattle.sc_law_entries.proofs.HistoryProofs.Cuts.{cut_of}
 use Rattle.sc_law_entries.proofs.HistoryProofs.Holdings.{IsOnRing}
 use Rattle.sc_law_entries.proofs.HistoryProofs.Positions.{holds_round, on_ring}
@@ -84,7 +84,7 @@ module _ (bases : List Base) (begin : BeginBare bases) where
 
   -- what holds at the start
   pub first_recorded : (request : RequestOf) → MatchesHoldings request [] (holdings_in (first_world bases))
-  first_recorded request = bare_told request (holdings_in (first_world bases)) first_bare
+  first_recorded request = bare_reported request (holdings_in (first_world bases)) first_bare
 
   first_quiet : (request : RequestOf) → IsQuietWorld request bases (first_world bases)
   first_quiet request = record {
@@ -109,8 +109,8 @@ cut_arc world covers cut a arc e =
     one_cut : (c d : Cut) → Among c world.ring → Among d world.ring → c.group ≡ d.group → c ≡ d
     one_cut c d a b e = one_of_name (λ (x : Cut). x.group) world.ring covers.apart c d a b e
 
-told_world : (request : RequestOf) (bases : List Base) (world : StoreWorld) → BeginBare bases → IsQuietWorld request bases world → HistoryMatchesWorld request world
-told_world request bases world begin quiet = record {
+reported_world : (request : RequestOf) (bases : List Base) (world : StoreWorld) → BeginBare bases → IsQuietWorld request bases world → HistoryMatchesWorld request world
+reported_world request bases world begin quiet = record {
   legal = quiet.recorded.legal;
   recorded = quiet.recorded;
   parts = λ cut a group fact. (
@@ -128,7 +128,7 @@ pub quiet_entries_history : QuietEntriesMakeHistory
 quiet_entries_history request bases begin entries each =
     let world = quiet_world request bases begin entries each in
     record {
-      world = told_world request bases (world_of bases entries) begin world;
+      world = reported_world request bases (world_of bases entries) begin world;
       ring = world.ring;
       notes = λ prefix more fact name group found. (
           let first = quiet_world request bases begin prefix (Each-split (IsQuiet request) prefix more (subst (Each (IsQuiet request)) fact each)).0 in

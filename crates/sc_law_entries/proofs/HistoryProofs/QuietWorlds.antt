@@ -20,7 +20,7 @@ use Rattle.sc_law_entries.proofs.HistoryProofs.Elsewhere.{own_group, here, there
 use Rattle.sc_law_entries.specs.history.HistoryDefinitions.{LeavesWhole, Holding, RequestOf, MayServe, MatchesHoldings, HasNotes, ServedBy, entries_by, holding_of, holdings_after, request_entry, with_request, holdings_in, IsAskedCall, IsQuiet}
 use Rattle.sc_law_entries.proofs.HistoryProofs.Disjoint.{holding_here, holding_there}
 use Rattle.sc_law_entries.proofs.HistoryProofs.Logs.{OnlyMembers, ordered_either}
-use Rattle.sc_law_entries.proofs.HistoryProofs.MovesKept.{move_kept, same_told}
+use Rattle.sc_law_entries.proofs.HistoryProofs.MovesKept.{move_kept, same_reported}
 use Rattle.sc_law_entries.proofs.HistoryProofs.Quiet.{no_birth, same_transactions, same_ring}
 use Rattle.sc_law_entries.proofs.HistoryProofs.Requests.{TakesEffect, request_cases}
 use Rattle.sc_law_entries.proofs.HistoryProofs.StoreAdditions.{entry_later}
@@ -120,7 +120,7 @@ module _ (request : RequestOf) (bases : List Base) (world : StoreWorld) (quiet :
   idle : holding_of result.0 ≡ holding_of group → entry_of c result.1 ≡ [] → IsQuietWorld request bases after
   idle same none = quiet_with (subst (λ es. MatchesHoldings request (world.history ++ es) (holdings_in after)) (sym none)
       (subst (λ es. MatchesHoldings request es (holdings_in after)) (sym (append-nil world.history))
-      (same_told request world.history (holdings_in world) (holdings_in after) as_before quiet.recorded)))
+      (same_reported request world.history (holdings_in world) (holdings_in after) as_before quiet.recorded)))
     where
       as_before : (other : Draw) → holdings_in after other ≡ holdings_in world other
       as_before other = elim (draw_cases other group.core.id) [
@@ -136,7 +136,7 @@ module _ (request : RequestOf) (bases : List Base) (world : StoreWorld) (quiet :
       let may : MayServe request (holdings_in world) group.core.id client seq op =
       record { holding = holding_of group; fact = own_holding; its = takes.its; above = takes.above; asked = asked } in
       quiet_with (subst (λ es. MatchesHoldings request (world.history ++ es) (holdings_in after)) (ap (λ o. request_entry o client seq op) own_holding ∙ sym entry)
-      (same_told request (world.history ++ entries_by move (holdings_in world)) (holdings_after move (holdings_in world)) (holdings_in after) as_moved
+      (same_reported request (world.history ++ entries_by move (holdings_in world)) (holdings_after move (holdings_in world)) (holdings_in after) as_moved
       (move_kept request world.history (holdings_in world) move quiet.recorded may)))
     where
       mine : option_map (with_request client seq op) (holdings_in world group.core.id) ≡ Some (with_request client seq op (holding_of group))
@@ -175,13 +175,13 @@ by_group request bases world quiet name c keeps asked None e = quiet
 by_group request bases world quiet name c keeps asked (Some group) e = quiet_after request bases world quiet name group e c keeps asked
 
 -- one quiet entry more
-pub quiet_told : (request : RequestOf) (bases : List Base) (world : StoreWorld) (entry : LogEntry) → IsQuietWorld request bases world → IsQuiet request entry → IsQuietWorld request bases (recorded world entry)
-quiet_told request bases world entry quiet fact = by_group request bases world quiet entry.group entry.command fact.whole fact.asked (named_group entry.group world.groups) refl
+pub quiet_recorded : (request : RequestOf) (bases : List Base) (world : StoreWorld) (entry : LogEntry) → IsQuietWorld request bases world → IsQuiet request entry → IsQuietWorld request bases (recorded world entry)
+quiet_recorded request bases world entry quiet fact = by_group request bases world quiet entry.group entry.command fact.whole fact.asked (named_group entry.group world.groups) refl
 
 -- all of them
 pub quiet_all : (request : RequestOf) (bases : List Base) (world : StoreWorld) (entries : List LogEntry) → IsQuietWorld request bases world → Each (IsQuiet request) entries → IsQuietWorld request bases (world_after world entries)
 quiet_all request bases world [] quiet each = quiet
-quiet_all request bases world (entry ∷ entries) quiet each = quiet_all request bases (recorded world entry) entries (quiet_told request bases world entry quiet each.0) each.1
+quiet_all request bases world (entry ∷ entries) quiet each = quiet_all request bases (recorded world entry) entries (quiet_recorded request bases world entry quiet each.0) each.1
 
 -- ---- the history only grows
 

@@ -109,8 +109,8 @@ module _ (request : RequestOf) (history : List Entry) (holdings : Holdings) (rec
       ]
 
   -- the group that served it
-  served_told : IsReportedOf (history ++ new ∷ []) served
-  served_told = record {
+  served_reported : IsReportedOf (history ++ new ∷ []) served
+  served_reported = record {
     pairs = ap (after op) here.pairs
         ∙ sym (apart op map (holds_key holding.arc) ∙ cond-true (holds_key holding.arc (key_of op)) (after op (part_of holding.arc map)) (part_of holding.arc map) may.its)
         ∙ ap (part_of holding.arc) (sym (after_push empty history new));
@@ -119,8 +119,8 @@ module _ (request : RequestOf) (history : List Entry) (holdings : Holdings) (rec
   }
 
   -- any other group
-  other_told : (other : Holding) → holds_key other.arc (key_of op) ≡ false → IsReportedOf history other → IsReportedOf (history ++ new ∷ []) other
-  other_told other out old = record {
+  other_reported : (other : Holding) → holds_key other.arc (key_of op) ≡ false → IsReportedOf history other → IsReportedOf (history ++ new ∷ []) other
+  other_reported other out old = record {
     pairs = old.pairs
         ∙ sym (apart op map (holds_key other.arc) ∙ cond-false (holds_key other.arc (key_of op)) (after op (part_of other.arc map)) (part_of other.arc map) out)
         ∙ ap (part_of other.arc) (sym (after_push empty history new));
@@ -162,15 +162,15 @@ module _ (request : RequestOf) (history : List Entry) (holdings : Holdings) (rec
         (ap (λ a. holds a p) old.2 ∙ held) (ap (λ a. holds a p) older.2 ∙ held_too));
   }
 
-  changed_told : (name : Draw) (now : Holding) → changed name ≡ Some now → IsReportedOf (history ++ new ∷ []) now
-  changed_told name now fact = elim (draw_cases name group) [
+  changed_reported : (name : Draw) (now : Holding) → changed name ≡ Some now → IsReportedOf (history ++ new ∷ []) now
+  changed_reported name now fact = elim (draw_cases name group) [
     | inl e ↦ (
         let same : Some served ≡ Some now = sym mine_is ∙ sym (holding_here group mine holdings name e) ∙ fact in
         let it : served ≡ now = cc in
-        subst (IsReportedOf (history ++ new ∷ [])) it served_told)
+        subst (IsReportedOf (history ++ new ∷ [])) it served_reported)
     | inr ne ↦ (
         let was = sym (holding_there group mine holdings name ne) ∙ fact in
-        other_told now (not_held _ (λ held. ne (recorded.disjoint.only (pos_of (key_of op)) name group now holding was may.fact held may.its))) (recorded.recorded name now was))
+        other_reported now (not_held _ (λ held. ne (recorded.disjoint.only (pos_of (key_of op)) name group now holding was may.fact held may.its))) (recorded.recorded name now was))
   ]
 
   asked_now : (e : Entry) → Among e history ⊎ Among e (new ∷ []) → e.op ≡ request e.client e.seq
@@ -187,7 +187,7 @@ module _ (request : RequestOf) (history : List Entry) (holdings : Holdings) (rec
     };
     asked = λ e among. asked_now e (Among-either e history (new ∷ []) among);
     disjoint = changed_disjoint;
-    recorded = changed_told;
+    recorded = changed_reported;
   }
 
   pub served_kept : MatchesHoldings request (history ++ entries_by (ServedBy group client seq op) holdings) (holdings_after (ServedBy group client seq op) holdings)

@@ -5,7 +5,7 @@ use Rattle.sc_base.specs.Definitions.{before, from, holds}
 use Rattle.sc_base.specs.declared.names.Draw.{Draw}
 use Rattle.sc_words.specs.declared.ideal.Entry.{Entry}
 use Rattle.sc_law_entries.specs.history.HistoryDefinitions.{Holding, Holdings, AreDisjoint, IsReportedOf, IsBetween, MayDivide, CanFollow, CanGive, CanTake, part_before, part_from, with_next, with_previous, both_holdings}
-use Rattle.sc_law_entries.proofs.HistoryProofs.Holdings.{IsOnRing, before_arc, from_arc, parts_apart, before_told, from_told, joined_from, joined_arc, next_told, previous_told}
+use Rattle.sc_law_entries.proofs.HistoryProofs.Holdings.{IsOnRing, before_arc, from_arc, parts_apart, before_reported, from_reported, joined_from, joined_arc, next_reported, previous_reported}
 use Rattle.sc_law_entries.proofs.HistoryProofs.Disjoint.{HoldsAt, IsGood, SharesOut, owner}
 use Rattle.std.proofs.lemmas.Option.{none-some, same_Some}
 
@@ -37,8 +37,8 @@ module _ (history : List Entry) (holdings : Holdings) (disjoint : AreDisjoint ho
       let from_is = from_arc arc at good.0 may.fits may.cut in
       record {
         apart = λ e. none-some may.holding (sym may.free ∙ ap holdings (sym e) ∙ may.fact);
-        mine_good = good_is history _ (part_before at may.holding) mine before_is.0 (before_told history may.holding at good.0 may.fits may.cut good.1);
-        theirs_good = good_is history _ (part_from at may.holding) theirs from_is.0 (from_told history may.holding at good.0 may.fits may.cut good.1);
+        mine_good = good_is history _ (part_before at may.holding) mine before_is.0 (before_reported history may.holding at good.0 may.fits may.cut good.1);
+        theirs_good = good_is history _ (part_from at may.holding) theirs from_is.0 (from_reported history may.holding at good.0 may.fits may.cut good.1);
         mine_from = λ p h. inl (record { holding = may.holding; fact = may.fact; at = before_is.1 p (at_is _ (part_before at may.holding) p mine h) });
         theirs_from = λ p h. inl (record { holding = may.holding; fact = may.fact; at = from_is.1 p (at_is _ (part_from at may.holding) p theirs h) });
         disjoint = λ p h k. parts_apart arc at good.0 may.fits may.cut p (at_is _ (part_before at may.holding) p mine h) (at_is _ (part_from at may.holding) p theirs k);
@@ -59,7 +59,7 @@ module _ (history : List Entry) (holdings : Holdings) (disjoint : AreDisjoint ho
       record {
         apart = may.apart;
         mine_good = good_is history _ (with_next may.holding may.other) mine (joined_arc may.holding.arc may.other.arc good.0 well.0 may.fits)
-            (next_told history may.holding may.other good.0 well.0 may.fits good.1 well.1);
+            (next_reported history may.holding may.other good.0 well.0 may.fits good.1 well.1);
         theirs_good = λ holding e. absurd (none-some holding e);
         mine_from = λ p h. from_either group next may.holding may.other p may.fact may.next_is
             (joined_from may.holding.arc may.other.arc good.0 well.0 may.fits p (at_is _ (with_next may.holding may.other) p mine h));
@@ -97,9 +97,9 @@ module _ (history : List Entry) (holdings : Holdings) (disjoint : AreDisjoint ho
       λ p h. joined_from (from arc at) may.other.arc from_is.0 well.0 meet p (at_is _ whole p theirs h) in
       record {
         apart = may.apart;
-        mine_good = good_is history _ (part_before at may.holding) mine before_is.0 (before_told history may.holding at good.0 fits cut good.1);
+        mine_good = good_is history _ (part_before at may.holding) mine before_is.0 (before_reported history may.holding at good.0 fits cut good.1);
         theirs_good = good_is history _ whole theirs (joined_arc (from arc at) may.other.arc from_is.0 well.0 meet)
-            (previous_told history may.other rest well.0 from_is.0 meet well.1 (from_told history may.holding at good.0 fits cut good.1));
+            (previous_reported history may.other rest well.0 from_is.0 meet well.1 (from_reported history may.holding at good.0 fits cut good.1));
         mine_from = λ p h. inl (record { holding = may.holding; fact = may.fact; at = before_is.1 p (at_is _ (part_before at may.holding) p mine h) });
         theirs_from = λ p h. neither_held (in_whole p h)
             (λ k. inl (record { holding = may.holding; fact = may.fact; at = from_is.1 p k }))
@@ -131,8 +131,8 @@ module _ (history : List Entry) (holdings : Holdings) (disjoint : AreDisjoint ho
       record {
         apart = may.apart;
         mine_good = good_is history _ whole mine (joined_arc may.holding.arc (before arc at) good.0 before_is.0 meet)
-            (next_told history may.holding part good.0 before_is.0 meet good.1 (before_told history may.other at well.0 fits cut well.1));
-        theirs_good = good_is history _ (part_from at may.other) theirs from_is.0 (from_told history may.other at well.0 fits cut well.1);
+            (next_reported history may.holding part good.0 before_is.0 meet good.1 (before_reported history may.other at well.0 fits cut well.1));
+        theirs_good = good_is history _ (part_from at may.other) theirs from_is.0 (from_reported history may.other at well.0 fits cut well.1);
         mine_from = λ p h. neither_held (in_whole p h)
             (λ k. inl (record { holding = may.holding; fact = may.fact; at = k }))
             (λ k. inr (record { holding = may.other; fact = may.next_is; at = before_is.1 p k }));

@@ -36,7 +36,7 @@ after_push contents [] e = refl
 after_push contents (x ∷ xs) e = after_push (after x.op contents) xs e
 
 -- what the log makes of the store, with the other form of its entries being apart
-pub record IsTold (entries : List Entry) (group : Group) : Type 0 where
+pub record StoreFacts (entries : List Entry) (group : Group) : Type 0 where
   pub replay : HasStoreReplies empty entries
   pub apart : IsApart entries
   pub pairs : contents_after empty entries ≡ group.pairs
@@ -49,15 +49,15 @@ entry_later entries more client seq reply h =
 
 -- what comes of a request: the group, and its effect
 record IsGood (entries : List Entry) (client seq : ℕ) (op : Op) (x : Group × Effect) : Type 0 where
-  recorded : IsTold (entries ++ entry_by client seq op x.1) x.0
+  recorded : StoreFacts (entries ++ entry_by client seq op x.1) x.0
   replies : (reply : Reply) → IsReplied x.1 reply → HasEntry (entries ++ entry_by client seq op x.1) client seq reply
 
-module _ (entries : List Entry) (group : Group) (client seq : ℕ) (op : Op) (recorded : IsTold entries group) where
+module _ (entries : List Entry) (group : Group) (client seq : ℕ) (op : Op) (recorded : StoreFacts entries group) where
   nothing : (effect : Effect) → entry_by client seq op effect ≡ [] → ((reply : Reply) → IsReplied effect reply → HasEntry entries client seq reply) → IsGood entries client seq op (group, effect)
   nothing effect none replies =
       let same : entries ≡ entries ++ entry_by client seq op effect = sym (append-nil entries) ∙ ap (λ es. entries ++ es) (sym none) in
       record {
-        recorded = subst (λ es. IsTold es group) same recorded;
+        recorded = subst (λ es. StoreFacts es group) same recorded;
         replies = λ reply e. subst (λ es. HasEntry es client seq reply) same (replies reply e);
       }
 
@@ -159,7 +159,7 @@ module _ (entries : List Entry) (group : Group) (client seq : ℕ) (op : Op) (re
 
 -- ---- a log
 
-of_same : (entries : List Entry) (group other : Group) → other.pairs ≡ group.pairs → other.clients ≡ group.clients → IsTold entries group → IsTold entries other
+of_same : (entries : List Entry) (group other : Group) → other.pairs ≡ group.pairs → other.clients ≡ group.clients → StoreFacts entries group → StoreFacts entries other
 of_same entries group other pairs clients recorded = record {
   replay = recorded.replay;
   apart = recorded.apart;
@@ -168,29 +168,29 @@ of_same entries group other pairs clients recorded = record {
   latest = λ entry a. (let k = recorded.latest entry a in record { noted = k.noted; found = ap (λ t. get t entry.client) clients ∙ k.found; most = k.most });
 }
 
-idle : (entries : List Entry) (group : Group) → IsTold entries group → IsTold (entries ++ []) group
-idle entries group recorded = subst (λ es. IsTold es group) (sym (append-nil entries)) recorded
+idle : (entries : List Entry) (group : Group) → StoreFacts entries group → StoreFacts (entries ++ []) group
+idle entries group recorded = subst (λ es. StoreFacts es group) (sym (append-nil entries)) recorded
 
 -- an order changes neither pairs nor client table
-one_more : (entries : List Entry) (group : Group) (c : Command) → LeavesWhole c → IsTold entries group → IsTold (entries ++ entry_of c (applied group c).1) (applied group c).0
+one_more : (entries : List Entry) (group : Group) (c : Command) → LeavesWhole c → StoreFacts entries group → StoreFacts (entries ++ entry_of c (applied group c).1) (applied group c).0
 one_more entries group (Call client seq op) keeps recorded = (by_lock entries group client seq op recorded group.core.gone group.core.lock).recorded
 one_more entries group (Join node order) keeps recorded =
-    ordered_either (IsTold (entries ++ [])) group.core.gone (refusal_of group.core (Join node order)) (with_node group node) group
+    ordered_either (StoreFacts (entries ++ [])) group.core.gone (refusal_of group.core (Join node order)) (with_node group node) group
     (idle entries (with_node group node) (of_same entries group (with_node group node) refl refl recorded)) (idle entries group recorded)
 one_more entries group (Leave node order) keeps recorded =
-    ordered_either (IsTold (entries ++ [])) group.core.gone (refusal_of group.core (Leave node order)) (without_node group node) group
+    ordered_either (StoreFacts (entries ++ [])) group.core.gone (refusal_of group.core (Leave node order)) (without_node group node) group
     (idle entries (without_node group node) (of_same entries group (without_node group node) refl refl recorded)) (idle entries group recorded)
 one_more entries group Noop keeps recorded = idle entries group recorded
 one_more entries group _ keeps recorded = absurd keeps
 
-recorded_next : (entries : List Entry) (group : Group) (log : List Command) → Each LeavesWhole log → IsTold entries group → IsTold (entries ++ done_by group log) (state_after group log)
+recorded_next : (entries : List Entry) (group : Group) (log : List Command) → Each LeavesWhole log → StoreFacts entries group → StoreFacts (entries ++ done_by group log) (state_after group log)
 recorded_next entries group [] keeps recorded = idle entries group recorded
 recorded_next entries group (c ∷ log) keeps recorded =
     let new = entry_of c (applied group c).1 in
-    subst (λ es. IsTold es (state_after group (c ∷ log))) (append_assoc entries new (done_by (applied group c).0 log))
+    subst (λ es. StoreFacts es (state_after group (c ∷ log))) (append_assoc entries new (done_by (applied group c).0 log))
     (recorded_next (entries ++ new) (applied group c).0 log keeps.1 (one_more entries group c keeps.0 recorded))
 
-at_start : (group : Group) → HoldsNothing group → IsTold [] group
+at_start : (group : Group) → HoldsNothing group → StoreFacts [] group
 at_start group none = record {
   replay = tt;
   apart = tt;

@@ -38,7 +38,7 @@ pub record IsBorn (bases : List Base) (entries : List LogEntry) (base : Base) (l
   pub log_is : log_in base.core.id rest ≡ log
 
 -- what holds of a journal
-pub record Told (sources : Sources) (ahead : Ahead) (bases : List Base) (rows : Rows) : Type 0 where
+pub record JournalFacts (sources : Sources) (ahead : Ahead) (bases : List Base) (rows : Rows) : Type 0 where
   -- the groups that are found are found soon, under names of their own
   pub near : AreNear ahead bases rows
   pub one : AreOne ahead bases rows
@@ -74,7 +74,7 @@ module _ (sources : Sources) (ahead : Ahead) (bases : List Base) (start : BeginI
   first_found zero base a = a
   first_found (suc depth) base (parent, d, child) = absurd child
 
-  pub first_rows : Told sources ahead bases []
+  pub first_rows : JournalFacts sources ahead bases []
   first_rows = record {
     near = λ base (depth, d). (0, omega arith, first_found depth base d);
     one = λ one other (k, d) (l, e) same. pairwise_one bases two_names one other (first_found k one d) (first_found l other e) same;
@@ -93,7 +93,7 @@ module _ (sources : Sources) (ahead : Ahead) (bases : List Base) (start : BeginI
         (base, (0, a), ap (λ (x : Group). x.core.id) fact ∙ found_name name (map group_of bases) it e));
   }
 
-  module _ (before : Rows) (k : Told sources ahead bases before) where
+  module _ (before : Rows) (k : JournalFacts sources ahead bases before) where
     abbrev pub old : List LogEntry
     old = entries_at ahead bases before
 

@@ -19,7 +19,7 @@ use Rattle.sc_law_entries.proofs.LogsProofs.OneGroup.{for_one}
 use Rattle.sc_law_entries.proofs.LogsProofs.ChildrenInLogs.{children_append, log_append, log_of_others}
 use Rattle.sc_law_entries.proofs.LogsProofs.Generations.{FoundInTurn, group_found, found_group, known_by_name, no_birth_at, no_log_at, no_state_at, birth_found}
 use Rattle.sc_law_entries.proofs.LogsProofs.BirthsInLogs.{none_there}
-use Rattle.sc_law_entries.proofs.LogsProofs.FactsInTurn.{Told, first_rows, state_there}
+use Rattle.sc_law_entries.proofs.LogsProofs.FactsInTurn.{JournalFacts, first_rows, state_there}
 use Rattle.sc_law_entries.proofs.LogsProofs.Pushes.{found_next, new_name, push_told}
 use Rattle.sc_law_entries.proofs.RingProofs.RingLemmas.{some_none}
 
@@ -27,7 +27,7 @@ use Rattle.sc_law_entries.proofs.RingProofs.RingLemmas.{some_none}
 
 module _ (sources : Sources) (ahead : Ahead) (bases : List Base) (start : BeginInPlace sources bases) where
   -- a row that decides in turn does so for what is found
-  pub found_turn : (before : Rows) → Told sources ahead bases before → (row : Row Mail OrderLine) → DecidesInTurn sources ahead bases before row → FoundInTurn sources ahead bases before row
+  pub found_turn : (before : Rows) → JournalFacts sources ahead bases before → (row : Row Mail OrderLine) → DecidesInTurn sources ahead bases before row → FoundInTurn sources ahead bases before row
   found_turn before k row turn =
       let one = for_one ahead before row in
       let there = found_group ahead bases before k.one k.near in
@@ -39,19 +39,19 @@ module _ (sources : Sources) (ahead : Ahead) (bases : List Base) (start : BeginI
         unheard = λ base f. turn.unheard base (there base f);
       }
 
-  pub push_turn : (before : Rows) → Told sources ahead bases before → (row : Row Mail OrderLine) → DecidesInTurn sources ahead bases before row → Told sources ahead bases (before ++ row ∷ [])
+  pub push_turn : (before : Rows) → JournalFacts sources ahead bases before → (row : Row Mail OrderLine) → DecidesInTurn sources ahead bases before row → JournalFacts sources ahead bases (before ++ row ∷ [])
   push_turn before k row turn = push_told sources ahead bases start before k row (found_turn before k row turn)
 
-  recorded_next : (before rows : Rows) → Told sources ahead bases before → DecideInTurn sources ahead bases before rows → Told sources ahead bases (before ++ rows)
-  recorded_next before [] k h = subst (Told sources ahead bases) (sym (append-nil before)) k
+  recorded_next : (before rows : Rows) → JournalFacts sources ahead bases before → DecideInTurn sources ahead bases before rows → JournalFacts sources ahead bases (before ++ rows)
+  recorded_next before [] k h = subst (JournalFacts sources ahead bases) (sym (append-nil before)) k
   recorded_next before (row ∷ rows) k h =
-      subst (Told sources ahead bases) (append_assoc before (row ∷ []) rows)
+      subst (JournalFacts sources ahead bases) (append_assoc before (row ∷ []) rows)
       (recorded_next (before ++ row ∷ []) rows (push_turn before k row h.0) h.1)
 
-  pub deciding_rows : (rows : Rows) → DecideInTurn sources ahead bases [] rows → Told sources ahead bases rows
+  pub deciding_rows : (rows : Rows) → DecideInTurn sources ahead bases [] rows → JournalFacts sources ahead bases rows
   deciding_rows rows h = recorded_next [] rows (first_rows sources ahead bases start) h
 
-  module _ (rows : Rows) (k : Told sources ahead bases rows) where
+  module _ (rows : Rows) (k : JournalFacts sources ahead bases rows) where
     pub are_found : AreFound ahead bases rows
     are_found = record {
       first = λ base a. found_group ahead bases rows k.one k.near base (0, a);

@@ -15,7 +15,7 @@ use Rattle.sc_meaning.specs.entries.EntryDefinitions.{StoreWorld}
 use Rattle.sc_law_entries.specs.ring.RingDefinitions.{Sources, BeginInPlace}
 use Rattle.sc_law_entries.specs.logs.LogDefinitions.{Rows, IsFound, added_by, DecidesInTurn, DecideInTurn, HistoryIsDecided, DecidingRowsStay}
 use Rattle.sc_law_entries.proofs.LogsProofs.Generations.{log_on, still_descends, group_found, found_group, known_by_name}
-use Rattle.sc_law_entries.proofs.LogsProofs.FactsInTurn.{Told, first_rows, Decides}
+use Rattle.sc_law_entries.proofs.LogsProofs.FactsInTurn.{JournalFacts, first_rows, Decides}
 use Rattle.sc_law_entries.proofs.LogsProofs.Pushes.{d, world_next}
 use Rattle.sc_law_entries.proofs.LogsProofs.RowsInTwoParts.{in_turn_parts, entries_parts, told_stays, get_prefix, get_behind}
 use Rattle.sc_law_entries.proofs.LogsProofs.Findings.{found_turn, push_turn, deciding_rows}
@@ -23,19 +23,19 @@ use Rattle.sc_law_entries.proofs.LogsProofs.Findings.{found_turn, push_turn, dec
 -- ---- with more rows
 
 module _ (sources : Sources) (ahead : Ahead) (bases : List Base) (start : BeginInPlace sources bases) where
-  decided : (before : Rows) (k : Told sources ahead bases before) (row : Row Mail OrderLine) (turn : DecidesInTurn sources ahead bases before row) → Decides sources ahead bases start before k row (found_turn sources ahead bases start before k row turn)
+  decided : (before : Rows) (k : JournalFacts sources ahead bases before) (row : Row Mail OrderLine) (turn : DecidesInTurn sources ahead bases before row) → Decides sources ahead bases start before k row (found_turn sources ahead bases start before k row turn)
   decided before k row turn = d sources ahead bases start before k row (found_turn sources ahead bases start before k row turn)
 
-  still : (before : Rows) → Told sources ahead bases before → (row : Row Mail OrderLine) → DecidesInTurn sources ahead bases before row → (base : Base) → IsFound ahead bases before base → IsFound ahead bases (before ++ row ∷ []) base
+  still : (before : Rows) → JournalFacts sources ahead bases before → (row : Row Mail OrderLine) → DecidesInTurn sources ahead bases before row → (base : Base) → IsFound ahead bases before base → IsFound ahead bases (before ++ row ∷ []) base
   still before k row turn base f = (f.0, still_descends sources ahead bases before row (found_turn sources ahead bases start before k row turn) f.0 base f.1)
 
-  found_later : (before more : Rows) → Told sources ahead bases before → DecideInTurn sources ahead bases before more → (base : Base) → IsFound ahead bases before base → IsFound ahead bases (before ++ more) base
+  found_later : (before more : Rows) → JournalFacts sources ahead bases before → DecideInTurn sources ahead bases before more → (base : Base) → IsFound ahead bases before base → IsFound ahead bases (before ++ more) base
   found_later before [] k h base f = subst (λ b. IsFound ahead bases b base) (sym (append-nil before)) f
   found_later before (row ∷ more) k h base f =
       subst (λ b. IsFound ahead bases b base) (append_assoc before (row ∷ []) more)
       (found_later (before ++ row ∷ []) more (push_turn sources ahead bases start before k row h.0) h.1 base (still before k row h.0 base f))
 
-  log_later : (before more : Rows) → Told sources ahead bases before → DecideInTurn sources ahead bases before more → (base : Base) → IsFound ahead bases before base → Continues (decided_log ahead base before) (decided_log ahead base (before ++ more))
+  log_later : (before more : Rows) → JournalFacts sources ahead bases before → DecideInTurn sources ahead bases before more → (base : Base) → IsFound ahead bases before base → Continues (decided_log ahead base before) (decided_log ahead base (before ++ more))
   log_later before [] k h base f = ([], ap (decided_log ahead base) (append-nil before) ∙ sym (append-nil (decided_log ahead base before)))
   log_later before (row ∷ more) k h base f =
       let now = added_by ahead before row base in
@@ -47,12 +47,12 @@ module _ (sources : Sources) (ahead : Ahead) (bases : List Base) (start : BeginI
       )
 
   -- the history with one more row
-  history_on : (before : Rows) (k : Told sources ahead bases before) (row : Row Mail OrderLine) (turn : DecidesInTurn sources ahead bases before row)
+  history_on : (before : Rows) (k : JournalFacts sources ahead bases before) (row : Row Mail OrderLine) (turn : DecidesInTurn sources ahead bases before row)
       → history_at ahead bases (before ++ row ∷ []) ≡ history_at ahead bases before ++ (decided before k row turn).news
   unfolding decided
   history_on before k row turn = ap (λ (w : StoreWorld). w.history) (world_next sources ahead bases start before k row (found_turn sources ahead bases start before k row turn)) ∙ (decided before k row turn).history
 
-  history_later : (before more : Rows) → Told sources ahead bases before → DecideInTurn sources ahead bases before more → (later : List Entry) × (history_at ahead bases (before ++ more) ≡ history_at ahead bases before ++ later)
+  history_later : (before more : Rows) → JournalFacts sources ahead bases before → DecideInTurn sources ahead bases before more → (later : List Entry) × (history_at ahead bases (before ++ more) ≡ history_at ahead bases before ++ later)
   history_later before [] k h = ([], ap (history_at ahead bases) (append-nil before) ∙ sym (append-nil (history_at ahead bases before)))
   history_later before (row ∷ more) k h =
       let now = (decided before k row h.0).news in
@@ -78,7 +78,7 @@ module _ (sources : Sources) (ahead : Ahead) (bases : List Base) (start : BeginI
     stands : Among base (groups_at ahead bases prefix)
     call : Among (Call entry.client entry.seq entry.op) (added_by ahead prefix row base)
 
-  told_now : (before rows : Rows) (row : Row Mail OrderLine) → (k : Told sources ahead bases before) → (turn : DecidesInTurn sources ahead bases before row) → DecideInTurn sources ahead bases (before ++ row ∷ []) rows
+  told_now : (before rows : Rows) (row : Row Mail OrderLine) → (k : JournalFacts sources ahead bases before) → (turn : DecidesInTurn sources ahead bases before row) → DecideInTurn sources ahead bases (before ++ row ∷ []) rows
       → (place : ℕ) (entry : Entry) → length (history_at ahead bases before) ≤ place → place < length (history_at ahead bases (before ++ row ∷ [])) → slice_get (history_at ahead bases (before ++ row ∷ rows)) place ≡ Some entry
       → IsRecordedFrom before (row ∷ rows) place entry
   told_now before rows row k turn h place entry le lt at =
@@ -103,7 +103,7 @@ module _ (sources : Sources) (ahead : Ahead) (bases : List Base) (start : BeginI
         call = call;
       }
 
-  told_place : (before rows : Rows) → Told sources ahead bases before → DecideInTurn sources ahead bases before rows
+  told_place : (before rows : Rows) → JournalFacts sources ahead bases before → DecideInTurn sources ahead bases before rows
       → (place : ℕ) (entry : Entry) → length (history_at ahead bases before) ≤ place → slice_get (history_at ahead bases (before ++ rows)) place ≡ Some entry → IsRecordedFrom before rows place entry
   told_place before [] k h place entry le at =
       let inside = slice_get_within (history_at ahead bases before) place entry (subst (λ b. slice_get (history_at ahead bases b) place ≡ Some entry) (append-nil before) at) in

@@ -5,7 +5,7 @@ pub use Rattle.sc_law_entries.proofs.LogsProofs.ChildrenInLogs.{log_append}
 pub use Rattle.sc_law_entries.proofs.LogsProofs.Generations.{group_found}
 pub use Rattle.sc_law_entries.proofs.LogsProofs.BirthsInLogs.{recorded_append, stays_there, BornBy, born_by}
 pub use Rattle.sc_law_entries.proofs.LogsProofs.AllowedOneByOne.{all_allowed}
-pub use Rattle.sc_law_entries.proofs.LogsProofs.FactsInTurn.{state_there, Told, IsBorn}
+pub use Rattle.sc_law_entries.proofs.LogsProofs.FactsInTurn.{state_there, JournalFacts, IsBorn}
 pub use Rattle.sc_law_entries.proofs.LogsProofs.RowsInTwoParts.{in_turn_parts, rows_go_on}
 pub use Rattle.sc_law_entries.proofs.LogsProofs.Findings.{groups_are_found as groups_are_born_under_new_names_found, entries_are_logs as entries_are_allowed_logs_logs, deciding_rows, groups_are_found, groups_are_old_or_new, entries_make_one_map}
 pub use Rattle.sc_law_entries.proofs.LogsProofs.Histories.{deciding_rows_stay}

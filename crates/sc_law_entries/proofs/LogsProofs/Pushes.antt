@@ -21,9 +21,9 @@ use Rattle.sc_law_entries.specs.logs.LogDefinitions.{Rows, IsFound, added_by}
 use Rattle.sc_law_entries.proofs.LogsProofs.BirthRecords.{flat_map_none, flat_map_one}
 use Rattle.sc_law_entries.proofs.LogsProofs.ChildrenInLogs.{log_append, log_of_others, log_of_own, entries_of}
 use Rattle.sc_law_entries.proofs.LogsProofs.Generations.{FoundInTurn, AreOne, AreNear, log_on, still_descends, IsNamedNow, now_descends, old_or_new, near_on, group_found, groups_apart, found_group, known_by_name, no_birth_at, no_log_at}
-use Rattle.sc_law_entries.proofs.LogsProofs.FactsInTurn.{IsBorn, Told, two_names, state_there, Decides, others_idle, decides}
+use Rattle.sc_law_entries.proofs.LogsProofs.FactsInTurn.{IsBorn, JournalFacts, two_names, state_there, Decides, others_idle, decides}
 
-module _ (sources : Sources) (ahead : Ahead) (bases : List Base) (start : BeginInPlace sources bases) (before : Rows) (k : Told sources ahead bases before) (row : Row Mail OrderLine) (turn : FoundInTurn sources ahead bases before row) where
+module _ (sources : Sources) (ahead : Ahead) (bases : List Base) (start : BeginInPlace sources bases) (before : Rows) (k : JournalFacts sources ahead bases before) (row : Row Mail OrderLine) (turn : FoundInTurn sources ahead bases before row) where
   abbrev next : Rows
   next = before ++ row ∷ []
 
@@ -195,5 +195,5 @@ module _ (sources : Sources) (ahead : Ahead) (bases : List Base) (start : BeginI
     | inr (child, n, same) ↦ (child, now_found child n, same)
   ]
 
-  pub push_told : Told sources ahead bases next
+  pub push_told : JournalFacts sources ahead bases next
   push_told = record { near = near_next; one = one_next; allowed = allowed_next; born = born_next; only = only_next; who = who_next }

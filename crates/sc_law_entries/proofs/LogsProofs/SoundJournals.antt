@@ -58,11 +58,11 @@ module _ (law : AllowedEntriesMakeOneMap) (sources : Sources) (ahead : Ahead) (s
 
   -- ---- requests
 
-  told_at : (place : ℕ) (entry : Entry) → slice_get recorded place ≡ Some entry → IsDecidedAt ahead bases rows place entry
-  told_at place entry at = history_is_decided sources ahead bases start rows turn place entry at
+  reported_at : (place : ℕ) (entry : Entry) → slice_get recorded place ≡ Some entry → IsDecidedAt ahead bases rows place entry
+  reported_at place entry at = history_is_decided sources ahead bases start rows turn place entry at
 
-  issued_at : (place : ℕ) (entry : Entry) (at : slice_get recorded place ≡ Some entry) → IsIssuedIn scenario (told_at place entry at).before entry.client entry.seq entry.op
-  issued_at place entry at = let t = told_at place entry at in beside.issued t.before t.row t.later t.are t.base t.stands entry.client entry.seq entry.op t.call
+  issued_at : (place : ℕ) (entry : Entry) (at : slice_get recorded place ≡ Some entry) → IsIssuedIn scenario (reported_at place entry at).before entry.client entry.seq entry.op
+  issued_at place entry at = let t = reported_at place entry at in beside.issued t.before t.row t.later t.are t.base t.stands entry.client entry.seq entry.op t.call
 
   request_of : (entry : Entry) → Among entry recorded → IsRequest scenario entry
   request_of entry a =
@@ -130,7 +130,7 @@ module _ (law : AllowedEntriesMakeOneMap) (sources : Sources) (ahead : Ahead) (s
 
   timely : (place : ℕ) (entry : Entry) → slice_get recorded place ≡ Some entry → IsTimely ahead scenario rows place entry
   timely place entry at =
-      let t = told_at place entry at in
+      let t = reported_at place entry at in
       let i = issued_at place entry at in
       let within = issue_within entry.client entry.seq t.before i.issued i.is_issued in
       record {

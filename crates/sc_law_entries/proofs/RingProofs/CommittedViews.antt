@@ -62,8 +62,8 @@ ring_out (Some (Migrated node)) ring g p = ring
 ring_out (Some Divided) ring g p = ring
 
 -- the ring after an entry of a group
-abbrev pub ring_told : Core → Command → Effect → Ring → Ring
-ring_told core command effect ring =
+abbrev pub ring_reported : Core → Command → Effect → Ring → Ring
+ring_reported core command effect ring =
     ring_cut (division_of core command effect) (ring_out (decided_by command effect) ring core.id core.succ.group) core.id
 
 -- two changes at two places come in either order

@@ -37,7 +37,7 @@ use Rattle.sc_law_entries.proofs.RingProofs.CommittedViews.{ring_cut, ring_out, 
 use Rattle.sc_law_entries.proofs.RingProofs.Reshapes.{Ends, merge_closing, merge_watched}
 use Rattle.sc_law_entries.proofs.RingProofs.Moves.{cut_is, give_commit, take_commit, migrate_commit}
 use Rattle.sc_law_entries.proofs.RingProofs.Splits.{divide_commit}
-use Rattle.sc_law_entries.proofs.RingProofs.RequestsAndOrders.{Kept, idle_told, told_at}
+use Rattle.sc_law_entries.proofs.RingProofs.RequestsAndOrders.{Kept, idle_reported, reported_at}
 use Rattle.sc_law_entries.proofs.RingProofs.VotesOfParties.{outcome_like}
 use Rattle.sc_law_entries.proofs.RingProofs.Finds.{some_none}
 use Rattle.sc_law_entries.proofs.RingProofs.Facts.{StayBorn}
@@ -108,12 +108,12 @@ module _ (owner : Draw → Option Draw) (ring : Ring) (gs : Groups) (ys : Storie
   Lands tx vote r = Kept owner (ring_out (decided_in r.1) ring s.core.id s.core.succ.group) (put gs g (Some r.0)) (with_story ys tx (with_answer s.core vote r.1))
 
   lands_idle : (tx : Draw) (vote : Vote) → Lands tx vote (s, Was.NoEffect tx)
-  lands_idle tx vote = idle_told owner ring gs ys g s tx (with_answer s.core vote (Was.NoEffect tx)) (λ y. refl) k fact
+  lands_idle tx vote = idle_reported owner ring gs ys g s tx (with_answer s.core vote (Was.NoEffect tx)) (λ y. refl) k fact
 
   lands_decided : (tx : Draw) (vote : Vote) (y : Story) (o : Outcome) (b : Group) → ys tx ≡ Some y
       → Facts owner (put gs g (Some b)) (put ys tx (Some (Ends y o))) → Good (ring_out (Some o) ring g s.core.succ.group) (New gs ys g b tx (Ends y o)) → Lands tx vote (b, Was.Decided o)
   lands_decided tx vote y o b there facts good =
-      subst (λ z. Kept owner (ring_out (Some o) ring s.core.id s.core.succ.group) (put gs g (Some b)) z) (sym (told_at ys tx (λ z. Ends z o) y there))
+      subst (λ z. Kept owner (ring_out (Some o) ring s.core.id s.core.succ.group) (put gs g (Some b)) z) (sym (reported_at ys tx (λ z. Ends z o) y there))
       (facts, subst (λ n. Good (ring_out (Some o) ring n s.core.succ.group) (New gs ys g b tx (Ends y o))) (sym named) good)
 
   gives_kept : (tx : Draw) (at : ℕ) (f : Frozen) → (o : IsMineOpen owner gs ys g s tx (At.Repart at) None) → o.story.vote ≡ Some (Ballot.Yes f) → holds s.core.arc at ≡ true → can_repart s.core at f ≡ true
@@ -153,7 +153,7 @@ module _ (owner : Draw → Option Draw) (ring : Ring) (gs : Groups) (ys : Storie
       let s' = heard_group s tx At.Merge d.order h in
       let y' : Story = record y { watch = merge_watch s.core (Some h) } in
       let ys' = put ys tx (Some y') in
-      subst (λ z. Kept owner ring (put gs g (Some s')) z) (sym (told_at ys tx (with_answer s.core (Ballot.Yes f) Was.Changed) y d.there)) (
+      subst (λ z. Kept owner ring (put gs g (Some s')) z) (sym (reported_at ys tx (with_answer s.core (Ballot.Yes f) Was.Changed) y d.there)) (
         hear_facts gs ys owner g s tx d.order y h k.0 fact d.lock d.there vote (λ q. names_differ f.succ.group s.core.id e (q ∙ sym named)),
         whole_change ring gs ys ys' g s s' fact (outcome_like ys tx y y' d.there refl)
             (let a = eff_by (decisions ys) s (Coordinating tx At.Merge d.order None) d.lock ∙ living_is s own.here in
@@ -208,14 +208,14 @@ module _ (owner : Draw → Option Draw) (ring : Ring) (gs : Groups) (ys : Storie
 
   pub give_up_kept : (tx : Draw) (l : Lock) → s.core.lock ≡ l
       → (let r = cond (is_coordinating l tx) (aborted s tx) (s, Was.NoEffect tx) in Kept owner ring (put gs g (Some r.0)) (with_story ys tx (with_decision (decided_in r.1))))
-  give_up_kept tx Free e = idle_told owner ring gs ys g s tx (with_decision None) (λ y. refl) k fact
+  give_up_kept tx Free e = idle_reported owner ring gs ys g s tx (with_decision None) (λ y. refl) k fact
   give_up_kept tx (Coordinating t body order heard) e =
       cond_both (same_draw t tx) _ _ (λ (r : Group × Effect). Kept owner ring (put gs g (Some r.0)) (with_story ys tx (with_decision (decided_in r.1))))
       (λ q. (let o = mine_open tx body order heard (same_lock s.core.lock t tx body order heard e q) in
-      subst (λ z. Kept owner ring (put gs g (Some (decided_group s tx Abort))) z) (sym (told_at ys tx (with_decision (Some Abort)) o.story o.deciding.there)) (abort_kept tx body heard o)))
-      (λ q. idle_told owner ring gs ys g s tx (with_decision None) (λ y. refl) k fact)
-  give_up_kept tx (Promised t offer) e = idle_told owner ring gs ys g s tx (with_decision None) (λ y. refl) k fact
-  give_up_kept tx (Watching t watch) e = idle_told owner ring gs ys g s tx (with_decision None) (λ y. refl) k fact
+      subst (λ z. Kept owner ring (put gs g (Some (decided_group s tx Abort))) z) (sym (reported_at ys tx (with_decision (Some Abort)) o.story o.deciding.there)) (abort_kept tx body heard o)))
+      (λ q. idle_reported owner ring gs ys g s tx (with_decision None) (λ y. refl) k fact)
+  give_up_kept tx (Promised t offer) e = idle_reported owner ring gs ys g s tx (with_decision None) (λ y. refl) k fact
+  give_up_kept tx (Watching t watch) e = idle_reported owner ring gs ys g s tx (with_decision None) (λ y. refl) k fact
 
   -- ---- the watcher's vote is recorded
 
@@ -223,11 +223,11 @@ module _ (owner : Draw → Option Draw) (ring : Ring) (gs : Groups) (ys : Storie
   WLands tx r = Kept owner (ring_cut (watch_division s r.1) (ring_out (decided_in r.1) ring s.core.id s.core.succ.group) s.core.id) (born_too s (put gs g (Some r.0)) (watch_division s r.1)) (with_story ys tx (with_decision (decided_in r.1)))
 
   w_idle : (tx : Draw) → WLands tx (s, Was.NoEffect tx)
-  w_idle tx = idle_told owner ring gs ys g s tx (with_decision None) (λ y. refl) k fact
+  w_idle tx = idle_reported owner ring gs ys g s tx (with_decision None) (λ y. refl) k fact
 
   w_abort : (tx : Draw) (body : Body) (heard : Option Heard) → (o : IsMineOpen owner gs ys g s tx body heard) → WLands tx (aborted s tx)
   w_abort tx body heard o =
-      subst (λ z. Kept owner ring (put gs g (Some (decided_group s tx Abort))) z) (sym (told_at ys tx (with_decision (Some Abort)) o.story o.deciding.there)) (abort_kept tx body heard o)
+      subst (λ z. Kept owner ring (put gs g (Some (decided_group s tx Abort))) z) (sym (reported_at ys tx (with_decision (Some Abort)) o.story o.deciding.there)) (abort_kept tx body heard o)
 
   divide_kept : (tx : Draw) (at : ℕ) (heard : Option Heard) → (o : IsMineOpen owner gs ys g s tx (At.Split at tx) heard) → o.story.watch_vote ≡ Some Cast.Yes → can_split s.core at ≡ true → WLands tx (decided (left_group s at tx) tx Divided)
   divide_kept tx at heard o passed c =
@@ -244,7 +244,7 @@ module _ (owner : Draw → Option Draw) (ring : Ring) (gs : Groups) (ys : Storie
       let cut = cut_is s.core.arc at (and_parts (can_cut s.core.arc at) (nat_le 2 (length s.core.members)) c).0 in
       let mine : (r : Option Division) → r ≡ Some div → Kept owner (ring_cut (Some div) ring g) (put (put gs g (Some s')) tx (Some child)) ys' → Kept owner (ring_cut r ring s.core.id) (born_too s (put gs g (Some s')) r) ys' =
       λ r e z. subst (λ q. Kept owner (ring_cut q ring s.core.id) (born_too s (put gs g (Some s')) q) ys') (sym e) (subst (λ n. Kept owner (ring_cut (Some div) ring n) (put (put gs g (Some s')) tx (Some child)) ys') (sym named) z) in
-      subst (λ z. Kept owner (ring_cut (division_in s.core.lock) ring s.core.id) (born_too s (put gs g (Some s')) (division_in s.core.lock)) z) (sym (told_at ys tx (with_decision (Some Divided)) y d.there))
+      subst (λ z. Kept owner (ring_cut (division_in s.core.lock) ring s.core.id) (born_too s (put gs g (Some s')) (division_in s.core.lock)) z) (sym (reported_at ys tx (with_decision (Some Divided)) y d.there))
       (mine (division_in s.core.lock) lock (
         born_facts (put gs g (Some s')) ys' owner g tx s' child
             (decide_facts gs ys owner g s s' tx (At.Split at tx) d.order heard y Divided k.0 fact d.lock d.there
@@ -270,7 +270,7 @@ module _ (owner : Draw → Option Draw) (ring : Ring) (gs : Groups) (ys : Storie
       let v = o.heard_vote h refl in
       let out : Outcome = Merged (merged_route s.core h.frozen) in
       let b = decided_group (merged_group s h.frozen) tx out in
-      subst (λ z. Kept owner (ring_out (Some out) ring s.core.id s.core.succ.group) (put gs g (Some b)) z) (sym (told_at ys tx (with_decision (Some out)) y d.there)) (
+      subst (λ z. Kept owner (ring_out (Some out) ring s.core.id s.core.succ.group) (put gs g (Some b)) z) (sym (reported_at ys tx (with_decision (Some out)) y d.there)) (
         decide_facts gs ys owner g s b tx At.Merge d.order (Some h) y out k.0 fact d.lock d.there (decision_of s (merged_group s h.frozen) tx out refl refl refl (λ n q. q)) (λ na. (λ offer q. (h.frozen, v.0), λ w q. passed)),
         subst (λ n. Good (ring_out (Some out) ring n s.core.succ.group) (New gs ys g b tx (Ends y out))) (sym named) (merge_watched owner ring gs ys g s tx y h d v.0 passed v.1 named k.1),
       )

@@ -18,7 +18,7 @@ use Rattle.sc_group_table.specs.machine.MachineDefinitions.{Group, heard_group}
 use Rattle.sc_law_entries.specs.ring.RingDefinitions.{Story, Stories, put, merge_watch, unsigned_watch, Groups, has_decided, has_born, IsCoordinating, LockOk, IsEarned, Origin, Facts}
 use Rattle.sc_meaning.proofs.EntriesProofs.EntryLemmas.{draw_cases}
 use Rattle.sc_law_entries.proofs.RingProofs.Cover.{at-same, at-is, at-other, from_at}
-use Rattle.sc_law_entries.proofs.RingProofs.Facts.{IsOf, keep_known, keep_there, keep_voter, keep_watcher, keep_frozen, keep_none, facts_quiet, facts_told, StayBorn, StayVoted, SameDecided}
+use Rattle.sc_law_entries.proofs.RingProofs.Facts.{IsOf, keep_known, keep_there, keep_voter, keep_watcher, keep_frozen, keep_none, facts_quiet, facts_reported, StayBorn, StayVoted, SameDecided}
 use Rattle.sc_law_entries.proofs.RingProofs.EntryKinds.{other_calm, no_coord}
 use Rattle.sc_law_entries.proofs.RingProofs.Finds.{some_none}
 
@@ -49,7 +49,7 @@ hear_facts gs ys owner g s tx order y h f fact lock there vote foreign =
     let body : y.body ≡ At.Merge = sym (ap (λ (z : Story). z.body) y_is) ∙ own.same_body in
     let unasked : y.watch ≡ None = sym (ap (λ (z : Story). z.watch) y_is) ∙ own.watch in
     let undecided : y.outcome ≡ None = sym (ap (λ (z : Story). z.outcome) y_is) ∙ own.undecided in
-    facts_told gs ys owner g s s' tx y y' f fact there (λ n b. b)
+    facts_reported gs ys owner g s s' tx y y' f fact there (λ n b. b)
     (record {
       named = (f.group g s fact).named;
       lock_ok = record {
@@ -102,7 +102,7 @@ decide_facts gs ys owner g s s' tx body order heard y o f fact lock there d earn
     let own = own_story gs ys owner g s tx body order heard f fact lock in
     let y_is = same_Some own.story y (sym own.fact ∙ there) in
     let coord : y.coordinator ≡ g = sym (ap (λ (z : Story). z.coordinator) y_is) ∙ own.coordinator in
-    facts_told gs ys owner g s s' tx y y' f fact there d.born
+    facts_reported gs ys owner g s s' tx y y' f fact there d.born
     (record { named = d.id ∙ (f.group g s fact).named; lock_ok = subst (LockOk (put ys tx (Some y')) g s') (sym d.free) tt })
     (record { offer = refl; votes = λ a q. q; watch = λ w e. e; coordinator = λ n ne e. absurd (ne (sym e ∙ coord)) })
     (λ t ne. other_calm t tx s s' (is_of s.core.lock tx body order heard lock) ne (d.decided t) (d.voted t))

@@ -23,7 +23,7 @@ use Rattle.sc_law_entries.specs.ring.RingDefinitions.{Story, Stories, put, unsig
 use Rattle.sc_meaning.proofs.EntriesProofs.EntryLemmas.{draw_cases}
 use Rattle.sc_law_entries.proofs.RingProofs.Notes.{any_keeps, any_new, is_vote_on}
 use Rattle.sc_law_entries.proofs.RingProofs.Cover.{at-same, at-is, at-other, from_at}
-use Rattle.sc_law_entries.proofs.RingProofs.Facts.{same_frozen, IsOf, IsCalm, keep_known, keep_there, keep_voter, keep_watcher, keep_frozen, keep_agreed, keep_none, story_keep, IsGrown, group_new, facts_change, facts_quiet, facts_told, StayBorn, SameDecided}
+use Rattle.sc_law_entries.proofs.RingProofs.Facts.{same_frozen, IsOf, IsCalm, keep_known, keep_there, keep_voter, keep_watcher, keep_frozen, keep_agreed, keep_none, story_keep, IsGrown, group_new, facts_change, facts_quiet, facts_reported, StayBorn, SameDecided}
 use Rattle.sc_law_entries.proofs.RingProofs.Finds.{some_none}
 
 pub no_promise : (l : Lock) (tx : Draw) (offer : Offer) → l ≡ Free → l ≡ Promised tx offer → ⊥
@@ -180,7 +180,7 @@ yes_facts gs ys owner g s tx y offer f fact free here new there offered part =
     let k = f.story tx y there in
     let none = unheard gs owner tx y offer s k offered (ap gs part ∙ fact) new y.vote refl in
     let at_part = at-is gs g (Some s') offer.part part in
-    facts_told gs ys owner g s s' tx y y' f fact there (λ h b. b)
+    facts_reported gs ys owner g s s' tx y y' f fact there (λ h b. b)
     (record { named = (f.group g s fact).named; lock_ok = record { story = y'; fact = at-same ys tx (Some y'); offered = offered; part = part; vote = refl; here = here } })
     (vote_grown g y (Ballot.Yes (frozen_of s)) none)
     (λ t ne. free_calm t s s' free (λ n. n) (voted_keeps s tx (Promised tx offer) Cast.Yes t))
@@ -282,7 +282,7 @@ no_facts gs ys owner g s tx y offer why f fact new there offered part =
     let none = unheard gs owner tx y offer s k offered (ap gs part ∙ fact) new y.vote refl in
     let at_part = at-is gs g (Some s') offer.part part in
     let ok = f.group g s fact in
-    facts_told gs ys owner g s s' tx y y' f fact there (λ h b. b)
+    facts_reported gs ys owner g s s' tx y y' f fact there (λ h b. b)
     (record { named = ok.named; lock_ok = lock_story ys g s s' tx y y' there (refl, refl, refl, refl, refl, refl) (λ h q. absurd (some_none (Ballot.Yes h) (sym q ∙ none))) (refl, refl, offer_votes s tx s.core.lock (Cast.No why), watch_votes s tx s.core.lock (Cast.No why), refl) s.core.lock ok.lock_ok })
     (vote_grown g y (Ballot.No why) none)
     (λ t ne. same_calm t s s' refl refl (λ n. n) (voted_keeps s tx s.core.lock (Cast.No why) t))
@@ -315,7 +315,7 @@ agree_facts gs ys owner g s tx y watch f fact free here there asked part =
     let s' = Votes s tx (Watching tx watch) Cast.Yes in
     let y' : Story = record y { watch_vote = Some Cast.Yes } in
     let k = f.story tx y there in
-    facts_told gs ys owner g s s' tx y y' f fact there (λ h b. b)
+    facts_reported gs ys owner g s s' tx y y' f fact there (λ h b. b)
     (record { named = (f.group g s fact).named; lock_ok = record { story = y'; fact = at-same ys tx (Some y'); asked = asked; part = part; here = here } })
     (past_grown g y Cast.Yes)
     (λ t ne. free_calm t s s' free (λ n. n) (voted_keeps s tx (Watching tx watch) Cast.Yes t))
@@ -343,7 +343,7 @@ deny_facts gs ys owner g s tx y watch why f fact new there asked part =
     let y' : Story = record y { watch_vote = Some (Cast.No why) } in
     let k = f.story tx y there in
     let ok = f.group g s fact in
-    facts_told gs ys owner g s s' tx y y' f fact there (λ h b. b)
+    facts_reported gs ys owner g s s' tx y y' f fact there (λ h b. b)
     (record { named = ok.named; lock_ok = lock_story ys g s s' tx y y' there (refl, refl, refl, refl, refl, refl) (λ h q. q) (refl, refl, offer_votes s tx s.core.lock (Cast.No why), watch_votes s tx s.core.lock (Cast.No why), refl) s.core.lock ok.lock_ok })
     (past_grown g y (Cast.No why))
     (λ t ne. same_calm t s s' refl refl (λ n. n) (voted_keeps s tx s.core.lock (Cast.No why) t))

@@ -252,10 +252,10 @@ facts_quiet gs ys owner g s s' f fact born mine calm =
     (λ tx y e. elim (calm tx y e) [ inl k ↦ story_keep gs owner g s s' tx y fact k (f.story tx y e) | inr k ↦ k ])
 
 -- one group and one story change; the other stories see nothing
-pub facts_told : (gs : Groups) (ys : Stories) (owner : Draw → Option Draw) (g : Draw) (s s' : Group) (tx : Draw) (y y' : Story) → Facts owner gs ys → gs g ≡ Some s → ys tx ≡ Some y
+pub facts_reported : (gs : Groups) (ys : Stories) (owner : Draw → Option Draw) (g : Draw) (s s' : Group) (tx : Draw) (y y' : Story) → Facts owner gs ys → gs g ≡ Some s → ys tx ≡ Some y
     → StayBorn s s' → GroupOk (put ys tx (Some y')) g s' → IsGrown g y y'
     → ((t : Draw) → (t ≡ tx → ⊥) → IsCalm t s s') → StoryOk owner (put gs g (Some s')) tx y' → Facts owner (put gs g (Some s')) (put ys tx (Some y'))
-facts_told gs ys owner g s s' tx y y' f fact there born mine grown calm recorded =
+facts_reported gs ys owner g s s' tx y y' f fact there born mine grown calm recorded =
     facts_change gs ys (put ys tx (Some y')) owner g s s' f fact born mine
     (λ h u ne k. group_keep ys g tx y y' there grown h u ne k)
     (λ t z e. elim (from_at ys tx (Some y') t (Some z) e) [

@@ -182,26 +182,26 @@ amended_found tx c change keeps ts h = find_map (λ (t : Transaction). same_draw
 
 -- a transaction that is changed with its story
 module _ (ts : List Transaction) (ys : Stories) (tx c : Draw) (change : Transaction → Transaction) (keeps : (t : Transaction) → (change t).tx ≡ t.tx) (recorded : Story → Story) (agree : Agree ts ys) where
-  other_told : (h : Draw) → (h ≡ tx → ⊥) → (o : Option Transaction) → ((t : Transaction) → o ≡ Some t → t.tx ≡ h) → option_map brief (option_map (amends tx c change) o) ≡ option_map brief o
-  other_told h ne None named = refl
-  other_told h ne (Some t) named = ap (λ (x : Transaction). Some (brief x)) (cond-false (is_of tx c t) (change t) t (and_left (same_draw t.tx tx) (same_draw t.coordinator c) (other_name t.tx tx (λ q. ne (sym (named t refl) ∙ q)))))
+  other_reported : (h : Draw) → (h ≡ tx → ⊥) → (o : Option Transaction) → ((t : Transaction) → o ≡ Some t → t.tx ≡ h) → option_map brief (option_map (amends tx c change) o) ≡ option_map brief o
+  other_reported h ne None named = refl
+  other_reported h ne (Some t) named = ap (λ (x : Transaction). Some (brief x)) (cond-false (is_of tx c t) (change t) t (and_left (same_draw t.tx tx) (same_draw t.coordinator c) (other_name t.tx tx (λ q. ne (sym (named t refl) ∙ q)))))
 
-  same_told : (h : Draw) → h ≡ tx → (o : Option Transaction) → ((t : Transaction) → o ≡ Some t → t.tx ≡ h) → (p : Option Story) → option_map brief o ≡ option_map story_brief p
+  same_reported : (h : Draw) → h ≡ tx → (o : Option Transaction) → ((t : Transaction) → o ≡ Some t → t.tx ≡ h) → (p : Option Story) → option_map brief o ≡ option_map story_brief p
       → ((t : Transaction) (y : Story) → o ≡ Some t → p ≡ Some y → brief t ≡ story_brief y → brief (amends tx c change t) ≡ story_brief (recorded y))
       → option_map brief (option_map (amends tx c change) o) ≡ option_map story_brief (option_map recorded p)
-  same_told h q None named None e k = refl
-  same_told h q None named (Some y) e k = absurd (let f : None ≡ Some (story_brief y) = e in cc)
-  same_told h q (Some t) named None e k = absurd (let f : Some (brief t) ≡ None = e in cc)
-  same_told h q (Some t) named (Some y) e k = ap Some (k t y refl refl (same_Some (brief t) (story_brief y) e))
+  same_reported h q None named None e k = refl
+  same_reported h q None named (Some y) e k = absurd (let f : None ≡ Some (story_brief y) = e in cc)
+  same_reported h q (Some t) named None e k = absurd (let f : Some (brief t) ≡ None = e in cc)
+  same_reported h q (Some t) named (Some y) e k = ap Some (k t y refl refl (same_Some (brief t) (story_brief y) e))
 
   agree_amended : ((t : Transaction) (y : Story) → t.tx ≡ tx → ys tx ≡ Some y → brief t ≡ story_brief y → brief (amends tx c change t) ≡ story_brief (recorded y)) → Agree (amended tx c change ts) (with_story ys tx recorded)
   agree_amended k h =
       ap (option_map brief) (amended_found tx c change keeps ts h)
       ∙ elim (draw_cases h tx) as (λ _. option_map brief (option_map (amends tx c change) (transaction_in h ts)) ≡ option_map story_brief (with_story ys tx recorded h)) [
-        | inl q ↦ same_told h q (transaction_in h ts) (λ t e. transaction_named h ts t e) (ys h) (agree h)
+        | inl q ↦ same_reported h q (transaction_in h ts) (λ t e. transaction_named h ts t e) (ys h) (agree h)
             (λ t y e p b. k t y (transaction_named h ts t e ∙ q) (ap ys (sym q) ∙ p) b)
             ∙ ap (λ o. option_map story_brief (option_map recorded o)) (ap ys q) ∙ ap (option_map story_brief) (sym (at-is ys tx (option_map recorded (ys tx)) h q))
-        | inr ne ↦ other_told h ne (transaction_in h ts) (λ t e. transaction_named h ts t e) ∙ agree h ∙ ap (option_map story_brief) (sym (at-other ys tx (option_map recorded (ys tx)) h ne))
+        | inr ne ↦ other_reported h ne (transaction_in h ts) (λ t e. transaction_named h ts t e) ∙ agree h ∙ ap (option_map story_brief) (sym (at-other ys tx (option_map recorded (ys tx)) h ne))
       ]
 
 same_briefs : (recorded : Story → Story) → ((y : Story) → story_brief (recorded y) ≡ story_brief y) → (o : Option Story) → option_map story_brief (option_map recorded o) ≡ option_map story_brief o

@@ -80,8 +80,8 @@ grows_then xs ys zs a b tx x e =
 grows_new : (ys : Stories) (tx : Draw) (y : Story) → ys tx ≡ None → Grows ys (put ys tx (Some y))
 grows_new ys tx y none t z e = (z, at-other ys tx (Some y) t (λ q. some_none z (sym e ∙ ap ys q ∙ none)) ∙ e, tells_same z)
 
-grows_told : (ys : Stories) (tx : Draw) (f : Story → Story) → ((y : Story) → ys tx ≡ Some y → RecordsOn y (f y)) → Grows ys (with_story ys tx f)
-grows_told ys tx f k t y e =
+grows_reported : (ys : Stories) (tx : Draw) (f : Story → Story) → ((y : Story) → ys tx ≡ Some y → RecordsOn y (f y)) → Grows ys (with_story ys tx f)
+grows_reported ys tx f k t y e =
     elim (draw_cases t tx) [
       | inl q ↦ (f y, at-is ys tx (option_map f (ys tx)) t q ∙ ap (option_map f) (ap ys (sym q) ∙ e), k y (ap ys (sym q) ∙ e))
       | inr ne ↦ (y, at-other ys tx (option_map f (ys tx)) t ne ∙ e, tells_same y)
@@ -112,8 +112,8 @@ module _ (sources : Sources) (ring : Ring) (gs : Groups) (ys : Stories) (g : Dra
   prepared_grows : (tx : Draw) (offer : Offer) (y : Story) → ys tx ≡ Some y → y.offer ≡ Some (unsigned offer) → offer.part ≡ g → Grows ys (stories_after s (Prepared tx offer) (applied s (Prepared tx offer)).1 ys)
   prepared_grows tx offer y there offered part =
       cond_both (has_voted s.core tx) _ _ (λ (r : Group × Effect). Grows ys (with_story ys tx (with_vote (vote_in s r.1))))
-      (λ e. grows_told ys tx (with_vote None) (λ z w. tells_same z))
-      (λ e. grows_told ys tx (with_vote (vote_in s (Was.Voted (past_of (vote_of s.core offer))))) (λ z w. (
+      (λ e. grows_reported ys tx (with_vote None) (λ z w. tells_same z))
+      (λ e. grows_reported ys tx (with_vote (vote_in s (Was.Voted (past_of (vote_of s.core offer))))) (λ z w. (
       let same = same_Some y z (sym there ∙ w) in
       let none = unheard gs sources.owner tx y offer s (k.0.story tx y there) offered (ap gs part ∙ fact) e y.vote refl in
       vote_first z (vote_in s (Was.Voted (past_of (vote_of s.core offer)))) (ap (λ (x : Story). x.vote) (sym same) ∙ none))))
@@ -125,8 +125,8 @@ module _ (sources : Sources) (ring : Ring) (gs : Groups) (ys : Stories) (g : Dra
   watched_grows : (tx : Draw) (watch : Watch) (y : Story) → ys tx ≡ Some y → y.watch ≡ Some (unsigned_watch watch) → watch.part ≡ g → Grows ys (stories_after s (Watched tx watch) (applied s (Watched tx watch)).1 ys)
   watched_grows tx watch y there asked part =
       cond_both (has_voted s.core tx) _ _ (λ (r : Group × Effect). Grows ys (with_story ys tx (with_watch_vote (watch_vote_in r.1))))
-      (λ e. grows_told ys tx (with_watch_vote None) (λ z w. tells_same z))
-      (λ e. grows_told ys tx (with_watch_vote (Some (past_of (watch_vote_of s.core watch)))) (λ z w. (
+      (λ e. grows_reported ys tx (with_watch_vote None) (λ z w. tells_same z))
+      (λ e. grows_reported ys tx (with_watch_vote (Some (past_of (watch_vote_of s.core watch)))) (λ z w. (
       let same = same_Some y z (sym there ∙ w) in
       watch_first z (Some (past_of (watch_vote_of s.core watch)))
       (λ v. not_passed gs g s tx y watch fact e asked part ((k.0.story tx y there).watcher Cast.Yes (ap (λ (x : Story). x.watch_vote) same ∙ v))))))
@@ -147,19 +147,19 @@ module _ (sources : Sources) (ring : Ring) (gs : Groups) (ys : Stories) (g : Dra
 
   -- a decision is told of a story that has none
   decision_grows : (tx : Draw) (body : Body) (order : ℕ) (heard : Option Heard) → s.core.lock ≡ Coordinating tx body order heard → (outcome : Outcome) → Grows ys (with_story ys tx (with_decision (Some outcome)))
-  decision_grows tx body order heard lock outcome = grows_told ys tx (with_decision (Some outcome)) (λ y w. outcome_first y (Some outcome) (undecided tx body order heard lock y w).0)
+  decision_grows tx body order heard lock outcome = grows_reported ys tx (with_decision (Some outcome)) (λ y w. outcome_first y (Some outcome) (undecided tx body order heard lock y w).0)
 
   vote_quiet : (tx : Draw) (vote : Vote) → Grows ys (with_story ys tx (with_answer s.core vote (Was.NoEffect tx)))
-  vote_quiet tx vote = grows_told ys tx (with_answer s.core vote (Was.NoEffect tx)) (λ y w. tells_same y)
+  vote_quiet tx vote = grows_reported ys tx (with_answer s.core vote (Was.NoEffect tx)) (λ y w. tells_same y)
 
   vote_grows : (tx : Draw) (vote : Vote) (by : ℕ) → Grows ys (with_story ys tx (with_answer s.core vote (vote_recorded s.core.lock s tx vote by).1))
   vote_grows tx vote by =
       vote_step s tx vote by (λ r. Grows ys (with_story ys tx (with_answer s.core vote r.1))) (decided_walk s tx vote by (λ r. Grows ys (with_story ys tx (with_answer s.core vote r.1))) (vote_quiet tx vote)
-      (λ order lock frozen votes. grows_told ys tx (with_answer s.core vote Was.Changed) (λ y w. asked_first y vote (undecided tx At.Merge order None lock y w).1))
+      (λ order lock frozen votes. grows_reported ys tx (with_answer s.core vote Was.Changed) (λ y w. asked_first y vote (undecided tx At.Merge order None lock y w).1))
       (λ body order lock after outcome stands. decision_grows tx body order None lock outcome))
 
   outcome_quiet : (tx : Draw) → Grows ys (with_story ys tx (with_decision None))
-  outcome_quiet tx = grows_told ys tx (with_decision None) (λ y w. tells_same y)
+  outcome_quiet tx = grows_reported ys tx (with_decision None) (λ y w. tells_same y)
 
   watch_grows : (tx : Draw) (past : Past) → Grows ys (with_story ys tx (with_decision (decided_in (watch_recorded s.core.lock s tx past).1)))
   watch_grows tx past =

@@ -57,15 +57,15 @@ story_id f k (Some y) = ap Some (k y)
 pub unchanged_story : (ys : Stories) (tx : Draw) (f : Story → Story) → ((y : Story) → f y ≡ y) → with_story ys tx f ≡ ys
 unchanged_story ys tx f k = at_self ys tx (option_map f (ys tx)) (sym (story_id f k (ys tx)))
 
-pub told_at : (ys : Stories) (tx : Draw) (f : Story → Story) (y : Story) → ys tx ≡ Some y → with_story ys tx f ≡ put ys tx (Some (f y))
-told_at ys tx f y e = ap (λ o. put ys tx (option_map f o)) e
+pub reported_at : (ys : Stories) (tx : Draw) (f : Story → Story) (y : Story) → ys tx ≡ Some y → with_story ys tx f ≡ put ys tx (Some (f y))
+reported_at ys tx f y e = ap (λ o. put ys tx (option_map f o)) e
 
 -- nothing changes
 pub idle : (owner : Draw → Option Draw) (ring : Ring) (gs : Groups) (ys : Stories) (g : Draw) (s : Group) → Kept owner ring gs ys → gs g ≡ Some s → Kept owner ring (put gs g (Some s)) ys
 idle owner ring gs ys g s k fact = subst (λ x. Kept owner ring x ys) (sym (at_self gs g (Some s) fact)) k
 
-pub idle_told : (owner : Draw → Option Draw) (ring : Ring) (gs : Groups) (ys : Stories) (g : Draw) (s : Group) (tx : Draw) (f : Story → Story) → ((y : Story) → f y ≡ y) → Kept owner ring gs ys → gs g ≡ Some s → Kept owner ring (put gs g (Some s)) (with_story ys tx f)
-idle_told owner ring gs ys g s tx f e k fact = subst (λ x. Kept owner ring (put gs g (Some s)) x) (sym (unchanged_story ys tx f e)) (idle owner ring gs ys g s k fact)
+pub idle_reported : (owner : Draw → Option Draw) (ring : Ring) (gs : Groups) (ys : Stories) (g : Draw) (s : Group) (tx : Draw) (f : Story → Story) → ((y : Story) → f y ≡ y) → Kept owner ring gs ys → gs g ≡ Some s → Kept owner ring (put gs g (Some s)) (with_story ys tx f)
+idle_reported owner ring gs ys g s tx f e k fact = subst (λ x. Kept owner ring (put gs g (Some s)) x) (sym (unchanged_story ys tx f e)) (idle owner ring gs ys g s k fact)
 
 -- ---- contents and members
 

@@ -20,7 +20,7 @@ use Rattle.sc_law_entries.proofs.RingProofs.View.{Ring}
 use Rattle.sc_law_entries.proofs.RingProofs.Cover.{at-other}
 use Rattle.sc_law_entries.proofs.RingProofs.Finds.{Pairwise, pairwise_filter}
 use Rattle.sc_law_entries.proofs.RingProofs.CutLookups.{arcs_in, recut_is, without_is, divided_is, flat_none, none_each, apart_divided, apart_recut, no_cut}
-use Rattle.sc_law_entries.proofs.RingProofs.CommittedViews.{ring_split, ring_cut, ring_merge, ring_move, ring_out, ring_told}
+use Rattle.sc_law_entries.proofs.RingProofs.CommittedViews.{ring_split, ring_cut, ring_merge, ring_move, ring_out, ring_reported}
 use Rattle.sc_law_entries.proofs.RingProofs.RequestsAndOrders.{same_fun}
 
 abbrev pub AreApart : List Cut → Type 0
@@ -109,7 +109,7 @@ module _ (core : Core) (command : Command) (effect : Effect) (ring : List Cut) (
       let r = fresh d e in
       split_is mid core.id d r.0 (ap (arc_in d.child) same ∙ r.1) (arc_in core.id mid) refl h
 
-  pub ring_is : arcs_in (ring_after core command effect ring) ≡ ring_told core command effect (arcs_in ring)
+  pub ring_is : arcs_in (ring_after core command effect ring) ≡ ring_reported core command effect (arcs_in ring)
   ring_is =
       same_fun (arcs_in (ring_after core command effect ring)) (ring_cut (division_of core command effect) (arcs_in mid) core.id) (after_is (division_of core command effect) refl)
       ∙ ap (λ r. ring_cut (division_of core command effect) r core.id) mid_is

@@ -27,7 +27,7 @@ use Rattle.sc_law_entries.proofs.RingProofs.Cover.{at-same}
 use Rattle.sc_law_entries.proofs.RingProofs.EntryKinds.{Votes, yes_facts, no_facts, agree_facts, deny_facts, unheard, not_passed}
 use Rattle.sc_law_entries.proofs.RingProofs.Effects.{Decisions, decisions, outcome_of, settle_by, living, living_by, eff, arc_of, succ_of, pred_of, pairs_of, Alike, Like, eff_like, like_same, like_at, whole_change, living_is, eff_free, no_commit}
 use Rattle.sc_law_entries.proofs.RingProofs.Finds.{some_none}
-use Rattle.sc_law_entries.proofs.RingProofs.RequestsAndOrders.{Kept, idle_told, told_at, lock_free}
+use Rattle.sc_law_entries.proofs.RingProofs.RequestsAndOrders.{Kept, idle_reported, reported_at, lock_free}
 
 -- what a group that votes Yes is
 pub record IsReady (s : Group) : Type 0 where
@@ -136,7 +136,7 @@ module _ (owner : Draw → Option Draw) (ring : Ring) (gs : Groups) (ys : Storie
       let ys' = put ys tx (Some y') in
       let like = outcome_like ys tx y y' there refl in
       let open_yet = no_commit y.outcome (λ x q na. (let r = (story.earned x q na).0 (unsigned offer) offered in some_none (Ballot.Yes r.0) (sym r.1 ∙ none))) in
-      subst (λ z. Kept owner ring (put gs g (Some s')) z) (sym (told_at ys tx (with_vote (Some (Ballot.Yes (frozen_of s)))) y there)) (
+      subst (λ z. Kept owner ring (put gs g (Some s')) z) (sym (reported_at ys tx (with_vote (Some (Ballot.Yes (frozen_of s)))) y there)) (
         yes_facts gs ys owner g s tx y offer k.0 fact m.free m.here new there offered part,
         whole_change ring gs ys ys' g s s' fact like
             (bound_alike ys' tx (Promised tx offer) m (ap (λ z. living (after_outcome (outcome_of z) tx s')) (at-same ys tx (Some y')) ∙ ap living (open_yet tx s') ∙ living_is s' m.here)) k.1,
@@ -146,7 +146,7 @@ module _ (owner : Draw → Option Draw) (ring : Ring) (gs : Groups) (ys : Storie
       let y' : Story = record y { vote = Some (Ballot.No why) } in
       let ys' = put ys tx (Some y') in
       let like = outcome_like ys tx y y' there refl in
-      subst (λ z. Kept owner ring (put gs g (Some s')) z) (sym (told_at ys tx (with_vote (Some (Ballot.No why))) y there)) (
+      subst (λ z. Kept owner ring (put gs g (Some s')) z) (sym (reported_at ys tx (with_vote (Some (Ballot.No why))) y there)) (
         no_facts gs ys owner g s tx y offer why k.0 fact new there offered part,
         whole_change ring gs ys ys' g s s' fact like (like_noting (decisions ys) (decisions ys') like s (s.core.voted ++ (tx, Cast.No why) ∷ [])) k.1,
       )
@@ -154,7 +154,7 @@ module _ (owner : Draw → Option Draw) (ring : Ring) (gs : Groups) (ys : Storie
   pub prepared_kept : (tx : Draw) (offer : Offer) (y : Story) → ys tx ≡ Some y → y.offer ≡ Some (unsigned offer) → offer.part ≡ g → Prepares tx (offer_voted s tx offer)
   prepared_kept tx offer y there offered part =
       cond_both (has_voted s.core tx) _ _ (Prepares tx)
-      (λ e. idle_told owner ring gs ys g s tx (with_vote None) (λ z. refl) k fact)
+      (λ e. idle_reported owner ring gs ys g s tx (with_vote None) (λ z. refl) k fact)
       (λ e. prepared_as tx offer y there offered part e (vote_of s.core offer) refl)
 
   abbrev Watches : Draw → Group × Effect → Type 0
@@ -170,7 +170,7 @@ module _ (owner : Draw → Option Draw) (ring : Ring) (gs : Groups) (ys : Storie
       let ys' = put ys tx (Some y') in
       let like = outcome_like ys tx y y' there refl in
       let open_yet = no_commit y.outcome (λ x q na. not_passed gs g s tx y watch fact new asked part (story.watcher Cast.Yes ((story.earned x q na).1 (unsigned_watch watch) asked))) in
-      subst (λ z. Kept owner ring (put gs g (Some s')) z) (sym (told_at ys tx (with_watch_vote (Some Cast.Yes)) y there)) (
+      subst (λ z. Kept owner ring (put gs g (Some s')) z) (sym (reported_at ys tx (with_watch_vote (Some Cast.Yes)) y there)) (
         agree_facts gs ys owner g s tx y watch k.0 fact m.free m.here there asked part,
         whole_change ring gs ys ys' g s s' fact like
             (bound_alike ys' tx (Watching tx watch) m (ap (λ z. living (after_outcome (outcome_of z) tx s')) (at-same ys tx (Some y')) ∙ ap living (open_yet tx s') ∙ living_is s' m.here)) k.1,
@@ -180,7 +180,7 @@ module _ (owner : Draw → Option Draw) (ring : Ring) (gs : Groups) (ys : Storie
       let y' : Story = record y { watch_vote = Some (Cast.No why) } in
       let ys' = put ys tx (Some y') in
       let like = outcome_like ys tx y y' there refl in
-      subst (λ z. Kept owner ring (put gs g (Some s')) z) (sym (told_at ys tx (with_watch_vote (Some (Cast.No why))) y there)) (
+      subst (λ z. Kept owner ring (put gs g (Some s')) z) (sym (reported_at ys tx (with_watch_vote (Some (Cast.No why))) y there)) (
         deny_facts gs ys owner g s tx y watch why k.0 fact new there asked part,
         whole_change ring gs ys ys' g s s' fact like (like_noting (decisions ys) (decisions ys') like s (s.core.voted ++ (tx, Cast.No why) ∷ [])) k.1,
       )
@@ -188,5 +188,5 @@ module _ (owner : Draw → Option Draw) (ring : Ring) (gs : Groups) (ys : Storie
   pub watched_kept : (tx : Draw) (watch : Watch) (y : Story) → ys tx ≡ Some y → y.watch ≡ Some (unsigned_watch watch) → watch.part ≡ g → Watches tx (watched s tx watch)
   watched_kept tx watch y there asked part =
       cond_both (has_voted s.core tx) _ _ (Watches tx)
-      (λ e. idle_told owner ring gs ys g s tx (with_watch_vote None) (λ z. refl) k fact)
+      (λ e. idle_reported owner ring gs ys g s tx (with_watch_vote None) (λ z. refl) k fact)
       (λ e. watched_as tx watch y there asked part e (watch_vote_of s.core watch) refl)

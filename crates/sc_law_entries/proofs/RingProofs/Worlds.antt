@@ -38,7 +38,7 @@ use Rattle.sc_law_entries.proofs.RingProofs.VotesOfParties.{prepared_kept, watch
 use Rattle.sc_law_entries.proofs.RingProofs.CutLookups.{arcs_in}
 use Rattle.sc_meaning.proofs.EntriesProofs.EntryLemmas.{found_name}
 use Rattle.sc_law_entries.proofs.RingProofs.GroupsInLists.{groups_in, with_child, groups_are, AreFound, found_after, Agree, story_brief, agree_begun, agree_with_story, agree_watcher, agree_concluded}
-use Rattle.sc_law_entries.proofs.RingProofs.CommittedViews.{ring_told}
+use Rattle.sc_law_entries.proofs.RingProofs.CommittedViews.{ring_reported}
 use Rattle.sc_law_entries.proofs.RingProofs.Decisions.{born_too, record_kept, give_up_kept, watch_record_kept}
 use Rattle.sc_law_entries.proofs.RingProofs.SplitsAndEnds.{split_kept, finish_kept}
 use Rattle.sc_law_entries.proofs.RingProofs.Rings.{AreApart, no_division, ring_is, ring_apart}
@@ -46,7 +46,7 @@ use Rattle.sc_law_entries.proofs.RingProofs.Finds.{some_none}
 
 -- what an entry makes of the facts and of the view
 abbrev pub Landed : (Draw → Option Draw) → Ring → Groups → Stories → Draw → Group → Command → Group × Effect → Type 0
-Landed owner ring gs ys g s command r = Kept owner (ring_told s.core command r.1 ring) (born_too s (put gs g (Some r.0)) (division_of s.core command r.1)) (stories_after s command r.1 ys)
+Landed owner ring gs ys g s command r = Kept owner (ring_reported s.core command r.1 ring) (born_too s (put gs g (Some r.0)) (division_of s.core command r.1)) (stories_after s command r.1 ys)
 
 -- what the lists need to know of an entry
 pub record Fits (gs : Groups) (ys : Stories) (s : Group) (command : Command) (effect : Effect) : Type 0 where
@@ -277,7 +277,7 @@ step_kept sources w g command k a (Some s) e =
     let cuts = ring_is s.core command r.1 w.store.ring fit.apart fresh in
     record {
       kept = subst (λ x. Kept sources.owner x (groups_in (groups_after s r.0 (birth_of s command r.1) w.store.groups)) (stories_after s command r.1 w.stories)) (sym cuts)
-          (subst (λ x. Kept sources.owner (ring_told s.core command r.1 ring) x (stories_after s command r.1 w.stories)) (sym groups) land);
+          (subst (λ x. Kept sources.owner (ring_reported s.core command r.1 ring) x (stories_after s command r.1 w.stories)) (sym groups) land);
       found = found_after s r.0 (birth_of s command r.1) w.store.groups id here new k.found;
       apart = ring_apart s.core command r.1 w.store.ring fit.apart fresh k.apart;
       recorded = fit.recorded w.store.transactions k.recorded;

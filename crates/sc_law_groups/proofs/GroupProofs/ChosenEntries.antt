@@ -197,18 +197,18 @@ module _ (ahead : Ahead) (base : Base) (made : Command → Type 0) (heard : Mail
     speaks_of : (s : ReplicaState) (ms : List Mail) → Past (s, ms) → Past (s, spoken_mails counted s.me s.group (before_of r.group.core) after.1 c ms)
     unfolding spoken_mails begun_reported
     speaks_of s ms p =
-        let told = result_told (begun_result (before_of r.group.core).alone after.1 c) (spoken_number (before_of r.group.core).order c) s ms p.fine in
+        let reported = result_recorded (begun_result (before_of r.group.core).alone after.1 c) (spoken_number (before_of r.group.core).order c) s ms p.fine in
         let begun = result_reported s.me (begun_result (before_of r.group.core).alone after.1 c) (spoken_number (before_of r.group.core).order c) ms in
         let heard_by = subst (λ (x : Group). AreSaid heard (went_on s.me x (before_of r.group.core) after.1 c [])) (sym p.group_is)
         (subst (λ (x : Group). AreSaid heard (went_on s.me (applied x c).0 (before_of x.core) (applied x c).1 c [])) (sym f.replica.log_is.group_is) (speaks.goes_on log c logged f.replica.log_is.all_made is_made s.me)) in
         cond_both counted (went_on s.me s.group (before_of r.group.core) after.1 c begun) begun (λ more. Past (s, more))
         (λ _. says_more s ms _ p (subst (λ more. Ok (s, more)) (sym (puts_went_on s.me s.group (before_of r.group.core) after.1 c begun))
-        (says_all ahead base made heard me older before s begun (went_on s.me s.group (before_of r.group.core) after.1 c []) told heard_by)))
-        (λ _. says_more s ms begun p told)
+        (says_all ahead base made heard me older before s begun (went_on s.me s.group (before_of r.group.core) after.1 c []) reported heard_by)))
+        (λ _. says_more s ms begun p reported)
       where
-        result_told : (o : Option OrderResult) (number : ℕ) (x : ReplicaState) (xs : List Mail) → Ok (x, xs) → Ok (x, result_reported x.me o number xs)
-        result_told None number x xs g = g
-        result_told (Some result) number x xs g = told_one ahead base made heard me older before x xs number result g
+        result_recorded : (o : Option OrderResult) (number : ℕ) (x : ReplicaState) (xs : List Mail) → Ok (x, xs) → Ok (x, result_reported x.me o number xs)
+        result_recorded None number x xs g = g
+        result_recorded (Some result) number x xs g = told_one ahead base made heard me older before x xs number result g
 
     parts : TableEntry counted c r (λ (place : Place). place.1 ≡ mails) Past
     parts = record {

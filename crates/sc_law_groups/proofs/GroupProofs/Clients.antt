@@ -151,7 +151,7 @@ module _ (ahead : Ahead) (bases : List Base) where
   Grew h asks old new = (new ≡ old) ⊎ ((reply : Reply) × (new ≡ old ++ reply ∷ []) × IsAnswered h asks.client (length old + 1) reply)
 
   module _ (made : Base → Command → Type 0) (heard : MailBody → Type 0) (h : Base → Steps) (asks : Asks) (client after : Client) (c : IsClient h asks client) (input : Input Mail OrderLine) (sent : List Mail) (turn : InTurn client after input sent)
-      (told : (m : Mail) → input ≡ Got m → (m.to ≡ client_actor asks.client) × IsNamedIn heard bases m.body × ((base : Base) → Among base bases → IsTrue ahead base (made base) heard (h base) m m.body)) (fresh : input ≡ Go → client.replies ≡ []) where
+      (reported : (m : Mail) → input ≡ Got m → (m.to ≡ client_actor asks.client) × IsNamedIn heard bases m.body × ((base : Base) → Among base bases → IsTrue ahead base (made base) heard (h base) m m.body)) (fresh : input ≡ Go → client.replies ≡ []) where
     waited : Waits client after → IsClient h asks after × Grew h asks client.replies after.replies
     waited s = (
       record {
@@ -177,7 +177,7 @@ module _ (ahead : Ahead) (bases : List Base) where
     took : TakesReply client after input → IsClient h asks after × Grew h asks client.replies after.replies
     took s =
         let (m, where_from, got, body) = s.is_reply in
-        let came = told m got in
+        let came = reported m got in
         let one : IsOneOf bases where_from = subst (IsNamedIn heard bases) body came.1 in
         let truth : IsTrueAnswer ahead one.0 (h one.0) m.to s.seq (Value s.reply) = (subst (IsTrue ahead one.0 (made one.0) heard (h one.0) m) body (came.2 one.0 one.1)) (same_name where_from one.0.core.id one.2) in
         let number : s.seq ≡ length client.replies + 1 = subst (λ o. IsNextOf o (length client.replies)) s.waited c.waits in

@@ -165,8 +165,8 @@ pub record Fit (w : StoryWorld) : Type 0 where
   pub stories : AllFit w.stories
 
 -- groups and stories with one entry more
-told_fit : (sources : Sources) (w : StoryWorld) (e : LogEntry) → IsAllowed sources w.stories e.group e.command → Fit w → Fit (recorded_next w e)
-told_fit sources w e a k = by (named_group e.group w.store.groups) refl
+reported_fit : (sources : Sources) (w : StoryWorld) (e : LogEntry) → IsAllowed sources w.stories e.group e.command → Fit w → Fit (recorded_next w e)
+reported_fit sources w e a k = by (named_group e.group w.store.groups) refl
   where
     by : (o : Option Group) → named_group e.group w.store.groups ≡ o → Fit (record { store = after_command w.store o e.command; stories = recorded_stories w.stories o e.command })
     by None fact = k
@@ -178,7 +178,7 @@ told_fit sources w e a k = by (named_group e.group w.store.groups) refl
 -- with all entries
 all_fit : (sources : Sources) (w : StoryWorld) (entries : List LogEntry) → AreAllowed sources w entries → Fit w → Fit (recorded_after w entries)
 all_fit sources w [] a k = k
-all_fit sources w (e ∷ entries) a k = all_fit sources (recorded_next w e) entries a.1 (told_fit sources w e a.0 k)
+all_fit sources w (e ∷ entries) a k = all_fit sources (recorded_next w e) entries a.1 (reported_fit sources w e a.0 k)
 
 -- the groups at the start have rosters
 first_rosters : (bases : List Base) → ((base : Base) → Among base bases → IsFresh base) → HaveRosters (map group_of bases)

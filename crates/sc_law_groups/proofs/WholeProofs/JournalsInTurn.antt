@@ -15,7 +15,7 @@ use Rattle.sc_meaning.specs.sound.SoundDefinitions.{Ahead, system_of, replies_of
 use Rattle.sc_law_entries.specs.ring.RingDefinitions.{Sources, IsAllowed, first_recorded, recorded_after, BeginInPlace}
 use Rattle.sc_law_entries.proofs.RingProofs.RingLemmas.{at_start, kept_after, store_after, some_none}
 use Rattle.sc_law_entries.specs.logs.LogDefinitions.{Rows, added_by, newborn_by, AreFound, IsNewborn, DecidesInTurn, DecideInTurn}
-use Rattle.sc_law_entries.proofs.LogsProofs.LogLemmas.{allowed_stays_allowed, BornBy, born_by, all_allowed, deciding_rows, groups_are_found, groups_are_old_or_new, group_found, deciding_rows_stay, rows_go_on, Told, state_there}
+use Rattle.sc_law_entries.proofs.LogsProofs.LogLemmas.{allowed_stays_allowed, BornBy, born_by, all_allowed, deciding_rows, groups_are_found, groups_are_old_or_new, group_found, deciding_rows_stay, rows_go_on, JournalFacts, state_there}
 use Rattle.sc_law_entries.proofs.NamesProofs.NameLemmas.{Each-drop}
 use Rattle.sc_law_groups.proofs.GroupProofs.GroupLemmas.{first_of, IsIssued, IsAnswered, h_of, Kept, Stepped, IsLater, Moved, push, log_goes_on, decided_made, or_now, issue-push, HasPlayers, MayGiveOrder, KnowsOffspring, moved}
 use Rattle.sc_law_groups.specs.whole.WholeDefinitions.{stories_at, IsIssuedCall, MayQueue, IsHeardAt, IsFresh, HasSeats, AsksAre, PartiesAreApart, MergesFit}
@@ -77,7 +77,7 @@ module _ (sources : Sources) (ahead : Ahead) (words : ℕ → ℕ → ℕ × ℕ
     found = groups_are_found sources ahead scenario.groups start rows h.turn
 
     -- what the entries of their logs record
-    told : Told sources ahead scenario.groups rows
+    told : JournalFacts sources ahead scenario.groups rows
     told = deciding_rows sources ahead scenario.groups start rows h.turn
 
     -- each group stands among all with the state after its log

@@ -147,8 +147,8 @@ module _ (sources : Sources) (stories : Stories) (fit : MergesFit stories) (name
     dull_said me group was effect d _ = tt
 
     -- an end that is sent
-    abbrev Told : Draw → Outcome → Type 0
-    Told tx outcome = (part : Draw) → IsAllowed sources stories part (Finish tx outcome)
+    abbrev IsSentEnd : Draw → Outcome → Type 0
+    IsSentEnd tx outcome = (part : Draw) → IsAllowed sources stories part (Finish tx outcome)
 
     -- giving up aborts
     giving_aborts : (group : Group) (tx : Draw) (outcome : Outcome) → (applied group (GiveUp tx)).1 ≡ Was.Decided outcome → outcome ≡ Is.Abort
@@ -174,40 +174,40 @@ module _ (sources : Sources) (stories : Stories) (fit : MergesFit stories) (name
         (λ _. nothing_aborts tx outcome) e
 
     -- an abort is true for the group that learns it
-    aborted_said : (me : ℕ) (tx : Draw) (link : Link) (before : List Mail) → Told tx Is.Abort → Said before → Said (aborted_to me tx link before)
+    aborted_said : (me : ℕ) (tx : Draw) (link : Link) (before : List Mail) → IsSentEnd tx Is.Abort → Said before → Said (aborted_to me tx link before)
     aborted_said me tx link before told e = said_to_all me link.members (TxOutcome tx link.group Is.Abort) before (told link.group) e
 
     -- so it is by a watcher
-    watcher_said : (me : ℕ) (tx : Draw) (o : Option (ℕ × Link)) (before : List Mail) → Told tx Is.Abort → Said before → Said (aborted_watcher me tx o before)
+    watcher_said : (me : ℕ) (tx : Draw) (o : Option (ℕ × Link)) (before : List Mail) → IsSentEnd tx Is.Abort → Said before → Said (aborted_watcher me tx o before)
     watcher_said me tx None before told e = e
     watcher_said me tx (Some heard) before told e = aborted_said me tx heard.1 before told e
 
     -- an end is heard by those whom it releases
-    released_said : (o : Option (ℕ × Link)) (me : ℕ) (succ : Link) (tx : Draw) (by : ℕ) (outcome : Outcome) → Told tx outcome → Said (released_to o me succ tx by outcome [])
+    released_said : (o : Option (ℕ × Link)) (me : ℕ) (succ : Link) (tx : Draw) (by : ℕ) (outcome : Outcome) → IsSentEnd tx outcome → Said (released_to o me succ tx by outcome [])
     released_said None me succ tx by outcome told = (told succ.group, tt)
     released_said (Some heard) me succ tx by outcome told = (told succ.group, (told heard.1.group, tt))
 
     -- so is the end that a watcher's vote brings
-    watch_said : (vote : Past) (me : ℕ) (was : Before) (tx : Draw) (by : ℕ) (outcome : Outcome) → Told tx outcome → ((why : No) → vote ≡ Cast.No why → outcome ≡ Is.Abort) → Said (watch_answered_by (Some outcome) vote me was tx by [])
+    watch_said : (vote : Past) (me : ℕ) (was : Before) (tx : Draw) (by : ℕ) (outcome : Outcome) → IsSentEnd tx outcome → ((why : No) → vote ≡ Cast.No why → outcome ≡ Is.Abort) → Said (watch_answered_by (Some outcome) vote me was tx by [])
     watch_said Cast.Yes me was tx by outcome told aborts = released_said was.heard me was.succ tx by outcome told
     watch_said (Cast.No why) me was tx by outcome told aborts =
-        cond_both was.merges (aborted_to me tx was.succ []) [] Said (λ _. aborted_said me tx was.succ [] (subst (Told tx) (aborts why refl) told) tt) (λ _. tt)
+        cond_both was.merges (aborted_to me tx was.succ []) [] Said (λ _. aborted_said me tx was.succ [] (subst (IsSentEnd tx) (aborts why refl) told) tt) (λ _. tt)
     watch_said Cast.Ended me was tx by outcome told aborts = tt
 
     -- and the one that a participant's vote brings
-    vote_said : (vote : Vote) (me : ℕ) (was : Before) (tx : Draw) (by : ℕ) (outcome : Outcome) → Told tx outcome → Said (vote_answered (Some outcome) vote me was tx by [])
+    vote_said : (vote : Vote) (me : ℕ) (was : Before) (tx : Draw) (by : ℕ) (outcome : Outcome) → IsSentEnd tx outcome → Said (vote_answered (Some outcome) vote me was tx by [])
     vote_said (Vows.Yes frozen) me was tx by outcome told = (told was.succ.group, tt)
     vote_said (Vows.No why) me was tx by outcome told = tt
 
     -- an entry that decides
-    ended_said : (group : Group) (was : Before) (me : ℕ) (after : Group) (c : Command) (tx : Draw) (outcome : Outcome) → EndsIt tx c → (applied group c).1 ≡ Was.Decided outcome → Told tx outcome → Said (went_on me after was (Was.Decided outcome) c [])
+    ended_said : (group : Group) (was : Before) (me : ℕ) (after : Group) (c : Command) (tx : Draw) (outcome : Outcome) → EndsIt tx c → (applied group c).1 ≡ Was.Decided outcome → IsSentEnd tx outcome → Said (went_on me after was (Was.Decided outcome) c [])
     unfolding went_on
-    ended_said group was me after (RecordVote t vote by) tx outcome ends e told = vote_said vote me was t by outcome (subst (λ d. Told d outcome) (sym ends) told)
+    ended_said group was me after (RecordVote t vote by) tx outcome ends e told = vote_said vote me was t by outcome (subst (λ d. IsSentEnd d outcome) (sym ends) told)
     ended_said group was me after (GiveUp t) tx outcome ends e told =
-        let abort = subst (λ o. Told t o) (giving_aborts group t outcome e) (subst (λ d. Told d outcome) (sym ends) told) in
+        let abort = subst (λ o. IsSentEnd t o) (giving_aborts group t outcome e) (subst (λ d. IsSentEnd d outcome) (sym ends) told) in
         watcher_said me t was.heard (aborted_to me t was.succ []) abort (aborted_said me t was.succ [] abort tt)
     ended_said group was me after (RecordWatch t vote by) tx outcome ends e told =
-        watch_said vote me was t by outcome (subst (λ d. Told d outcome) (sym ends) told) (λ why fact. no_aborts group.core.lock group t why outcome (subst (λ v. (watch_recorded group.core.lock group t v).1 ≡ Was.Decided outcome) fact e))
+        watch_said vote me was t by outcome (subst (λ d. IsSentEnd d outcome) (sym ends) told) (λ why fact. no_aborts group.core.lock group t why outcome (subst (λ v. (watch_recorded group.core.lock group t v).1 ≡ Was.Decided outcome) fact e))
     ended_said group was me after _ tx outcome ends e told = absurd ends
 
     -- what an entry makes allowed is allowed
@@ -215,7 +215,7 @@ module _ (sources : Sources) (stories : Stories) (fit : MergesFit stories) (name
     EntryAllows group c = (other : Draw) (d : Command) → MakesAllowed sources name group c other d → IsAllowed sources stories other d
 
     -- who learns of the end learns what was decided
-    pub told_by : (group : Group) (c : Command) (tx : Draw) (outcome : Outcome) → EntryAllows group c → EndsIt tx c → (applied group c).1 ≡ Was.Decided outcome → Told tx outcome
+    pub told_by : (group : Group) (c : Command) (tx : Draw) (outcome : Outcome) → EntryAllows group c → EndsIt tx c → (applied group c).1 ≡ Was.Decided outcome → IsSentEnd tx outcome
     told_by group (RecordVote t vote by) tx outcome may ends e part = subst (λ d. IsAllowed sources stories part (Finish d outcome)) ends (may part (Finish t outcome) ((al group).votes t vote by outcome e part))
     told_by group (GiveUp t) tx outcome may ends e part = subst (λ d. IsAllowed sources stories part (Finish d outcome)) ends (may part (Finish t outcome) ((al group).gives_up t outcome e part))
     told_by group (RecordWatch t vote by) tx outcome may ends e part = subst (λ d. IsAllowed sources stories part (Finish d outcome)) ends (may part (Finish t outcome) ((al group).watch_votes t vote by outcome e part))

@@ -10,12 +10,12 @@ module _ (leader : LeaderState Command) (acts : List Command) where
   abbrev pub Stays : Place → Type 0
   Stays place = (place.0.leader ≡ leader) × (place.0.acts ≡ acts)
 
-  told_leads : (answer : Option AnswerBody) (command : Command) (place : Place) → Stays place → Stays (answered_or_put_back answer command place)
+  reported_leads : (answer : Option AnswerBody) (command : Command) (place : Place) → Stays place → Stays (answered_or_put_back answer command place)
   unfolding answered_or_put_back put_back
-  told_leads (Some answer) (Call client seq op) (r, mails) l = l
-  told_leads None (Call client seq op) (r, mails) l = l
-  told_leads (Some answer) _ place l = l
-  told_leads None _ place l = l
+  reported_leads (Some answer) (Call client seq op) (r, mails) l = l
+  reported_leads None (Call client seq op) (r, mails) l = l
+  reported_leads (Some answer) _ place l = l
+  reported_leads None _ place l = l
 
   effect_leads : (result : Option OrderResult) (command : Command) (place : Place) → Stays place → Stays (effect_reported result command place)
   unfolding effect_reported
@@ -25,7 +25,7 @@ module _ (leader : LeaderState Command) (acts : List Command) where
   announced_leads : (counted : Bool) (effect : Effect) (command : Command) (place : Place) → Stays place → Stays (announced counted effect command place)
   unfolding announced
   announced_leads counted effect command place l =
-      effect_leads (order_result command effect) command (cond counted (answered_or_put_back (answer_of effect) command place) place) (either_way Stays counted (answered_or_put_back (answer_of effect) command place) place (told_leads (answer_of effect) command place l) l)
+      effect_leads (order_result command effect) command (cond counted (answered_or_put_back (answer_of effect) command place) place) (either_way Stays counted (answered_or_put_back (answer_of effect) command place) place (reported_leads (answer_of effect) command place l) l)
 
   spoken_leads : (counted : Bool) (before : Before) (effect : Effect) (command : Command) (place : Place) → Stays place → Stays (spoken counted before effect command place)
   unfolding spoken

@@ -68,19 +68,19 @@ module _ (start : ReplicaState) (A : Command → Type 0) (G : Draw → ℕ → T
       ∙ ap (λ (name : Draw). answers_in mails ++ effect_answers start.me name answer command) (entered_name command r ∙ f.1.name_is)
       ∙ ap (λ (o : Option AnswerBody). answers_in mails ++ effect_answers start.me (name_of start) o command) (e ∙ ap (λ (g : Group). answer_of (applied g command).1) f.1.group_is)
 
-  told_by : (answer : Option AnswerBody) (command : Command) (r : ReplicaState) (mails : List Mail) (f : F (r, mails)) → Kept A G command
+  reported_by : (answer : Option AnswerBody) (command : Command) (r : ReplicaState) (mails : List Mail) (f : F (r, mails)) → Kept A G command
       → AllCaused start A G W Q (f.1.entries ++ command ∷ []) false false (answered_or_put_back answer command (entered command r, mails)).1 → F (answered_or_put_back answer command (entered command r, mails))
   unfolding answered_or_put_back put_back
-  told_by (Some answer) (Call client seq op) r mails f k s =
+  reported_by (Some answer) (Call client seq op) r mails f k s =
       (kept_through (Call client seq op) r f.0, entered_stands (Call client seq op) r mails (answer_to (entered (Call client seq op) r).me (name_of (entered (Call client seq op) r)) client seq answer mails) f s)
-  told_by None (Call client seq op) r mails f k s =
+  reported_by None (Call client seq op) r mails f k s =
       (back_kept A G (Call client seq op) (entered (Call client seq op) r) k tt (kept_through (Call client seq op) r f.0), entered_stands (Call client seq op) r mails mails f s)
-  told_by (Some answer) command r mails f k s = (kept_through command r f.0, entered_stands command r mails mails f s)
-  told_by None command r mails f k s = (kept_through command r f.0, entered_stands command r mails mails f s)
+  reported_by (Some answer) command r mails f k s = (kept_through command r f.0, entered_stands command r mails mails f s)
+  reported_by None command r mails f k s = (kept_through command r f.0, entered_stands command r mails mails f s)
 
-  told_fine : (answer : Option AnswerBody) (command : Command) (r : ReplicaState) (mails : List Mail) (f : F (r, mails)) → Kept A G command → answer ≡ answer_of (applied r.group command).1 → F (answered_or_put_back answer command (entered command r, mails))
-  told_fine answer command r mails f k e =
-      told_by answer command r mails f k (entry_caused start A G W Q f.1.entries command mails (answered_or_put_back answer command (entered command r, mails)).1 k (answers_so answer command r mails f e) f.1.sent)
+  reported_fine : (answer : Option AnswerBody) (command : Command) (r : ReplicaState) (mails : List Mail) (f : F (r, mails)) → Kept A G command → answer ≡ answer_of (applied r.group command).1 → F (answered_or_put_back answer command (entered command r, mails))
+  reported_fine answer command r mails f k e =
+      reported_by answer command r mails f k (entry_caused start A G W Q f.1.entries command mails (answered_or_put_back answer command (entered command r, mails)).1 k (answers_so answer command r mails f e) f.1.sent)
 
   -- ---- what is said of it
 
@@ -97,7 +97,7 @@ module _ (start : ReplicaState) (A : Command → Type 0) (G : Draw → ℕ → T
   pub counted_fine : (command : Command) (r : ReplicaState) (mails : List Mail) → Kept A G command → F (r, mails) → F (announced true (applied r.group command).1 command (entered command r, mails))
   unfolding announced
   counted_fine command r mails k f =
-      let effect : Effect = (applied r.group command).1 in effect_fine effect command (answered_or_put_back (answer_of effect) command (entered command r, mails)) (told_fine (answer_of effect) command r mails f k refl)
+      let effect : Effect = (applied r.group command).1 in effect_fine effect command (answered_or_put_back (answer_of effect) command (entered command r, mails)) (reported_fine (answer_of effect) command r mails f k refl)
 
   -- one that is learnt is answered to no client
   pub learning_fine : (effect : Effect) (command : Command) (place : Place) → F place → F (announced false effect command place)

@@ -173,10 +173,10 @@ module _ (before : List Mail) where
   tick_behind on drawer r mails =
       let last : List Mail = last_entry_sent (entry_at (next r - 1) r.log) r mails in
       let again : List Mail = asked_again r (next r) r.sets mails in
-      let told : reminding on drawer (r, last_entry_sent (entry_at (next r - 1) r.log) r (onto mails)) ≡ behind (reminding on drawer (r, last)) =
+      let reported : reminding on drawer (r, last_entry_sent (entry_at (next r - 1) r.log) r (onto mails)) ≡ behind (reminding on drawer (r, last)) =
       ap (λ (ms : List Mail). reminding on drawer (r, ms)) (last_onto (entry_at (next r - 1) r.log) r mails) ∙ reminding_behind on drawer (r, last) in
       let asked : reminding on drawer (r, asked_again r (next r) r.sets (onto mails)) ≡ behind (reminding on drawer (r, again)) =
       ap (λ (ms : List Mail). reminding on drawer (r, ms)) (again_onto r (next r) r.sets mails) ∙ reminding_behind on drawer (r, again) in
       either_of behind (is_some r.group.core.gone || not (is_member (members r) r.me)) (r, mails) _ _ _ refl
       (either_of behind (not (settled r)) (elected (r, mails)) _ _ _ (elected_behind (r, mails))
-      (either_of behind (is_idle r) (reminding on drawer (r, last)) (reminding on drawer (r, again)) _ _ told asked))
+      (either_of behind (is_idle r) (reminding on drawer (r, last)) (reminding on drawer (r, again)) _ _ reported asked))

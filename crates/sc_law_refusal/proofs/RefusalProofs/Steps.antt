@@ -257,8 +257,8 @@ module _ (start : ReplicaState) (input : Input Mail OrderLine) (W : Ballot → D
 
     -- what was answered by one that leads no more
     module _ (after : ReplicaState) (out : refused ≡ true → LeadsNoMore start input after) where
-      abbrev Told : ℕ → Draw → ℕ → AnswerBody → Type 0
-      Told to group seq answer = AnswersCall start input (λ client seq op says. HasCauseAfter start input after op says) to group seq answer
+      abbrev AnswersAfterStep : ℕ → Draw → ℕ → AnswerBody → Type 0
+      AnswersAfterStep to group seq answer = AnswersCall start input (λ client seq op says. HasCauseAfter start input after op says) to group seq answer
 
       told_cause : (op : Op) (answer : AnswerBody) → CauseSo start A G W Q [] refused false op answer → HasCauseAfter start input after op answer
       told_cause op (Says.Value reply) k = k
@@ -267,9 +267,9 @@ module _ (start : ReplicaState) (input : Input Mail OrderLine) (W : Ballot → D
       told_cause op (Says.Gone into) k = absurd (true≢false (sym k.0))
       told_cause op (Says.Stale last) k = k
 
-      told_body : (to : ℕ) (body : MailBody) → CausedBody start A G W Q [] refused false to body → IfAnswer (λ group seq answer. Told to group seq answer) body
+      told_body : (to : ℕ) (body : MailBody) → CausedBody start A G W Q [] refused false to body → IfAnswer (λ group seq answer. AnswersAfterStep to group seq answer) body
       told_body to body k =
-          answer_weaker (λ group seq answer. CausedAnswer start A G W Q [] refused false to group seq answer) (λ group seq answer. Told to group seq answer)
+          answer_weaker (λ group seq answer. CausedAnswer start A G W Q [] refused false to group seq answer) (λ group seq answer. AnswersAfterStep to group seq answer)
           (λ group seq answer a. record { own = a.own; client = a.client; op = a.op; receiver = a.receiver; was_asked = a.was_asked; cause = told_cause a.op answer a.cause }) body k
 
       told_mails : (mails : List Mail) → Saying mails → AnswersInTurn start input after start.group [] mails
@@ -277,7 +277,7 @@ module _ (start : ReplicaState) (input : Input Mail OrderLine) (W : Ballot → D
         others = c.others;
         are = c.are;
         at_entries = tt;
-        afterwards = Each-weaker (Caused start A G W Q [] refused false) (λ (mail : Mail). IfAnswer (λ group seq answer. Told mail.to group seq answer) mail.body) (λ mail m. told_body mail.to mail.body m) c.others c.causes;
+        afterwards = Each-weaker (Caused start A G W Q [] refused false) (λ (mail : Mail). IfAnswer (λ group seq answer. AnswersAfterStep mail.to group seq answer) mail.body) (λ mail m. told_body mail.to mail.body m) c.others c.causes;
       }
 
     -- what a replica is before it takes a state over: one that ran has stopped

@@ -38,7 +38,7 @@ reply_number client mail body group seq reply e w =
     ap (λ (step : ClientStep). step.0.waiting) (cond-true (waits_for client.waiting seq) (started (seq + 1) next) (client, []) waits) ∙ started_number (seq + 1) next in
     subst (λ (b : MailBody). (got mail.from b client).0.waiting ≡ number_in client.requests (seq + 1)) (sym e) here
 
-module _ (client : Client) (input : Input Mail OrderLine) (gone : Bool) (place : InPlace gone client) (told : input ≡ Go → gone ≡ false) where
+module _ (client : Client) (input : Input Mail OrderLine) (gone : Bool) (place : InPlace gone client) (reported : input ≡ Go → gone ≡ false) where
   abbrev pub after : Client
   after = (table client input).0
 
@@ -48,7 +48,7 @@ module _ (client : Client) (input : Input Mail OrderLine) (gone : Bool) (place :
   -- it starts
   starts : input ≡ Go → after.replies ≡ client.replies → Starts client after input
   starts go replies =
-      let fresh = place.fresh (told go) in
+      let fresh = place.fresh (reported go) in
       let number : after.waiting ≡ number_in client.requests 1 = subst (λ (i : Input Mail OrderLine). (table client i).0.waiting ≡ number_in client.requests 1) (sym go) (started_number 1 client) in
       record { go = go; fresh = fresh.0; unanswered = fresh.1; number = subst (λ requests. after.waiting ≡ number_in requests 1) (sym turn.requests) number; replies = replies ∙ fresh.1 }
 

@@ -80,11 +80,11 @@ module _ (ahead : Ahead) (base : Base) (h : Steps) (lawful : IsLawfulHistory (ru
   abbrev pub MayGiveOrder : Bool → ℕ → OrderResult → Type 0
   MayGiveOrder ended number result = Fact number result ⊎ ((ended ≡ true) × IsBack W number result)
 
-  abbrev Tells : Bool → List Mail → Type 0
-  Tells ended mails = ReportAs (MayGiveOrder ended) mails
+  abbrev ReportsOrders : Bool → List Mail → Type 0
+  ReportsOrders ended mails = ReportAs (MayGiveOrder ended) mails
 
   -- mail that reports nothing leaves it so
-  none_told : (ended : Bool) (me : ℕ) → Parties me (Tells ended)
+  none_told : (ended : Bool) (me : ℕ) → Parties me (ReportsOrders ended)
   none_told ended me = parties_told me (MayGiveOrder ended)
 
   abbrev pub Stands : Bool → ReplicaState → Type 0
@@ -118,13 +118,13 @@ module _ (ahead : Ahead) (base : Base) (h : Steps) (lawful : IsLawfulHistory (ru
       let effect = (applied start.group command).1 in
       let told : List Mail = result_reported r.me (begun_result before.alone effect command) (spoken_number before.order command) mails in
       let said : Q told = begun_said r.me (MayGiveOrder ended) (spoken_number before.order command) (begun_result before.alone effect command) mails (λ result e t. inl (fact (spoken_number before.order command) result (begun_ends start.group command result e t))) m in
-      either_way Q counted (went_on r.me r.group before effect command told) told (went_said r.me (Tells ended) (none_told ended r.me) r.group before effect command told said) said
+      either_way Q counted (went_on r.me r.group before effect command told) told (went_said r.me (ReportsOrders ended) (none_told ended r.me) r.group before effect command told said) said
 
   entry_keeps : (counted : Bool) (command : Command) (start : ReplicaState) → Logged start → IsLearnt (rule ahead base) h (next start) command → (counted ≡ true → P command) → TableEntry counted command start ReportsSo ReportsSo
   entry_keeps counted command start logged t waits = record {
     Lost = λ other. P other;
     entered = λ mails k. (k.0, entered_stands k.0 command start t k.1, k.2);
-    answers = λ client seq op answer r mails c e a k. (k.0, k.1, client_reported r.me (Tells k.0) (none_told k.0 r.me) client (name_of r) seq answer mails k.2);
+    answers = λ client seq op answer r mails c e a k. (k.0, k.1, client_reported r.me (ReportsOrders k.0) (none_told k.0 r.me) client (name_of r) seq answer mails k.2);
     returned = λ r mails c k. (k.0, back_stands k.0 command r (waits c) k.1, k.2);
     reports = λ result r mails e k. (k.0, k.1, reported r.me (MayGiveOrder k.0) (order_number command) result mails (λ _. inl (entry_decides command start logged t (order_number command) result (order_ends start.group command result e))) k.2);
     speaks = λ r mails k. (k.0, k.1, spoken_tells k.0 counted command start r mails (entry_decides command start logged t) k.2);
@@ -153,7 +153,7 @@ module _ (ahead : Ahead) (base : Base) (h : Steps) (lawful : IsLawfulHistory (ru
     ((k.1.0.0, unready ahead base h lawful r k.1.0.1), (tt, tt, tt, tt, tt), k.1.2, λ _. inl refl),
     all_dismissed r.me (MayGiveOrder true) (name_of r) hint answer r.backlog (answered_all r.me (name_of r) answer (under_way r) mails)
         (λ command a t. inr (refl, record { command = command; own = is_of command t; waits = Each-among P r.backlog command k.1.1.0 a (order_number command) (is_of command t) t; hint = hint; says = refl }))
-        (all_replied r.me (Tells true) (none_told true r.me) (name_of r) answer (under_way r) mails
+        (all_replied r.me (ReportsOrders true) (none_told true r.me) (name_of r) answer (under_way r) mails
         (tell_so (MayGiveOrder k.0) (MayGiveOrder true) (λ number result t. elim t [ inl f ↦ inl f | inr b ↦ inr (refl, b.1) ]) mails k.2)),
   )
 
@@ -260,7 +260,7 @@ module _ (ahead : Ahead) (base : Base) (h : Steps) (lawful : IsLawfulHistory (ru
     requested_again = λ client seq other op r mails on e g k.
         with_backlog r mails (without_request r.backlog client ++ Call client seq op ∷ []) (last_held P (without_request r.backlog client) (Call client seq op) (no_order (Call client seq op) (λ number own. own)) (without_held P r.backlog client k.1.1.0)) k;
     turned = λ command answer backlog r mails on e no k. (let rest = with_backlog r mails backlog (first_call r command backlog e k.1.1.0).1 k in
-        (rest.0, rest.1, one_replied r.me (Tells rest.0) (none_told rest.0 r.me) r.group.core.id answer command mails rest.2));
+        (rest.0, rest.1, one_replied r.me (ReportsOrders rest.0) (none_told rest.0 r.me) r.group.core.id answer command mails rest.2));
     offers_value = λ slot set command r mails on near free e k. offers slot set command r mails (must_held P slot r.leader command e (k.1.1.2, k.1.1.3)) k;
     offers_noop = λ slot set r mails on near free k. offers slot set Noop r mails (no_order Noop (λ number own. own)) k;
     offers_act = λ slot set act acts r mails on near free e k. (let one = first_act r act acts e k.1.1.1 in offers slot set act (record r { acts = acts }) mails one.0 (with_acts r mails acts one.1 k));
@@ -269,15 +269,15 @@ module _ (ahead : Ahead) (base : Base) (h : Steps) (lawful : IsLawfulHistory (ru
 
   pub reported_says : TableSays reported_facts
   reported_says = record {
-    refuses = λ from group client seq op answer r mails t e k. (k.0, k.1, client_reported r.me (Tells k.0) (none_told k.0 r.me) client (name_of r) seq answer mails k.2);
+    refuses = λ from group client seq op answer r mails t e k. (k.0, k.1, client_reported r.me (ReportsOrders k.0) (none_told k.0 r.me) client (name_of r) seq answer mails k.2);
     tells = λ drawer line why r mails given e k. absurd given;
-    votes = λ from tx offer vote r mails t e k. (k.0, k.1, vote_reported r.me (Tells k.0) (none_told k.0 r.me) r.group from tx offer vote mails k.2);
-    sees = λ from tx watch vote r mails t e k. (k.0, k.1, watch_reported r.me (Tells k.0) (none_told k.0 r.me) from tx watch vote mails k.2);
-    vote_ends = λ from tx coord part vote outcome r mails t e k. (k.0, k.1, outcome_said r.me (Tells k.0) (none_told k.0 r.me) from tx part outcome mails k.2);
-    watch_ends = λ from tx coord part vote outcome r mails t e k. (k.0, k.1, outcome_said r.me (Tells k.0) (none_told k.0 r.me) from tx part outcome mails k.2);
+    votes = λ from tx offer vote r mails t e k. (k.0, k.1, vote_reported r.me (ReportsOrders k.0) (none_told k.0 r.me) r.group from tx offer vote mails k.2);
+    sees = λ from tx watch vote r mails t e k. (k.0, k.1, watch_reported r.me (ReportsOrders k.0) (none_told k.0 r.me) from tx watch vote mails k.2);
+    vote_ends = λ from tx coord part vote outcome r mails t e k. (k.0, k.1, outcome_said r.me (ReportsOrders k.0) (none_told k.0 r.me) from tx part outcome mails k.2);
+    watch_ends = λ from tx coord part vote outcome r mails t e k. (k.0, k.1, outcome_said r.me (ReportsOrders k.0) (none_told k.0 r.me) from tx part outcome mails k.2);
     offer_sent_on = λ from tx offer r mails t k. (k.0, k.1, puts r.me (MayGiveOrder k.0) from _ mails tt k.2);
     watch_sent_on = λ from tx watch r mails t k. (k.0, k.1, puts r.me (MayGiveOrder k.0) from _ mails tt k.2);
-    asks_next = λ from tx coord hint r mails t k. (k.0, k.1, next_one_asked r.me (Tells k.0) (none_told k.0 r.me) r.group.core.lock r.group.core from tx hint mails k.2);
+    asks_next = λ from tx coord hint r mails t k. (k.0, k.1, next_one_asked r.me (ReportsOrders k.0) (none_told k.0 r.me) r.group.core.lock r.group.core from tx hint mails k.2);
     prepare_behind = λ from group ballot from_slot r mails t found low k. (k.0, k.1, puts r.me (MayGiveOrder k.0) from _ mails tt k.2);
     accept_behind = λ from group report r mails t found low k. (k.0, k.1, puts r.me (MayGiveOrder k.0) from _ mails tt k.2);
     ask_behind = λ from group slot r mails t k. (k.0, k.1, puts r.me (MayGiveOrder k.0) from _ mails tt k.2);
@@ -295,7 +295,7 @@ module _ (ahead : Ahead) (base : Base) (h : Steps) (lawful : IsLawfulHistory (ru
     waited = λ waits r mails k. k;
     gives_up = λ tx body order heard r mails e on no k. with_acts r mails (r.acts ++ GiveUp tx ∷ []) (last_held P r.acts (GiveUp tx) (no_order (GiveUp tx) (λ number own. own)) k.1.1.1) k;
     agains = record {
-      reminds = λ r mails on k. (k.0, k.1, all_reminded r.me (Tells k.0) (none_told k.0 r.me) r.group.core.lock r.group mails k.2);
+      reminds = λ r mails on k. (k.0, k.1, all_reminded r.me (ReportsOrders k.0) (none_told k.0 r.me) r.group.core.lock r.group mails k.2);
       reasks = λ to slot command r mails on e k. (k.0, k.1, puts r.me (MayGiveOrder k.0) to _ mails tt k.2);
       relearns = λ to command r mails e k. (k.0, k.1, puts r.me (MayGiveOrder k.0) to _ mails tt k.2);
     };

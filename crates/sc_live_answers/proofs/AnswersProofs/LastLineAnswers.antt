@@ -29,6 +29,6 @@ last_lines_answer all_bounded sound_law quiet_law rest_law words scenario journa
     subst (Among seat) (sym s.seats) (Among-right seat (map (node_seat as_nodes scenario.groups scenario.policy) (numbers_from 1 scenario.nodes)) (map (client_seat (route_of s.first)) scenario.clients) (map_among (client_seat (route_of s.first)) scenario.clients asks a)) in
     let born = seat_found (births as_nodes scenario) seat s.seats_apart there in
     let lines : map line_of served.before ++ line.Go (client_actor asks.client) ∷ map line_of served.after ≡ schedule scenario = sym (ap (map line_of) served.lines_are ∙ map-append line_of served.before (Go asks.client ∷ served.after)) in
-    let told : Among (line.Go (client_actor asks.client)) (schedule scenario) = subst (λ (ls : List (Line OrderLine)). Among (line.Go (client_actor asks.client)) ls) lines (Among-right (line.Go (client_actor asks.client)) (map line_of served.before) (line.Go (client_actor asks.client) ∷ map line_of served.after) (inl refl)) in
-    let gone = started_when_whole sys (client_actor asks.client) seat born (schedule scenario) told journal lawful whole in
+    let reported : Among (line.Go (client_actor asks.client)) (schedule scenario) = subst (λ (ls : List (Line OrderLine)). Among (line.Go (client_actor asks.client)) ls) lines (Among-right (line.Go (client_actor asks.client)) (map line_of served.before) (line.Go (client_actor asks.client) ∷ map line_of served.after) (inl refl)) in
+    let gone = started_when_whole sys (client_actor asks.client) seat born (schedule scenario) reported journal lawful whole in
     answered_since sound_law words scenario s journal valid lawful asks a journal [] (sym (append-nil journal)) quiet gone first others groups

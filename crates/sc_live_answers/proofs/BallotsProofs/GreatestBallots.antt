@@ -108,9 +108,9 @@ module _ (r : ReplicaState) where
       let same : pumped (executed_ready place.0.ready place).0 ≡ place = ap (λ (step : Executed). pumped step.0) (idle_ready place.0.ready place k.0) ∙ idle_pump place k.0 in
       subst Idly (sym same) k
 
-  pub told_idly : (from : ℕ) (group : Draw) (slot : ℕ) (command : Command) → r.running ≡ false → r.leader.flights ≡ [] → slot ≡ next r → slot ≤ last_slot → Stays (entered command r) → Idly (mailed from (Learn group slot command) (r, [])).0
+  pub taught_idly : (from : ℕ) (group : Draw) (slot : ℕ) (command : Command) → r.running ≡ false → r.leader.flights ≡ [] → slot ≡ next r → slot ≤ last_slot → Stays (entered command r) → Idly (mailed from (Learn group slot command) (r, [])).0
   unfolding mailed
-  told_idly from group slot command off none at low stays = told_is Idly from slot command r at low (executed_idly command off none stays)
+  taught_idly from group slot command off none at low stays = told_is Idly from slot command r at low (executed_idly command off none stays)
 
   -- ---- a state
 

@@ -19,7 +19,7 @@ use Rattle.sc_live_journals.proofs.GroupsProofs.GroupLemmas.{pledged_none}
 use Rattle.sc_live_journals.specs.mail.MailDefinitions.{JournalsKeepIdle}
 use Rattle.sc_live_answers.proofs.BallotsProofs.PrepareSlots.{MovesLast}
 use Rattle.sc_live_answers.proofs.BallotsProofs.PrepareSlotRows.{turn, leader_last}
-use Rattle.sc_live_answers.proofs.BallotsProofs.GreatestBallots.{told_idly}
+use Rattle.sc_live_answers.proofs.BallotsProofs.GreatestBallots.{taught_idly}
 use Rattle.sc_live_answers.proofs.ReplicasProofs.PlayerEvents.{IsTurn, TurnRests, TurnCreates, TurnTakes, TurnMakes, TurnTold}
 use Rattle.sc_live_answers.specs.AnswerDefinitions.{AreFated}
 use Rattle.sc_live_answers.proofs.LedMailProofs.FormerMembers.{idle_fates, takes_fates, leads_fates, elects_fates}
@@ -135,7 +135,7 @@ module _ (words : ℕ → ℕ → ℕ × ℕ) (at : Sets) (over : Ends) (by : Sl
             let none = none_flies words at over by scenario rows seat event base course idle wb one so timely born calm was number mail node q t e.told.0 entry.0 entry.1 off_q in
             let low = (one.told rows seat number mail e.told.0 entry.0 q t.delivers entry.1 t.row_.was fits.1).0 in
             elim (told_or words at over by scenario rows seat event base course idle wb one so timely born calm was number mail node q t e.told.0 entry.0 entry.1 off_q) [
-              | inl stays ↦ absurd (true≢false (sym e.runs ∙ (ap (λ (x : ReplicaState). x.running) (sym there) ∙ (ap (λ b. (mailed mail.from b (q, [])).0.0.running) entry.1 ∙ (told_idly q mail.from base.core.id e.told.0 entry.0 off_q none fits.1 low stays).0))))
+              | inl stays ↦ absurd (true≢false (sym e.runs ∙ (ap (λ (x : ReplicaState). x.running) (sym there) ∙ (ap (λ b. (mailed mail.from b (q, [])).0.0.running) entry.1 ∙ (taught_idly q mail.from base.core.id e.told.0 entry.0 off_q none fits.1 low stays).0))))
               | inr may ↦ (let own_ = own_body words at over by scenario rows seat event base course idle wb one so timely born calm was number mail node q t e.told.0 entry.0 entry.1 in
                   let leads_ = (tables_elect mail.from e.told.0 entry.0 q fits off_q none low may (entered_name entry.0 q)).leads in
                   let same : (mailed mail.from mail.body (q, [])).0.0.leader.ballot ≡ next_ballot q = ap (λ b. (mailed mail.from b (q, [])).0.0.leader.ballot) own_ ∙ ap (λ l. l.ballot) leads_ in

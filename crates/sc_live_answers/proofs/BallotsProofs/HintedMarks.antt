@@ -74,26 +74,26 @@ module _ (at : Sets) (who : ℕ) where
 
 module _ (at : Sets) (course : Course) (who : ℕ) where
   -- nothing to who is no member of these states
-  pub told_nothing : (more slot : ℕ) → ((s : ℕ) → slot ≤ s → s < slot + more → (is_member (members_at at s) who ≡ false) × (is_member (members_at at (s + 1)) who ≡ false)) → taught_from at course slot more who ≡ []
-  told_nothing zero slot out = refl
-  told_nothing (suc more) slot out = ap (λ l. l ++ taught_from at course (slot + 1) more who) one ∙ told_nothing more (slot + 1) (λ s least most. out s (omega (arith, least)) (omega (arith, most)))
+  pub taught_nothing : (more slot : ℕ) → ((s : ℕ) → slot ≤ s → s < slot + more → (is_member (members_at at s) who ≡ false) × (is_member (members_at at (s + 1)) who ≡ false)) → taught_from at course slot more who ≡ []
+  taught_nothing zero slot out = refl
+  taught_nothing (suc more) slot out = ap (λ l. l ++ taught_from at course (slot + 1) more who) one ∙ taught_nothing more (slot + 1) (λ s least most. out s (omega (arith, least)) (omega (arith, most)))
     where
       one : reported_of at course slot who ≡ []
       one = (let o = out slot (omega arith) (omega arith) in cond_both (eqb who course.ballot.node) _ _ (λ l. l ≡ []) (λ _. refl) (λ _. cond-false (is_member (members_at at slot) who) _ _ o.0 ∙ cond-false (is_member (members_at at (slot + 1)) who) _ _ o.1))
 
   -- each entry to who is a member before each
-  told_one : (who ≡ course.ballot.node → ⊥) → (slot : ℕ) → is_member (members_at at slot) who ≡ true → reported_of at course slot who ≡ Teaches slot ∷ []
-  told_one apart slot m = cond-false (eqb who course.ballot.node) _ _ away ∙ cond-true (is_member (members_at at slot) who) _ _ m
+  taught_one : (who ≡ course.ballot.node → ⊥) → (slot : ℕ) → is_member (members_at at slot) who ≡ true → reported_of at course slot who ≡ Teaches slot ∷ []
+  taught_one apart slot m = cond-false (eqb who course.ballot.node) _ _ away ∙ cond-true (is_member (members_at at slot) who) _ _ m
     where
       away : eqb who course.ballot.node ≡ false
       away = elim (cases_Bool (eqb who course.ballot.node)) [ inl t ↦ absurd (apart (eqb-true who course.ballot.node t)) | inr f ↦ f ]
 
   pub told_all : (who ≡ course.ballot.node → ⊥) → (more slot next : ℕ) → ((s : ℕ) → slot ≤ s → s < slot + suc more → is_member (members_at at s) who ≡ true) → reached next (taught_from at course slot (suc more) who) ≡ slot + suc more
   told_all apart zero slot next members =
-      reached-append next (reported_of at course slot who) [] ∙ (ap (λ l. reached (reached next l) []) (told_one apart slot (members slot (omega arith) (omega arith))) ∙ omega arith)
+      reached-append next (reported_of at course slot who) [] ∙ (ap (λ l. reached (reached next l) []) (taught_one apart slot (members slot (omega arith) (omega arith))) ∙ omega arith)
   told_all apart (suc more) slot next members =
       reached-append next (reported_of at course slot who) (taught_from at course (slot + 1) (suc more) who)
-      ∙ (ap (λ l. reached (reached next l) (taught_from at course (slot + 1) (suc more) who)) (told_one apart slot (members slot (omega arith) (omega arith)))
+      ∙ (ap (λ l. reached (reached next l) (taught_from at course (slot + 1) (suc more) who)) (taught_one apart slot (members slot (omega arith) (omega arith)))
       ∙ (told_all apart more (slot + 1) (suc slot) (λ s least most. members s (omega (arith, least)) (omega (arith, most))) ∙ omega arith))
 
   -- nothing is offered to who decides none of these slots

@@ -65,8 +65,8 @@ comes_last at course slot who (inr same) out come = absurd (true≢false (sym co
 module _ (at : Sets) (course : Course) (who : ℕ) where
   module _ (slot : ℕ) where
     -- what is sent of one entry, by whether the node leads, learns it, and joins by it
-    abbrev told_by : Bool → Bool → Bool → Bool → List Mark
-    told_by lead told comes first = cond lead [] (cond told (Teaches slot ∷ []) (cond comes (Installs slot ∷ cond first [] (Prepares course.ballot ∷ [])) []))
+    abbrev taught_by : Bool → Bool → Bool → Bool → List Mark
+    taught_by lead taught comes first = cond lead [] (cond taught (Teaches slot ∷ []) (cond comes (Installs slot ∷ cond first [] (Prepares course.ballot ∷ [])) []))
 
     -- one of these, before others
     module _ (rest : List Mark) where
@@ -89,22 +89,22 @@ module _ (at : Sets) (course : Course) (who : ℕ) where
           subst (λ m. IsAbove top m d.1 × AreAbove (top_by top m) (e ∷ dated)) (sym one.0)
           (tt, subst (λ m. IsAbove top m e.1 × AreAbove (top_by top m) dated) (sym two.0) (omega (arith, asked, last, most), more dated (next_by (next_by next d.0) e.0) top two.1 low.1.1 most))
 
-      told_above : (lead told comes first : Bool) → (told ≡ false → comes ≡ true → course.bound ≤ slot + 1) → Rest → (dated : List Dated) (next top : ℕ) → marks_in dated ≡ told_by lead told comes first ++ rest → AreLow next dated → top ≤ course.bound → AreAbove top dated
-      told_above true told comes first last more = more
-      told_above false true comes first last more = one_mark (Teaches slot) (λ top. refl) (λ top from. tt) more
-      told_above false false true true last more = one_mark (Installs slot) (λ top. refl) (λ top from. tt) more
-      told_above false false true false last more = two_marks (last refl refl) more
-      told_above false false false first last more = more
+      taught_above : (lead taught comes first : Bool) → (taught ≡ false → comes ≡ true → course.bound ≤ slot + 1) → Rest → (dated : List Dated) (next top : ℕ) → marks_in dated ≡ taught_by lead taught comes first ++ rest → AreLow next dated → top ≤ course.bound → AreAbove top dated
+      taught_above true taught comes first last more = more
+      taught_above false true comes first last more = one_mark (Teaches slot) (λ top. refl) (λ top from. tt) more
+      taught_above false false true true last more = one_mark (Installs slot) (λ top. refl) (λ top from. tt) more
+      taught_above false false true false last more = two_marks (last refl refl) more
+      taught_above false false false first last more = more
 
   -- all of these marks, and what is offered behind them
   all_above : (after : Course) (more slot : ℕ) (offers : List Mark) → MovesLast at course slot (slot + more) → Each (IsOffer at after course.bound who) offers
       → (dated : List Dated) (next top : ℕ) → marks_in dated ≡ taught_from at course slot more who ++ offers → AreLow next dated → top ≤ course.bound → AreAbove top dated
   all_above after zero slot offers last asks dated next top fact low most = offers_above at after course.bound who top dated (subst (Each (IsOffer at after course.bound who)) (sym fact) asks)
   all_above after (suc more) slot offers last asks dated next top fact low most =
-      told_above slot (taught_from at course (slot + 1) more who ++ offers) (eqb who course.ballot.node) (is_member (members_at at slot) who) (is_member (members_at at (slot + 1)) who) course.is_first
+      taught_above slot (taught_from at course (slot + 1) more who ++ offers) (eqb who course.ballot.node) (is_member (members_at at slot) who) (is_member (members_at at (slot + 1)) who) course.is_first
       (λ out come. comes_last at course slot who (last slot (omega arith) (omega arith)) out come)
       (all_above after more (slot + 1) offers (λ s least less. last s (omega (arith, least)) (omega (arith, less))) asks) dated next top
-      (fact ∙ append_assoc (told_by slot (eqb who course.ballot.node) (is_member (members_at at slot) who) (is_member (members_at at (slot + 1)) who) course.is_first) (taught_from at course (slot + 1) more who) offers) low most
+      (fact ∙ append_assoc (taught_by slot (eqb who course.ballot.node) (is_member (members_at at slot) who) (is_member (members_at at (slot + 1)) who) course.is_first) (taught_from at course (slot + 1) more who) offers) low most
 
 -- ---- rows
 

@@ -25,8 +25,8 @@ each_left : {X : Type 0} (P : X → Type 0) (xs ys : List X) → Each P (xs ++ y
 each_left P [] ys e = tt
 each_left P (x ∷ xs) ys e = (e.0, each_left P xs ys e.1)
 
-told_quiet : (at : Sets) (course : Course) (slot who : ℕ) → (is_member (members_at at (slot + 1)) who ≡ true → is_member (members_at at slot) who ≡ true) → Each IsNoRound (reported_of at course slot who)
-told_quiet at course slot who k =
+taught_quiet : (at : Sets) (course : Course) (slot who : ℕ) → (is_member (members_at at (slot + 1)) who ≡ true → is_member (members_at at slot) who ≡ true) → Each IsNoRound (reported_of at course slot who)
+taught_quiet at course slot who k =
     cond_both (who == course.ballot.node) [] _ (Each IsNoRound) (λ _. tt)
     (λ _. cond_both (is_member (members_at at slot) who) (Teaches slot ∷ []) _ (Each IsNoRound) (λ _. (tt, tt))
     (λ f. cond_both (is_member (members_at at (slot + 1)) who) (welcome course slot) [] (Each IsNoRound) (λ t. absurd (true≢false (sym (k t) ∙ f))) (λ _. tt)))
@@ -116,12 +116,12 @@ module _ (at : Sets) (over : Ends) (by : SlotLeaders) (words : ℕ → ℕ → �
     few : (executed : ℕ) → next after ≡ course.newest + executed → next after ≤ course.bound → executed ≤ 1
     few executed e f = (let g = one_bound at course r leads.0.led (acts at course r leads.0.led (was.orderly host r has runs)) alone in let n = newest_is in few_executed course.newest executed (next after) course.bound e f (omega (arith, g, n)))
 
-    told_none : (executed : ℕ) → executed ≤ 1 → next after ≡ course.newest + executed → (who : ℕ) → Each IsNoRound (taught_from at course course.newest executed who)
-    told_none zero low e who = tt
-    told_none (suc zero) low e who =
-        Each-append IsNoRound (reported_of at course course.newest who) [] (told_quiet at course course.newest who (λ m.
+    taught_none : (executed : ℕ) → executed ≤ 1 → next after ≡ course.newest + executed → (who : ℕ) → Each IsNoRound (taught_from at course course.newest executed who)
+    taught_none zero low e who = tt
+    taught_none (suc zero) low e who =
+        Each-append IsNoRound (reported_of at course course.newest who) [] (taught_quiet at course course.newest who (λ m.
         ap (λ n. is_member (members_at at n) who) newest_is ∙ (ap (λ s. is_member s who) (sym members_same) ∙ (ap (λ n. is_member (members_at at n) who) e ∙ m)))) tt
-    told_none (suc (suc more)) low e who = absurd (omega (arith, low))
+    taught_none (suc (suc more)) low e who = absurd (omega (arith, low))
 
   taken_quiet : (m : Mark) → taken_mark base.core.id (mails rows) event ≡ Some m → IsNoRound m
   taken_quiet m t =
@@ -137,7 +137,7 @@ module _ (at : Sets) (over : Ends) (by : SlotLeaders) (words : ℕ → ℕ → �
       let k = l.led.leads in
       by_sent (led_course l.led.bound course after.0) (λ who. subst (Each IsNoRound) (sym (k.sends who))
       (Each-append IsNoRound (taught_from at course course.newest k.executed who) (k.offers who)
-      (told_none x after.0 row.was x_runs row.fact k.executed (few x after.0 row.was x_runs row.fact k.executed k.newest k.within) k.newest who)
+      (taught_none x after.0 row.was x_runs row.fact k.executed (few x after.0 row.was x_runs row.fact k.executed k.newest k.within) k.newest who)
       (Each-weaker (IsOffer at (led_course l.led.bound course after.0) course.bound who) IsNoRound (offer_quiet at (led_course l.led.bound course after.0) course.bound who) (k.offers who) (k.asks who))))
   by_row later (RowElects x after ballot row off self_election e) = absurd (true≢false (sym leads.0.runs ∙ self_election.self_election.idle))
 

@@ -24,7 +24,7 @@ use Rattle.sc_live_answers.specs.AnswerDefinitions.{IsAskedOn, IsSentOn, SaysWel
 use Rattle.sc_live_answers.proofs.BallotsProofs.AcceptedReports.{IsPlainMail, StandsAt, asked_low, polled_stands, nacked_low, nacked_stands}
 use Rattle.sc_live_answers.proofs.BallotsProofs.PrepareSlotRows.{NamesAlone, FitsMail, kept_of, turn, s, named_is, own_name, marked, most, goes, leader_moves, some_none}
 use Rattle.sc_live_answers.proofs.BallotsProofs.Ballots.{All_, mail_sees, order_sees}
-use Rattle.sc_live_answers.proofs.BallotsProofs.GreatestBallots.{IsIdleMail, mail_idly, order_idly, told_idly, installed_keeps, made_keeps, stays_or_may, entered_top}
+use Rattle.sc_live_answers.proofs.BallotsProofs.GreatestBallots.{IsIdleMail, mail_idly, order_idly, taught_idly, installed_keeps, made_keeps, stays_or_may, entered_top}
 use Rattle.sc_live_answers.proofs.ReplicasProofs.PlayerEvents.{TurnsMail, IsTurn, TurnRests, TurnCreates, TurnTakes, TurnMakes, TurnTold}
 use Rattle.std.proofs.lemmas.Option.{same_Some}
 
@@ -135,7 +135,7 @@ module _ (words : ℕ → ℕ → ℕ × ℕ) (at : Sets) (over : Ends) (by : Sl
         let none = ((kept_of words at over by scenario rows seat event base course idle wb one so timely born calm was r t.row_.was).2.0 off).0 in
         let rounds = one.rounds rows (row_of player_table seat rows event ∷ []) seat.who r refl t.row_.was in
         elim (stays_or_may (entered command r) (subst (λ (b : Ballot). b.round < 2 ^ 32 - 1) (sym (entered_top command r)) rounds.later)) [
-          | inl stays ↦ ShowsNone (same_least r.top after.top (ap (λ b. (mailed mail.from b (r, [])).0.0.top) e ∙ (told_idly r mail.from g slot command off none f.1 log.0 stays).1))
+          | inl stays ↦ ShowsNone (same_least r.top after.top (ap (λ b. (mailed mail.from b (r, [])).0.0.top) e ∙ (taught_idly r mail.from g slot command off none f.1 log.0 stays).1))
           | inr may ↦ (let own : mail.body ≡ Learn (name_of r) slot command = body ∙ ap (λ n. Learn n slot command) (sym (named_is words at over by scenario rows seat event base course idle wb one so timely born calm was number mail node r t)) in
               ShowsOwn (ap (λ b. (mailed mail.from b (r, [])).0.0.running) own ∙ (tables_elect mail.from slot command r f off none log.0 may (entered_name command r)).runs))
         ]

@@ -14,7 +14,7 @@ use Rattle.sc_node_table.specs.NodeDefinitions.{NodeState, replica_of, group_of_
 use Rattle.sc_meaning.specs.sound.SoundDefinitions.{groups_at, entries_at, decided_log, Ahead, Player, Lawful, births, node_seat, client_seat, player_table}
 use Rattle.sc_law_entries.specs.ring.RingDefinitions.{Sources}
 use Rattle.sc_law_entries.specs.logs.LogDefinitions.{Rows, AreFound, StayRecorded, DecideInTurn}
-use Rattle.sc_law_entries.proofs.LogsProofs.LogLemmas.{deciding_rows, groups_are_found, deciding_rows_stay, Told}
+use Rattle.sc_law_entries.proofs.LogsProofs.LogLemmas.{deciding_rows, groups_are_found, deciding_rows_stay, JournalFacts}
 use Rattle.sc_law_groups.proofs.GroupProofs.GroupLemmas.{first_of, h_of, held, IsOneOf, IsChildOf, mailed_kids, among_numbers, number_among}
 use Rattle.sc_law_groups.specs.whole.WholeDefinitions.{BeginsWell, OrdersAreAllowed, stories_at, MayQueue, IsHeardAt, PartiesAreApart, MergesFit}
 use Rattle.sc_law_groups.proofs.WholeProofs.WholeLemmas.{parties_are_apart, merges_fit, goes_on_from, speaks, members_stay_rosters, Holds}
@@ -49,7 +49,7 @@ module _ (sources : Sources) (ahead : Ahead) (words : ℕ → ℕ → ℕ × ℕ
   stay : StayRecorded ahead scenario.groups rows more
   stay = deciding_rows_stay sources ahead scenario.groups b.place rows more (subst (DecideInTurn sources ahead scenario.groups []) e all.turn)
 
-  told : Told sources ahead scenario.groups rows
+  told : JournalFacts sources ahead scenario.groups rows
   told = deciding_rows sources ahead scenario.groups b.place rows then_.turn
 
   apart : PartiesAreApart (stories_at ahead scenario.groups rows)

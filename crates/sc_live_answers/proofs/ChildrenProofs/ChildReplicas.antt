@@ -28,11 +28,11 @@ use Rattle.sc_live_answers.proofs.ChildrenProofs.NamedChildren.{child_members, n
 
 -- ---- what a leader tells
 
-told_in : (at : Sets) (course : Course) (start more who slot : ℕ) → start ≤ slot → slot < start + more → (who ≡ course.ballot.node → ⊥) → is_member (members_at at slot) who ≡ true → Among (Teaches slot) (taught_from at course start more who)
-told_in at course start zero who slot low high ne member = absurd (omega (arith, low, high))
-told_in at course start (suc more) who slot low high ne member = elim (cases_eq slot start) [
+reported_in : (at : Sets) (course : Course) (start more who slot : ℕ) → start ≤ slot → slot < start + more → (who ≡ course.ballot.node → ⊥) → is_member (members_at at slot) who ≡ true → Among (Teaches slot) (taught_from at course start more who)
+reported_in at course start zero who slot low high ne member = absurd (omega (arith, low, high))
+reported_in at course start (suc more) who slot low high ne member = elim (cases_eq slot start) [
   | inl fact ↦ Among-left (Teaches slot) (reported_of at course start who) (taught_from at course (start + 1) more who) (subst (Among (Teaches slot)) (sym (first fact)) (inl (ap (λ n. Teaches n) (sym fact))))
-  | inr no_ ↦ Among-right (Teaches slot) (reported_of at course start who) (taught_from at course (start + 1) more who) (told_in at course (start + 1) more who slot (past no_) (omega (arith, high)) ne member)
+  | inr no_ ↦ Among-right (Teaches slot) (reported_of at course start who) (taught_from at course (start + 1) more who) (reported_in at course (start + 1) more who slot (past no_) (omega (arith, high)) ne member)
 ]
   where
     first : slot ≡ start → reported_of at course start who ≡ Teaches start ∷ []
@@ -93,8 +93,8 @@ module _ (bear : EntriesCreateChildren) (wb : ScenariosAreWellBorn) (words : ℕ
     has_it fact has = inl (has.0, subst (λ n. view_at seats (with_event rows seat event) child.core.id n ≡ Some has.0) (sym fact) has.1)
 
     -- a Learn for it is taken, or still under way
-    told_still : Among (Teaches slot) (marks_at (players words (births as_nodes scenario)) rows base.core.id who) → Goal
-    told_still a = elim (cases_eq who seat.who) [
+    reported_still : Among (Teaches slot) (marks_at (players words (births as_nodes scenario)) rows base.core.id who) → Goal
+    reported_still a = elim (cases_eq who seat.who) [
       | inl fact ↦ own fact (Among-either (Teaches slot) (listed (taken_mark name (mails rows) event)) moved.left (subst (Among (Teaches slot)) (ap (marks_at (players words seats) rows name) fact ∙ moved.takes) a))
       | inr ne ↦ inr (subst (Among (Teaches slot)) (sym (moved.others who ne)) (Among-left (Teaches slot) (marks_at (players words seats) rows name who) (sent who) a))
     ]
@@ -108,7 +108,7 @@ module _ (bear : EntriesCreateChildren) (wb : ScenariosAreWellBorn) (words : ℕ
             inr (subst (Among (Teaches slot)) (sym (ap (marks_at (players words seats) (with_event rows seat event) name) fact ∙ moved.own)) (Among-left (Teaches slot) moved.left (sent seat.who) l))
 
     before : slot < course.newest → Goal
-    before low = elim (old slot child who b low member) [ inl has ↦ lasts has | inr a ↦ told_still a ]
+    before low = elim (old slot child who b low member) [ inl has ↦ lasts has | inr a ↦ reported_still a ]
 
     not_new : later ≡ course → course.newest ≤ slot → slot < later.newest → Goal
     not_new same high low = (let e = ap (λ (c : Course). c.newest) same in absurd (omega (arith, e, high, low)))
@@ -132,7 +132,7 @@ module _ (bear : EntriesCreateChildren) (wb : ScenariosAreWellBorn) (words : ℕ
           | inr ne ↦ inr (subst (Among (Teaches slot)) (sym (moved.others who ne)) (Among-right (Teaches slot) (marks_at (players words seats) rows name who) (sent who)
               (subst (Among (Teaches slot)) (sym (leads.sends who))
               (Among-left (Teaches slot) (taught_from at course course.newest leads.executed who) (leads.offers who)
-              (told_in at course course.newest leads.executed who slot high reach (λ e. ne (e ∙ sym leads.mine)) (was_member slot child who b member))))))
+              (reported_in at course course.newest leads.executed who slot high reach (λ e. ne (e ∙ sym leads.mine)) (was_member slot child who b member))))))
         ]
 
     after_all : slot < later.newest → Goal

@@ -13,7 +13,7 @@ use Rattle.sc_node_table.specs.NodeDefinitions.{ended, entered, learnt_to, welco
 use Rattle.sc_meaning.specs.sound.SoundDefinitions.{Ahead}
 use Rattle.sc_law_groups.proofs.GroupProofs.GroupLemmas.{IsLearnt, by_own_log, Steps, rule, first, IsFlying}
 use Rattle.sc_live_steps.specs.following.FollowingDefinitions.{AreAt}
-use Rattle.sc_live_steps.proofs.FollowingProofs.FollowingLemmas.{told_state, landed_is, entered_keeps, ends, announced_keeps, spoken_same}
+use Rattle.sc_live_steps.proofs.FollowingProofs.FollowingLemmas.{taught_state, landed_is, entered_keeps, ends, announced_keeps, spoken_same}
 use Rattle.sc_live_journals.proofs.LogsProofs.GroupLogLemmas.{at, IsAlong, is_next, next_ready_is, one_past}
 use Rattle.sc_live_answers.proofs.ReplicasProofs.Pumps.{pump_next}
 use Rattle.sc_live_answers.specs.AnswerDefinitions.{IsBirth}
@@ -75,12 +75,12 @@ module _ (ahead : Ahead) (open_slots : ahead.slots ≡ slots_ahead) (base : Base
     unfolding ended
     past_me acts backlog more =
         let here : ReplicaState = record (entered c r) { acts = acts; backlog = backlog } in
-        let told : Place = welcomed true (members r) (learnt_to true (members r) (next r) c (here, more)) in
+        let reported : Place = welcomed true (members r) (learnt_to true (members r) (next r) c (here, more)) in
         let over : ReplicaState = record here { leader = without_flight_at (next r) here.leader; ready = without_slot here.ready (next r) } in
-        let landed_there : landed true (next r) c told ≡ (over, told.1) =
-        ap (λ (q : ReplicaState). landed true (next r) c (q, told.1)) (told_state (members r) (next r) c here more) ∙ landed_is (next r) c here told.1 in
+        let landed_there : landed true (next r) c reported ≡ (over, reported.1) =
+        ap (λ (q : ReplicaState). landed true (next r) c (q, reported.1)) (taught_state (members r) (next r) c here more) ∙ landed_is (next r) c here reported.1 in
         subst (λ (p : Place). (looked (left p)).0.me ≡ r.me) (sym landed_there)
-        (ends (λ (p : Place). p.0.me ≡ r.me) over told.1 ((entered_keeps c r).0 ∙ runs) (is_next ahead open_slots base roster h lawful all prefixes c r k t).roster
+        (ends (λ (p : Place). p.0.me ≡ r.me) over reported.1 ((entered_keeps c r).0 ∙ runs) (is_next ahead open_slots base roster h lawful all prefixes c r k t).roster
         (λ stands stays. (entered_keeps c r).3) (λ why hint answer. (entered_keeps c r).3))
 
     one_me : (mails : List Mail) → (executed_one true c (r, mails)).0.me ≡ r.me

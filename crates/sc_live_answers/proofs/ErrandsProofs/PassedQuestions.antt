@@ -76,22 +76,22 @@ module _ (tells : ReplicasAreRecorded) (words : ℕ → ℕ → ℕ × ℕ) (sce
         ∙ (untouched.views deal.asked (asked_fresh (scene_at all rows) deal to untouched.stands) (stands_there scenario quiet _ _ g.rests.fact.quiet g.rests.known g.seen deal.asked stood) to ∙ (g.seen deal.asked to ∙ reached.1))
 
     module _ (m : Mail) (among : Among m (row_of player_table seat rows (Deliver number)).sent) (tx c : Draw) (hint : Option ℕ) (body : m.body ≡ TxElsewhere tx c hint) where
-      abbrev Told_so : Type 0
-      Told_so = (n : ℕ) × (hint ≡ Some n) × HasReplica (replicas_after scenario quiet) deal.asked n
+      abbrev ReportedSo : Type 0
+      ReportedSo = (n : ℕ) × (hint ≡ Some n) × HasReplica (replicas_after scenario quiet) deal.asked n
 
       leading : (place : Place) → IsSending (one words scenario first journal quiet rows seat number stage g).mail reached.0 place → (row_of player_table seat rows (Deliver number)).sent ≡ place.1 → ⊥
       leading place (Mute k) e = k c (Elsewhere tx m.to) (errand_there c (Elsewhere tx m.to) m place.1 (subst (Among m) e among) (ap (errand_by m.from m.to) body))
       leading place (AsksOn t d n b k) e = k c (Elsewhere tx m.to) (errand_there c (Elsewhere tx m.to) m place.1 (subst (Among m) e among) (ap (errand_by m.from m.to) body))
       leading place (Enters flight f work w named ballot slot b asked t d watch n node bond leaves k) e = k c (Elsewhere tx m.to) (errand_there c (Elsewhere tx m.to) m place.1 (subst (Among m) e among) (ap (errand_by m.from m.to) body))
 
-      passed : (tx2 c2 : Draw) → reached.0.running ≡ false → Among m (record { from = reached.0.me; to = mail0.from; body = TxElsewhere tx2 c2 reached.0.hint } ∷ []) → Told_so
+      passed : (tx2 c2 : Draw) → reached.0.running ≡ false → Among m (record { from = reached.0.me; to = mail0.from; body = TxElsewhere tx2 c2 reached.0.hint } ∷ []) → ReportedSo
       passed tx2 c2 off a =
           let only : record { from = x.me; to = mail0.from; body = TxElsewhere tx2 c2 x.hint } ≡ m = elim a [ inl e ↦ e | inr none ↦ absurd none ] in
           let same : hint ≡ x.hint = same_hint tx tx2 c c2 hint x.hint (sym body ∙ ap (λ (y : Mail). y.body) (sym only)) in
           let up = g.rests.fact.quiet.rises deal.asked to x reached.1 off (g.rests.reach.stand deal.asked stood to x reached.1) in
           (x.top.node, same ∙ up.hint_is, (up.there, up.is_there))
 
-      at_node : (node : NodeState) → value player_table seat rows ≡ Node node → Told_so
+      at_node : (node : NodeState) → value player_table seat rows ≡ Node node → ReportedSo
       at_node node n_is = elim (cases_Bool (may_come mail0.from mail0.body)) [
         | inr f ↦ (
             let response = ap (λ (y : NodeState × List Mail). (Node y.0, y.1)) (cond-false (may_come mail0.from mail0.body) (routed (group_of_mail mail0.body) mail0.from mail0.body node) (node, []) f) in
@@ -105,14 +105,14 @@ module _ (tells : ReplicasAreRecorded) (words : ℕ → ℕ → ℕ × ℕ) (sce
             by (record { node = node; taking = taking; here = found; children = f.0 }) f.1)
       ]
         where
-          by : (k : ComesTo words (births as_nodes scenario) rows seat number (one words scenario first journal quiet rows seat number stage g).mail deal.asked reached.0) → FindsReplica (births as_nodes scenario) rows seat number (one words scenario first journal quiet rows seat number stage g).mail deal.asked reached.0 → Told_so
+          by : (k : ComesTo words (births as_nodes scenario) rows seat number (one words scenario first journal quiet rows seat number stage g).mail deal.asked reached.0) → FindsReplica (births as_nodes scenario) rows seat number (one words scenario first journal quiet rows seat number stage g).mail deal.asked reached.0 → ReportedSo
           by k (AtLeader leads f) =
               absurd (leading (mailed mail0.from mail0.body (x, [])).0 (leader_sends words all rows seat number mail0 deal.asked x (record { comes = k; leads = leads }) (stage, g.untouched.stands) f) (row_of_comes words all rows seat number mail0 deal.asked x k).1.sends)
           by k (AtAnother beside f) =
               let a = aside_is mail0 x mail0.body mail_is.0 f in
               passed a.0 a.1 (aside_off mail0 x mail0.body mail_is.0 f) (subst (Among m) ((row_of_comes words all rows seat number mail0 deal.asked x k).1.sends ∙ ap (λ (p : Place). p.1) a.2) among)
 
-      by_player : (player : Player) → value player_table seat rows ≡ player → Told_so
+      by_player : (player : Player) → value player_table seat rows ≡ player → ReportedSo
       by_player (Client client) p_is = absurd (none_some (sym (view_was all rows seat (Deliver number) deal.asked g.goes.seated (Client client) p_is) ∙ has))
       by_player (Node node) p_is = at_node node p_is
 

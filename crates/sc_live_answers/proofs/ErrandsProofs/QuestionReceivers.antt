@@ -77,7 +77,7 @@ module _ (tells : ReplicasAreRecorded) (words : ℕ → ℕ → ℕ × ℕ) (sce
       let lead = (subst (λ t. Each (λ (x : Draw × ℕ). (scene_at all next).lead x.0 ≡ Some x.1) (heard_lead t)) s.turn_is stands.leads.1).0 in
       let bond = ap (λ (h : Here). h.bond) (subst (λ t. Each (λ (x : Draw × Here). (scene_at all next).at x.0 ≡ x.1) (heard s.next.tx t)) s.turn_is stands.parties.0.1.1).0 in
       let coord_bond = ap (λ (h : Here). h.bond) stands.parties.0.0 in
-      let told = heard_vote tells words scenario first journal quiet next g.goes.prefix.more g.goes.prefix.fact g.calm g.rests g.seen s.next stands.leads.0 coord_bond e s.deal.asked s.host s.turn_is lead bond p in
+      let reported = heard_vote tells words scenario first journal quiet next g.goes.prefix.more g.goes.prefix.fact g.calm g.rests g.seen s.next stands.leads.0 coord_bond e s.deal.asked s.host s.turn_is lead bond p in
       let frozen = frozen_is tells words scenario first journal quiet next g.goes.prefix.more g.goes.prefix.fact g.calm g.rests g.seen s.next stands.leads.0 coord_bond e s.deal.asked s.host s.turn_is lead bond p in
       let asked = next_is tells words scenario first journal quiet next g.goes.prefix.more g.goes.prefix.fact g.calm g.rests g.seen s.next stands.leads.0 coord_bond e s.deal.asked s.host s.turn_is lead bond p in
       let least = least_at tells words scenario first journal quiet rows seat number stage g (doer s.deal.asked s.host (Promising s.next.tx ∷ [])) p in
@@ -94,7 +94,7 @@ module _ (tells : ReplicasAreRecorded) (words : ℕ → ℕ → ℕ × ℕ) (sce
       let allowed : IsAllowedBy scenario journal coord flight.value = Each-among (λ (x : Flight Command). IsAllowedBy scenario journal coord x.value) r.leader.flights flight
       (flights_at tells words scenario first journal quiet rows (row_of player_table seat rows (Deliver number) ∷ g.goes.prefix.more) (prefix tells words scenario first journal quiet rows seat number stage g) g.calm g.rests g.seen coord s.deal.chief r (s.deal.chief, d.first, d.was) d.fact) among in
       let vote : IsAllowedBy scenario journal coord (RecordVote s.next.tx (Says.Yes yes.frozen) yes.by) = subst (λ t. IsAllowedBy scenario journal coord (RecordVote t (Says.Yes yes.frozen) yes.by)) (sym s.tx_same) (subst (IsAllowedBy scenario journal coord) yes.fact allowed) in
-      let same = one_vote scenario journal s.next.tx coord s.next.coord yes.frozen _ yes.by 0 vote told ∙ frozen in
+      let same = one_vote scenario journal s.next.tx coord s.next.coord yes.frozen _ yes.by 0 vote reported ∙ frozen in
       subst (λ n. HasReplica (replicas_after scenario quiet) s.next.asked n) (sym (k.1 ∙ ap (λ (x : Frozen). least_of x.succ.members) same)) there))
 
   -- ---- each step

@@ -51,9 +51,9 @@ module _ (rosters : SlotsHaveRosters) (views : ViewsAreReplicas) (logged : Repli
         let k = logged ahead words scenario journal base group rows s.seat s.node r s.fact in
         record { members_are = k.members; opens = k.opens; many = k.many; ends = ends.replicas ahead words scenario journal base group rows s.seat s.node r s.fact }
 
-    told_is : (rows : Rows) (seat : Seat Player) (number : ℕ) (mail : Mail) (slot : ℕ) (command : Command) (r : ReplicaState) → Delivers prefix rows seat number mail → mail.body ≡ Learn base.core.id slot command
+    reported_is : (rows : Rows) (seat : Seat Player) (number : ℕ) (mail : Mail) (slot : ℕ) (command : Command) (r : ReplicaState) → Delivers prefix rows seat number mail → mail.body ≡ Learn base.core.id slot command
         → view_at (births ahead scenario) rows base.core.id seat.who ≡ Some r → slot ≡ next r → (slot ≤ last_slot) × IsOfLog at over (entered command r)
-    told_is rows seat number mail slot command r row fact view there =
+    reported_is rows seat number mail slot command r row fact view there =
         let s = seen rows ((row_of player_table seat rows (Deliver number) ∷ row.row.more) ++ rest) seat.who r (before rows seat (Deliver number) row.row) view in
         let k = commands.entered ahead words scenario journal base group rows s.seat s.node r s.fact number mail slot command row.sent fact there in (
           has.told rows seat number mail slot command r row fact view there,
@@ -93,7 +93,7 @@ module _ (rosters : SlotsHaveRosters) (views : ViewsAreReplicas) (logged : Repli
     early = ends.begins ahead words scenario journal base group 0 (omega arith);
     states = state_is ahead words by scenario journal prefix rest base group split has;
     rounds = has.rounds;
-    told = told_is ahead words by scenario journal prefix rest base group split has;
+    told = reported_is ahead words by scenario journal prefix rest base group split has;
     sent = sent_is ahead words by scenario journal prefix rest base group split has;
     decided = decided_is ahead words by scenario journal prefix rest base group split has;
     rests = rests_is ahead words by scenario journal prefix rest base group split has;

@@ -125,9 +125,9 @@ module _ (go_on : LedRowsGoOn) (words : ℕ → ℕ → ℕ × ℕ) (scenario : 
     ]
     stands_row later (RowLeads r after row_ runs counts l same) =
         elim (among-either (Installs slot) _ (l.led.leads.offers mail.to) (subst (Among (Installs slot)) (l.led.leads.sends mail.to) there)) [
-          | inl told ↦ (let high = (tells_within at course l.led.leads.executed course.newest mail.to slot told).1 in
+          | inl reported ↦ (let high = (tells_within at course l.led.leads.executed course.newest mail.to slot reported).1 in
               let up = l.led.leads.newest in
-              let new = tells_new at course l.led.leads.executed course.newest mail.to slot told in
+              let new = tells_new at course l.led.leads.executed course.newest mail.to slot reported in
               elim (cases_Bool (over (slot + 1))) [
                 | inr stands ↦ stands
                 | inl gone ↦ elim (cases_Bool (over slot)) [

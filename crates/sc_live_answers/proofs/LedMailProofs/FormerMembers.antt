@@ -10,7 +10,7 @@ use Rattle.sc_live_steps.specs.following.FollowingDefinitions.{Mark, promise_by,
 use Rattle.sc_live_steps.proofs.FollowingProofs.FollowingLemmas.{hinted-append, counts_of, reached-append, pledged-append, reached-least, pledged-most, rises, offers-reached}
 use Rattle.sc_live_answers.proofs.BallotsProofs.PrepareSlots.{MovesLast}
 use Rattle.sc_live_answers.specs.AnswerDefinitions.{IsPassed, IsFated, EndsGone, AreFated}
-use Rattle.sc_live_answers.proofs.BallotsProofs.HintedMarks.{round_most, Silent, none_silent, counts_silent, open_or, member_open, told_nothing, told_all, offered_nothing}
+use Rattle.sc_live_answers.proofs.BallotsProofs.HintedMarks.{round_most, Silent, none_silent, counts_silent, open_or, member_open, taught_nothing, told_all, offered_nothing}
 use Rattle.sc_live_answers.proofs.BallotsProofs.PromisedBallots.{others_rise}
 
 module _ (at : Sets) (by : SlotLeaders) (now after : Progress) (node : ℕ) (taken : Option Mark) (sent marks marks_after : ℕ → List Mark) (hints hints_after : ℕ → Option ℕ) (row : IsRow now after node taken sent marks marks_after)
@@ -207,7 +207,7 @@ module _ (at : Sets) (by : SlotLeaders) (now after : Progress) (node : ℕ) (tak
     -- who decides no open slot after it is sent nothing
     sent_none : (who : ℕ) → (is_member (members_at at now.course.newest) who ≡ true → ⊥) → (is_member (members_at at after.course.newest) who ≡ true → ⊥) → ((slot : ℕ) → now.course.bound ≤ slot → slot < after.course.bound → is_member (at slot) who ≡ true → ⊥) → sent who ≡ []
     sent_none who out none free =
-        l.sends who ∙ (ap (λ x. x ++ l.offers who) (told_nothing at now.course who l.executed now.course.newest (λ s least most. (away s least (up_to s most), past s least (up_to s most)))) ∙ offered_nothing at now.course who after.course now.course.bound (l.offers who) free (l.asks who))
+        l.sends who ∙ (ap (λ x. x ++ l.offers who) (taught_nothing at now.course who l.executed now.course.newest (λ s least most. (away s least (up_to s most), past s least (up_to s most)))) ∙ offered_nothing at now.course who after.course now.course.bound (l.offers who) free (l.asks who))
       where
         up_to : (s : ℕ) → s < now.course.newest + l.executed → s < after.course.newest
         up_to s most = (let e = l.newest in omega (arith, e, most))
@@ -276,7 +276,7 @@ module _ (at : Sets) (by : SlotLeaders) (now after : Progress) (node : ℕ) (tak
     gone_fate gone who = elim (cases_eq who node) [
       | inl fact ↦ inl (subst (EndsGone after marks_after) (sym fact) (gone, at_end))
       | inr ne ↦ elim (cases_Bool (is_member (members_at at now.course.newest) who)) [
-        | inl m ↦ inl (gone, told_end ne m)
+        | inl m ↦ inl (gone, taught_end ne m)
         | inr out ↦ elim (cases_Bool (is_member (members_at at after.course.newest) who)) [
           | inl m ↦ inl (gone, then_.members who m)
           | inr none ↦ inr (quiet_fate who ne (sent_none who (λ m. true≢false (sym m ∙ out)) (λ m. true≢false (sym m ∙ none)) (λ slot least most m. (let even = stop.1 in let within = l.within in absurd (omega (arith, even, within, least, most))))))
@@ -293,8 +293,8 @@ module _ (at : Sets) (by : SlotLeaders) (now after : Progress) (node : ℕ) (tak
         at_end : reached (after.next node) (marks_after node) ≡ after.course.newest
         at_end = (let most = then_.within node in let least = reached-least (after.next node) (after.promise node) (marks_after node) (then_.fits node) in let here = l.next in omega (arith, most, least, here))
 
-        told_end : (who ≡ node → ⊥) → is_member (members_at at now.course.newest) who ≡ true → reached (after.next who) (marks_after who) ≡ after.course.newest
-        told_end ne m =
+        taught_end : (who ≡ node → ⊥) → is_member (members_at at now.course.newest) who ≡ true → reached (after.next who) (marks_after who) ≡ after.course.newest
+        taught_end ne m =
             reach_more who ne
             ∙ (ap (reached (reached (now.next who) (marks who))) (l.sends who)
             ∙ (reached-append (reached (now.next who) (marks who)) (taught_from at now.course now.course.newest l.executed who) (l.offers who)

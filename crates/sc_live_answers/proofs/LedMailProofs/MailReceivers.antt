@@ -7,13 +7,13 @@ use Rattle.sc_node_table.specs.NodeDefinitions.{listed}
 use Rattle.sc_words.specs.paxos.PaxosDefinitions.{below}
 use Rattle.sc_words.proofs.PaxosProofs.PaxosLemmas.{Each-append, Each-weaker}
 use Rattle.sc_live_steps.specs.following.FollowingDefinitions.{Mark, Asks, Votes, Teaches, Installs, Prepares, Promises, Course, Progress, Sets, members_at, promise_by, IsFit, AreFit, IsFollowing, IsRow, IsIdle, IsOffer, answered, Takes, reported_of, taught_from, Leads, Elects}
-use Rattle.sc_live_steps.proofs.FollowingProofs.FollowingLemmas.{each-row, offers-each, told-each, rises, reached-least}
+use Rattle.sc_live_steps.proofs.FollowingProofs.FollowingLemmas.{each-row, offers-each, taught-each, rises, reached-least}
 use Rattle.sc_live_answers.specs.AnswerDefinitions.{IsHeld, FindsOne, IsStranger, IsAtHome, HomesAreKept}
 
 -- what a stranger learns: nothing
-told_none : (at : Sets) (course : Course) (who : ℕ) → IsStranger at who → (more slot : ℕ) → taught_from at course slot more who ≡ []
-told_none at course who out zero slot = refl
-told_none at course who out (suc more) slot = ap (λ l. l ++ taught_from at course (slot + 1) more who) one ∙ told_none at course who out more (slot + 1)
+taught_none : (at : Sets) (course : Course) (who : ℕ) → IsStranger at who → (more slot : ℕ) → taught_from at course slot more who ≡ []
+taught_none at course who out zero slot = refl
+taught_none at course who out (suc more) slot = ap (λ l. l ++ taught_from at course (slot + 1) more who) one ∙ taught_none at course who out more (slot + 1)
   where
     one : reported_of at course slot who ≡ []
     one = cond_both (eqb who course.ballot.node) _ _ (λ l. l ≡ []) (λ _. refl) (λ _.
@@ -133,11 +133,11 @@ module _ (at : Sets) (now after : Progress) (node : ℕ) (taken : Option Mark) (
     leads_homes : IsAtHome at after marks_after
     leads_homes = kept grows
         (λ who. subst (Each (FindsOne after who)) (sym (l.sends who)) (Each-append (FindsOne after who) (taught_from at now.course now.course.newest l.executed who) (l.offers who)
-        (told-each at now.course who (FindsOne after who) (λ _. tt) (λ _. tt) lead_held l.executed now.course.newest)
+        (taught-each at now.course who (FindsOne after who) (λ _. tt) (λ _. tt) lead_held l.executed now.course.newest)
         (offers-each (FindsOne after who) at after.course now.course.bound who (λ ballot slot least most. tt) (l.offers who) (l.asks who))))
         (let old = h.promised node in let u = next_up grows (now.promise node).node in subst (IsHeld after) (sym l.promise) (omega (arith, old, u)))
         (λ out. true≢false (sym (was.leads l.runs).member ∙ (ap (is_member (members_at at now.course.newest)) (sym l.mine) ∙ out (now.course.newest + 3))))
-        (λ who out. l.sends who ∙ (ap (λ x. x ++ l.offers who) (told_none at now.course who out l.executed now.course.newest) ∙ offers_none at after.course now.course.bound who out (l.offers who) (l.asks who)))
+        (λ who out. l.sends who ∙ (ap (λ x. x ++ l.offers who) (taught_none at now.course who out l.executed now.course.newest) ∙ offers_none at after.course now.course.bound who out (l.offers who) (l.asks who)))
 
   module _ (e : Elects at now after node taken sent) where
     goes : now.next node ≤ after.next node

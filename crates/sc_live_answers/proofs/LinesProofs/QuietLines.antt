@@ -52,20 +52,20 @@ module _ (words : ℕ → ℕ → ℕ × ℕ) (scenario : Scenario) (begins : Is
       (one_before : HaveOneLog (replicas_after scenario before)) (one_log : HaveOneLog (replicas_after scenario rows)) (nobody : NobodyWaits scenario begins.first rows) (all : HaveAllReplies scenario begins.first rows)
       (desk : (who : ℕ) → is_born (system_of as_nodes words scenario) who ≡ false → Each (λ (mail : Mail). (name : Draw) → mark name mail ≡ Other) (rest (system_of as_nodes words scenario) rows who))
       (fresh : (asks : Asks) (client : ClientState) → Among asks scenario.clients → has_started rows (client_actor asks.client) ≡ false → value player_table (client_seat (route_of begins.first) asks) rows ≡ Client client → Born asks client) where
-    told : Asks → Bool × ClientState
-    told asks = (has_started rows (client_actor asks.client), client_in (value player_table (client_seat (route_of begins.first) asks) rows))
+    reported : Asks → Bool × ClientState
+    reported asks = (has_started rows (client_actor asks.client), client_in (value player_table (client_seat (route_of begins.first) asks) rows))
 
     answered_by : (asks : Asks) (a : Among asks scenario.clients) (gone : Bool) → has_started rows (client_actor asks.client) ≡ gone → IsAnswered gone (route_of begins.first) (j.clients asks a).client
     answered_by asks a false e = fresh asks (j.clients asks a).client a e (j.clients asks a).fact
     answered_by asks a true e = (let c = j.clients asks a in (nobody asks c.client a c.fact, all asks c.client a c.fact e ∙ sym (ap length c.calm.requests_are)))
 
-    told_is : (asks : Asks) (a : Among asks scenario.clients) → told asks ≡ (has_started rows (client_actor asks.client), (j.clients asks a).client)
-    unfolding told client_in
-    told_is asks a = ap (λ (p : Player). (has_started rows (client_actor asks.client), client_in p)) (j.clients asks a).fact
+    reported_is : (asks : Asks) (a : Among asks scenario.clients) → reported asks ≡ (has_started rows (client_actor asks.client), (j.clients asks a).client)
+    unfolding reported client_in
+    reported_is asks a = ap (λ (p : Player). (has_started rows (client_actor asks.client), client_in p)) (j.clients asks a).fact
 
-    answered : Each (λ client. IsAnswered client.0 (route_of begins.first) client.1) (map told scenario.clients)
-    answered = each_map told (λ (client : Bool × ClientState). IsAnswered client.0 (route_of begins.first) client.1) scenario.clients
-        (λ asks a. subst (λ (client : Bool × ClientState). IsAnswered client.0 (route_of begins.first) client.1) (sym (told_is asks a)) (answered_by asks a (has_started rows (client_actor asks.client)) refl))
+    answered : Each (λ client. IsAnswered client.0 (route_of begins.first) client.1) (map reported scenario.clients)
+    answered = each_map reported (λ (client : Bool × ClientState). IsAnswered client.0 (route_of begins.first) client.1) scenario.clients
+        (λ asks a. subst (λ (client : Bool × ClientState). IsAnswered client.0 (route_of begins.first) client.1) (sym (reported_is asks a)) (answered_by asks a (has_started rows (client_actor asks.client)) refl))
 
     quiet : AreReplicasQuiet (replicas_after scenario before) (replicas_after scenario rows)
     quiet = all_of.all_quiet words scenario begins before q frames ways s fact seated rows j served none one_before one_log
@@ -83,13 +83,13 @@ module _ (words : ℕ → ℕ → ℕ × ℕ) (scenario : Scenario) (begins : Is
 
     pub quiet_journal : IsQuietJournal words scenario begins.first rows
     quiet_journal = record {
-      clients = map told scenario.clients;
+      clients = map reported scenario.clients;
       quiet = record { groups = quiet.groups; at_rest = quiet.at_rest; rises = quiet.rises; answered = answered };
       kept = quiet.kept;
       noted = λ group stood. noted_by group stood (all_of.which words scenario begins before q frames ways s fact seated rows j served none one_before one_log group stood.lead.me stood.lead stood.newest.is_there);
       nodes = λ me one most. (let n = j.nodes me one most in (n.node, n.fact, n.me_is));
       players = λ asks a. (let c = j.clients asks a in
-          (c.client, c.fact, c.calm.me_is, c.calm.requests_are, subst (λ (x : Bool × ClientState). Among x (map told scenario.clients)) (told_is asks a) (map_among told scenario.clients asks a)));
+          (c.client, c.fact, c.calm.me_is, c.calm.requests_are, subst (λ (x : Bool × ClientState). Among x (map reported scenario.clients)) (reported_is asks a) (map_among reported scenario.clients asks a)));
       reached = all_of.home_still words scenario begins before q frames ways s fact seated rows j served none one_before one_log (route_of begins.first).group (least_of (route_of begins.first).members) q.reached;
       none = none;
       desk = desk;

@@ -43,12 +43,12 @@ module _ (c : ℕ) (begun : Requests) (frame : Frame) (fact : IsFrame frame) (fi
   unfolding entered forgotten
   entry_tokens r mails client seq op answer at =
       let e : ReplicaState = entered (Call client seq op) r in
-      let told = others_token c e.me (Learn (name_of e) (next r) (Call client seq op)) (λ to. refl) (members r) (sent_mails e client seq answer mails) in
+      let reported = others_token c e.me (Learn (name_of e) (next r) (Call client seq op)) (λ to. refl) (members r) (sent_mails e client seq answer mails) in
       let one = sent_token c e.me (client_actor client) (Answer (name_of e) seq answer) mails in
       let same = answer_token c client (name_of e) seq answer in
       let flights = without_flight_tokens c (next r) r.leader.flights in
       let ready = taken_slot_tokens c (next r) r.ready (Call client seq op) at in
-      omega (arith, told, one, same, flights, ready)
+      omega (arith, reported, one, same, flights, ready)
     where
       sent_mails : ReplicaState → ℕ → ℕ → AnswerBody → List Mail → List Mail
       sent_mails e client seq answer mails = mails ++ record { from = e.me; to = client_actor client; body = Answer (name_of e) seq answer } ∷ []

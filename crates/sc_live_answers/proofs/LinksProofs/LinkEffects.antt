@@ -25,17 +25,17 @@ module _ (Were Come : Draw → ℕ → Type 0) (come : (name : Draw) (node : ℕ
   abbrev LinkedSo : Core → Type 0
   LinkedSo = IsLinkedSo Were Come come
 
-  abbrev ToldSo : Story → Type 0
-  ToldSo = GivesAllowedOrder Were Come come
+  abbrev StorySo : Story → Type 0
+  StorySo = GivesAllowedOrder Were Come come
 
-  module _ (sources : Sources) (gs : Groups) (ys : Stories) (g : Draw) (s : Group) (facts : Facts sources.owner gs ys) (fact : gs g ≡ Some s) (linked : LinkedSo s.core) (all_told : (tx : Draw) (y : Story) → ys tx ≡ Some y → ToldSo y) (now : Good Were g s.core.members) where
+  module _ (sources : Sources) (gs : Groups) (ys : Stories) (g : Draw) (s : Group) (facts : Facts sources.owner gs ys) (fact : gs g ≡ Some s) (linked : LinkedSo s.core) (all_reported : (tx : Draw) (y : Story) → ys tx ≡ Some y → StorySo y) (now : Good Were g s.core.members) where
     named : s.core.id ≡ g
     named = (facts.group g s fact).named
 
     -- what holds after an entry
     pub record Lands (command : Command) (r : Group × Effect) : Type 0 where
       pub core : LinkedSo r.0.core
-      pub told : (tx : Draw) (y : Story) → stories_after s command r.1 ys tx ≡ Some y → ToldSo y
+      pub told : (tx : Draw) (y : Story) → stories_after s command r.1 ys tx ≡ Some y → StorySo y
       pub born : (d : Division) → division_of s.core command r.1 ≡ Some d → LinkedSo (right_core s.core d.at d.child)
 
     -- where the group's members, and those of a child, were so, and a node that moves comes
@@ -45,21 +45,21 @@ module _ (Were Come : Draw → ℕ → Type 0) (come : (name : Draw) (node : ℕ
         → ((tx : Draw) (vote : Vote) (by node : ℕ) → command ≡ RecordVote tx vote by → r.1 ≡ Was.Decided (Migrated node) → Come s.core.succ.group node) → Lands command r
 
     same_links : (c : Core) → c.succ ≡ s.core.succ → c.gone ≡ s.core.gone → LinkedSo c
-    same_links = kept_links Were Come come sources ys g s linked all_told
+    same_links = kept_links Were Come come sources ys g s linked all_reported
 
     -- one more story, or one that goes on
-    told_put : (tx : Draw) (y : Story) → ToldSo y → (t : Draw) (z : Story) → put ys tx (Some y) t ≡ Some z → ToldSo z
-    told_put tx y k t z e = elim (from_at ys tx (Some y) t (Some z) e) [ inl m ↦ subst ToldSo (same_Some y z m.1) k | inr m ↦ all_told t z m.1 ]
+    reported_put : (tx : Draw) (y : Story) → StorySo y → (t : Draw) (z : Story) → put ys tx (Some y) t ≡ Some z → StorySo z
+    reported_put tx y k t z e = elim (from_at ys tx (Some y) t (Some z) e) [ inl m ↦ subst StorySo (same_Some y z m.1) k | inr m ↦ all_reported t z m.1 ]
 
-    recorded_next : (tx : Draw) (f : Story → Story) → ((y : Story) → ys tx ≡ Some y → ToldSo y → ToldSo (f y)) → (t : Draw) (z : Story) → with_story ys tx f t ≡ Some z → ToldSo z
-    recorded_next tx f k t z e = elim (from_at ys tx (option_map f (ys tx)) t (Some z) e) [ inl m ↦ by (ys tx) refl m.1 | inr m ↦ all_told t z m.1 ]
+    recorded_next : (tx : Draw) (f : Story → Story) → ((y : Story) → ys tx ≡ Some y → StorySo y → StorySo (f y)) → (t : Draw) (z : Story) → with_story ys tx f t ≡ Some z → StorySo z
+    recorded_next tx f k t z e = elim (from_at ys tx (option_map f (ys tx)) t (Some z) e) [ inl m ↦ by (ys tx) refl m.1 | inr m ↦ all_reported t z m.1 ]
       where
-        by : (o : Option Story) → ys tx ≡ o → option_map f o ≡ Some z → ToldSo z
+        by : (o : Option Story) → ys tx ≡ o → option_map f o ≡ Some z → StorySo z
         by None q w = absurd (none-some z w)
-        by (Some y) q w = subst ToldSo (same_Some (f y) z w) (k y q (all_told tx y q))
+        by (Some y) q w = subst StorySo (same_Some (f y) z w) (k y q (all_reported tx y q))
 
-    new_told : (body : Body) → ToldSo (new_story s body)
-    new_told body = record { voted = λ f e. absurd (none-some (Ballot.Yes f) e); ended = λ into e. absurd (none-some (Merged into) e) }
+    new_reported : (body : Body) → StorySo (new_story s body)
+    new_reported body = record { voted = λ f e. absurd (none-some (Ballot.Yes f) e); ended = λ into e. absurd (none-some (Merged into) e) }
 
     not_abort : (into : Route) → Some Abort ≡ Some (Merged into) → ⊥
     not_abort into e = cc
@@ -84,7 +84,7 @@ module _ (Were Come : Draw → ℕ → Type 0) (come : (name : Draw) (node : ℕ
 
     -- ---- what changes no link
 
-    stays : (command : Command) (r : Group × Effect) → r.0.core.succ ≡ s.core.succ → r.0.core.gone ≡ s.core.gone → ((tx : Draw) (y : Story) → stories_after s command r.1 ys tx ≡ Some y → ToldSo y) → division_of s.core command r.1 ≡ None → Claim command r
+    stays : (command : Command) (r : Group × Effect) → r.0.core.succ ≡ s.core.succ → r.0.core.gone ≡ s.core.gone → ((tx : Draw) (y : Story) → stories_after s command r.1 ys tx ≡ Some y → StorySo y) → division_of s.core command r.1 ≡ None → Claim command r
     stays command r succ gone tell none after births moves = record { core = same_links r.0.core succ gone; told = tell; born = λ d e. no_child d (sym none ∙ e) }
 
     -- an effect that adds nothing to a story
@@ -97,17 +97,17 @@ module _ (Were Come : Draw → ℕ → Type 0) (come : (name : Draw) (node : ℕ
     adds_nothing c (Was.Decided outcome) none = absurd none
     adds_nothing c _ none = (refl, refl, refl, refl, refl)
 
-    same_told : (c : Command) (effect : Effect) → AddsNothing effect → (t : Draw) (z : Story) → stories_after s c effect ys t ≡ Some z → ToldSo z
-    same_told (Split at child order) effect q t z e =
-        all_told t z (subst (λ b. cond (b && not (is_alone s.core)) (put ys child (Some (new_story s (At.Split at child)))) ys t ≡ Some z) q.0 e)
-    same_told (Begin tx body order) effect q t z e = all_told t z (subst (λ b. cond b (put ys tx (Some (new_story s body))) ys t ≡ Some z) q.0 e)
-    same_told (Prepared tx offer) effect q t z e = recorded_next tx (with_vote (vote_in s effect)) (λ y w k. subst (λ v. ToldSo (with_vote v y)) (sym q.1) k) t z e
-    same_told (Watched tx watch) effect q t z e = recorded_next tx (with_watch_vote (watch_vote_in effect)) (λ y w k. subst (λ v. ToldSo (with_watch_vote v y)) (sym q.2) k) t z e
-    same_told (RecordVote tx vote by) effect q t z e =
-        recorded_next tx (with_answer s.core vote effect) (λ y w k. subst (λ b. ToldSo (cond b (with_asked s.core vote y) (with_decision (decided_in effect) y))) (sym q.0) (subst (λ o. ToldSo (with_decision o y)) (sym q.3) k)) t z e
-    same_told (RecordWatch tx vote by) effect q t z e = recorded_next tx (with_decision (decided_in effect)) (λ y w k. subst (λ o. ToldSo (with_decision o y)) (sym q.3) k) t z e
-    same_told (GiveUp tx) effect q t z e = recorded_next tx (with_decision (decided_in effect)) (λ y w k. subst (λ o. ToldSo (with_decision o y)) (sym q.3) k) t z e
-    same_told _ effect q t z e = all_told t z e
+    same_reported : (c : Command) (effect : Effect) → AddsNothing effect → (t : Draw) (z : Story) → stories_after s c effect ys t ≡ Some z → StorySo z
+    same_reported (Split at child order) effect q t z e =
+        all_reported t z (subst (λ b. cond (b && not (is_alone s.core)) (put ys child (Some (new_story s (At.Split at child)))) ys t ≡ Some z) q.0 e)
+    same_reported (Begin tx body order) effect q t z e = all_reported t z (subst (λ b. cond b (put ys tx (Some (new_story s body))) ys t ≡ Some z) q.0 e)
+    same_reported (Prepared tx offer) effect q t z e = recorded_next tx (with_vote (vote_in s effect)) (λ y w k. subst (λ v. StorySo (with_vote v y)) (sym q.1) k) t z e
+    same_reported (Watched tx watch) effect q t z e = recorded_next tx (with_watch_vote (watch_vote_in effect)) (λ y w k. subst (λ v. StorySo (with_watch_vote v y)) (sym q.2) k) t z e
+    same_reported (RecordVote tx vote by) effect q t z e =
+        recorded_next tx (with_answer s.core vote effect) (λ y w k. subst (λ b. StorySo (cond b (with_asked s.core vote y) (with_decision (decided_in effect) y))) (sym q.0) (subst (λ o. StorySo (with_decision o y)) (sym q.3) k)) t z e
+    same_reported (RecordWatch tx vote by) effect q t z e = recorded_next tx (with_decision (decided_in effect)) (λ y w k. subst (λ o. StorySo (with_decision o y)) (sym q.3) k) t z e
+    same_reported (GiveUp tx) effect q t z e = recorded_next tx (with_decision (decided_in effect)) (λ y w k. subst (λ o. StorySo (with_decision o y)) (sym q.3) k) t z e
+    same_reported _ effect q t z e = all_reported t z e
 
     same_births : (c : Command) (effect : Effect) → AddsNothing effect → division_of s.core c effect ≡ None
     same_births c effect q = undivided s c effect q.0 q.4
@@ -129,7 +129,7 @@ module _ (Were Come : Draw → ℕ → Type 0) (come : (name : Draw) (node : ℕ
 
     -- ---- votes
 
-    vote_reported : (tx : Draw) (offer : Offer) → IsAllowed sources ys g (Prepared tx offer) → (why : Option No) (y : Story) → ys tx ≡ Some y → ToldSo y → ToldSo (with_vote (vote_by s (past_of why)) y)
+    vote_reported : (tx : Draw) (offer : Offer) → IsAllowed sources ys g (Prepared tx offer) → (why : Option No) (y : Story) → ys tx ≡ Some y → StorySo y → StorySo (with_vote (vote_by s (past_of why)) y)
     vote_reported tx offer a (Some why) y e k = record { voted = λ f q. absurd (no_yes why f q); ended = k.ended }
     vote_reported tx offer a None y e k = record {
       voted = λ f q. (
@@ -145,16 +145,16 @@ module _ (Were Come : Draw → ℕ → Type 0) (come : (name : Draw) (node : ℕ
       ended = k.ended;
     }
 
-    watched_told : (past : Past) (y : Story) → ToldSo y → ToldSo (with_watch_vote (Some past) y)
-    watched_told past y k = record { voted = k.voted; ended = k.ended }
+    watched_reported : (past : Past) (y : Story) → StorySo y → StorySo (with_watch_vote (Some past) y)
+    watched_reported past y k = record { voted = k.voted; ended = k.ended }
 
     -- ---- what a coordinator decides
 
-    ends_told : (o : Outcome) → ((into : Route) → Some o ≡ Some (Merged into) → Good Were into.group into.members) → (y : Story) → ToldSo y → ToldSo (with_decision (Some o) y)
-    ends_told o good y k = record { voted = k.voted; ended = good }
+    ends_reported : (o : Outcome) → ((into : Route) → Some o ≡ Some (Merged into) → Good Were into.group into.members) → (y : Story) → StorySo y → StorySo (with_decision (Some o) y)
+    ends_reported o good y k = record { voted = k.voted; ended = good }
 
-    aborted_told : (y : Story) → ToldSo y → ToldSo (with_decision (Some Abort) y)
-    aborted_told = ends_told Abort (λ into e. absurd (not_abort into e))
+    aborted_reported : (y : Story) → StorySo y → StorySo (with_decision (Some Abort) y)
+    aborted_reported = ends_reported Abort (λ into e. absurd (not_abort into e))
 
     module _ (f : Frozen) (come_behind : Good Come f.succ.group f.succ.members) where
       merged_good : Good Were g (united s.core.members f.members) → Good Come (merged_succ s.core f).group (merged_succ s.core f).members
@@ -166,9 +166,9 @@ module _ (Were Come : Draw → ℕ → Type 0) (come : (name : Draw) (node : ℕ
 
     -- it aborts
     ended_by : (c : Command) (tx : Draw) → EndsIt tx c → Claim c (decided s tx Abort)
-    ended_by (RecordVote t vote by) tx e = stays (RecordVote t vote by) (decided s tx Abort) refl refl (recorded_next t (with_decision (Some Abort)) (λ y w k. aborted_told y k)) refl
-    ended_by (RecordWatch t vote by) tx e = stays (RecordWatch t vote by) (decided s tx Abort) refl refl (recorded_next t (with_decision (Some Abort)) (λ y w k. aborted_told y k)) refl
-    ended_by (GiveUp t) tx e = stays (GiveUp t) (decided s tx Abort) refl refl (recorded_next t (with_decision (Some Abort)) (λ y w k. aborted_told y k)) refl
+    ended_by (RecordVote t vote by) tx e = stays (RecordVote t vote by) (decided s tx Abort) refl refl (recorded_next t (with_decision (Some Abort)) (λ y w k. aborted_reported y k)) refl
+    ended_by (RecordWatch t vote by) tx e = stays (RecordWatch t vote by) (decided s tx Abort) refl refl (recorded_next t (with_decision (Some Abort)) (λ y w k. aborted_reported y k)) refl
+    ended_by (GiveUp t) tx e = stays (GiveUp t) (decided s tx Abort) refl refl (recorded_next t (with_decision (Some Abort)) (λ y w k. aborted_reported y k)) refl
     ended_by _ tx e = absurd e
 
     -- it carries out what its participant voted for
@@ -177,7 +177,7 @@ module _ (Were Come : Draw → ℕ → Type 0) (come : (name : Draw) (node : ℕ
       own = own_story gs ys sources.owner g s tx body order None facts fact lock
 
       heard : Good Come f.succ.group f.succ.members × ((offer : Offer) → own.story.offer ≡ Some offer → Good Were offer.part f.members)
-      heard = (all_told tx own.story own.fact).voted f (ap (λ (z : Story). z.vote) (same_Some own.story cast.0 (sym own.fact ∙ cast.1)) ∙ cast.2)
+      heard = (all_reported tx own.story own.fact).voted f (ap (λ (z : Story). z.vote) (same_Some own.story cast.0 (sym own.fact ∙ cast.1)) ∙ cast.2)
 
       part_good : (offer : Offer) → offer_for s.core body ≡ Some offer → Good Were offer.part f.members
       part_good offer e = heard.1 offer (own.offer ∙ e)
@@ -186,7 +186,7 @@ module _ (Were Come : Draw → ℕ → Type 0) (come : (name : Draw) (node : ℕ
           → Claim (RecordVote tx (Ballot.Yes f) by) (decided after tx o)
       decides by after o core good members births moves = record {
         core = (let k = core members (λ node e. moves tx (Ballot.Yes f) by node refl (ap Was.Decided e)) in record { succ = k.succ; gone = k.gone });
-        told = recorded_next tx (with_decision (Some o)) (λ y e k. ends_told o (good members) y k);
+        told = recorded_next tx (with_decision (Some o)) (λ y e k. ends_reported o (good members) y k);
         born = λ d e. no_child d e;
       }
 
@@ -204,42 +204,42 @@ module _ (Were Come : Draw → ℕ → Type 0) (come : (name : Draw) (node : ℕ
     MayLand command r = IsAllowed sources ys g command → Claim command r
 
     ended_links : (tx : Draw) (o : Outcome) (r : Group × Effect) → LinkedSo r.0.core → MayLand (Finish tx o) r
-    ended_links tx o r k a after births moves = record { core = k; told = λ t y e. all_told t y e; born = λ d e. no_child d e }
+    ended_links tx o r k a after births moves = record { core = k; told = λ t y e. all_reported t y e; born = λ d e. no_child d e }
 
     lands_walk : MachineWalk s MayLand
     lands_walk = record {
-      same = λ c effect none a. stays c (s, effect) refl refl (same_told c effect (adds_nothing c effect none)) (same_births c effect (adds_nothing c effect none));
-      serves = λ client seq op a. stays (Call client seq op) _ refl refl (λ t y e. all_told t y e) refl;
-      joins = λ node order may a. stays (Join node order) _ refl refl (λ t y e. all_told t y e) refl;
-      leaves = λ node order may a. stays (Leave node order) _ refl refl (λ t y e. all_told t y e) refl;
+      same = λ c effect none a. stays c (s, effect) refl refl (same_reported c effect (adds_nothing c effect none)) (same_births c effect (adds_nothing c effect none));
+      serves = λ client seq op a. stays (Call client seq op) _ refl refl (λ t y e. all_reported t y e) refl;
+      joins = λ node order may a. stays (Join node order) _ refl refl (λ t y e. all_reported t y e) refl;
+      leaves = λ node order may a. stays (Leave node order) _ refl refl (λ t y e. all_reported t y e) refl;
       splits = λ at child order may new alone a after births moves. (
           let div : Division = record { at = at; child = child } in
           let born : cond (is_alone s.core) (Some div) None ≡ Some div = cond-true (is_alone s.core) (Some div) None alone in
           let k = splits_links at child after (births div born) in record {
             core = k.0;
-            told = λ t y e. all_told t y (subst (λ b. cond (not b) (put ys child (Some (new_story s (At.Split at child)))) ys t ≡ Some y) alone e);
+            told = λ t y e. all_reported t y (subst (λ b. cond (not b) (put ys child (Some (new_story s (At.Split at child)))) ys t ≡ Some y) alone e);
             born = child_links at child k.1 (cond (is_alone s.core) (Some div) None) born;
           });
       begins_split = λ at child order may new others a. stays (Split at child order) _ refl refl
-          (λ t y e. told_put child (new_story s (At.Split at child)) (new_told (At.Split at child)) t y (subst (λ b. cond (not b) (put ys child (Some (new_story s (At.Split at child)))) ys t ≡ Some y) others e))
+          (λ t y e. reported_put child (new_story s (At.Split at child)) (new_reported (At.Split at child)) t y (subst (λ b. cond (not b) (put ys child (Some (new_story s (At.Split at child)))) ys t ≡ Some y) others e))
           (cond-false (is_alone s.core) (Some (record { at = at; child = child })) None others);
-      begins = λ tx body order may new a. stays (Begin tx body order) _ refl refl (λ t y e. told_put tx (new_story s body) (new_told body) t y e) refl;
+      begins = λ tx body order may new a. stays (Begin tx body order) _ refl refl (λ t y e. reported_put tx (new_story s body) (new_reported body) t y e) refl;
       offers = λ tx offer new a. stays (Prepared tx offer) _ refl refl (recorded_next tx (with_vote (vote_by s (past_of (vote_of s.core offer)))) (vote_reported tx offer a (vote_of s.core offer))) refl;
-      watches = λ tx watch new a. stays (Watched tx watch) _ refl refl (recorded_next tx (with_watch_vote (Some (past_of (watch_vote_of s.core watch)))) (λ y e k. watched_told (past_of (watch_vote_of s.core watch)) y k)) refl;
+      watches = λ tx watch new a. stays (Watched tx watch) _ refl refl (recorded_next tx (with_watch_vote (Some (past_of (watch_vote_of s.core watch)))) (λ y e k. watched_reported (past_of (watch_vote_of s.core watch)) y k)) refl;
       hears = λ tx order lock f by other a. stays (RecordVote tx (Ballot.Yes f) by) _ refl refl (recorded_next tx (with_asked s.core (Ballot.Yes f)) (λ y e k. record { voted = k.voted; ended = k.ended })) refl;
       aborts = λ c tx ends body order got lock a. ended_by c tx ends;
       divides = λ tx at child order got lock by can a after births moves. (
           let born : division_in s.core.lock ≡ Some (record { at = at; child = child }) = ap division_in lock in
           let k = splits_links at child after (births (record { at = at; child = child }) born) in record {
             core = (let c = k.0 in record { succ = c.succ; gone = c.gone });
-            told = recorded_next tx (with_decision (Some Divided)) (λ y e t. ends_told Divided (λ into q. absurd (not_divided into q)) y t);
+            told = recorded_next tx (with_decision (Some Divided)) (λ y e t. ends_reported Divided (λ into q. absurd (not_divided into q)) y t);
             born = child_links at child k.1 (division_in s.core.lock) born;
           });
       merges = λ tx order h lock by may a after births moves. (
           let own = own_story gs ys sources.owner g s tx At.Merge order (Some h) facts fact lock in
-          let behind = ((all_told tx own.story own.fact).voted h.frozen (own.heard_vote h refl).0).0 in record {
+          let behind = ((all_reported tx own.story own.fact).voted h.frozen (own.heard_vote h refl).0).0 in record {
             core = record { succ = merged_good h.frozen behind after; gone = linked.gone };
-            told = recorded_next tx (with_decision (Some (Merged (merged_route s.core h.frozen)))) (λ y e t. ends_told (Merged (merged_route s.core h.frozen)) (route_good h.frozen behind after) y t);
+            told = recorded_next tx (with_decision (Some (Merged (merged_route s.core h.frozen)))) (λ y e t. ends_reported (Merged (merged_route s.core h.frozen)) (route_good h.frozen behind after) y t);
             born = λ d e. no_child d e;
           });
       closes = λ tx order lock f by two may a.
@@ -251,7 +251,7 @@ module _ (Were Come : Draw → ℕ → Type 0) (come : (name : Draw) (node : ℕ
           (λ _ moves. record { succ = more_good Were Come come s.core.succ.group f.members node (good_come Were Come come s.core.succ.group f.members (part_good tx (At.Migrate node) order lock f a _ refl)) (moves node refl); gone = linked.gone })
           (λ _ into e. absurd (not_migrated node into e));
       stays = λ tx offer lock. ended_links tx Abort _ (same_links _ refl refl);
-      goes = λ tx offer lock route a. ended_links tx (Merged route) _ (record { succ = linked.succ; gone = λ into e. subst (λ (x : Route). Good Were x.group x.members) (same_Some route into e) ((all_told tx a.0 a.1).ended route a.2) }) a;
+      goes = λ tx offer lock route a. ended_links tx (Merged route) _ (record { succ = linked.succ; gone = λ into e. subst (λ (x : Route). Good Were x.group x.members) (same_Some route into e) ((all_reported tx a.0 a.1).ended route a.2) }) a;
       gains = λ tx offer lock at gift can. ended_links tx (Moved at (Some gift)) _ (same_links _ refl refl);
       loses = λ tx offer lock at can. ended_links tx (Moved at None) _ (same_links _ refl refl);
       welcomes = λ tx offer lock node few. ended_links tx (Migrated node) _ (same_links _ refl refl);

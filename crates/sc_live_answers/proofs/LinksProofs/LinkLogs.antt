@@ -15,7 +15,7 @@ use Rattle.sc_law_entries.proofs.HistoryProofs.HistoryLemmas.{logs_make_states}
 use Rattle.sc_law_entries.specs.ring.RingDefinitions.{Sources, first_recorded}
 use Rattle.sc_law_entries.proofs.RingProofs.RingLemmas.{store_after}
 use Rattle.sc_law_entries.specs.logs.LogDefinitions.{Rows, AreFound, DecideInTurn}
-use Rattle.sc_law_entries.proofs.LogsProofs.LogLemmas.{stays_there, log_append, deciding_rows, groups_are_found, Told, IsBorn, state_there}
+use Rattle.sc_law_entries.proofs.LogsProofs.LogLemmas.{stays_there, log_append, deciding_rows, groups_are_found, JournalFacts, IsBorn, state_there}
 use Rattle.sc_law_entries.specs.names.NameDefinitions.{OtherNamesAreFree, TakenOrdersAreAllowed, TakenWishesAreAllowed, WishesAreAtPositions, owner_in}
 use Rattle.sc_law_groups.specs.whole.WholeDefinitions.{BeginsWell, IsReady, section_op, OrdersAreAllowed, ValidScenariosBeginWell}
 use Rattle.sc_law_groups.proofs.WholeProofs.WholeLemmas.{holds, members_stay_rosters, orders_allowed, Holds}
@@ -75,7 +75,7 @@ module _ (bounded : ValidScenariosAreBounded) (begin : ValidScenariosBeginWell) 
     pub turn : DecideInTurn sources as_nodes scenario.groups [] rows
     turn = all.turn
 
-    pub told : Told sources as_nodes scenario.groups rows
+    pub told : JournalFacts sources as_nodes scenario.groups rows
     told = deciding_rows sources as_nodes scenario.groups well.place rows turn
 
     pub found : AreFound as_nodes scenario.groups rows

@@ -67,7 +67,7 @@ module _ (Were Come : Draw → ℕ → Type 0) (come : (name : Draw) (node : ℕ
     λ who m. elim (with_any_member nodes node who m) [ inl was ↦ g.1 who was | inr fact ↦ subst (Come name) (sym fact) c ],
   )
 
-  module _ (sources : Sources) (ys : Stories) (g : Draw) (s : Group) (linked : IsLinkedSo s.core) (all_told : (tx : Draw) (y : Story) → ys tx ≡ Some y → GivesAllowedOrder y) where
+  module _ (sources : Sources) (ys : Stories) (g : Draw) (s : Group) (linked : IsLinkedSo s.core) (all_reported : (tx : Draw) (y : Story) → ys tx ≡ Some y → GivesAllowedOrder y) where
     pub kept_links : (c : Core) → c.succ ≡ s.core.succ → c.gone ≡ s.core.gone → IsLinkedSo c
     kept_links c succ gone = record {
       succ = subst (λ (l : Link). Good Come l.group l.members) (sym succ) linked.succ;

@@ -132,8 +132,8 @@ module _ (n : ℕ) (told : is_reported n ≡ true) (words : ℕ → ℕ → ℕ 
   Reports = IsReported births (with_event rows seat (Deliver number)) n
 
   -- what the row reports is reported then
-  told_then : (result : OrderResult) → IsTold (row_of player_table seat rows (Deliver number)).sent n result → IsTold (mails then) n result
-  told_then result k = subst (λ ms. IsTold ms n result) (sym (mails-snoc rows (row_of player_table seat rows (Deliver number)))) (told_behind n result (mails rows) (row_of player_table seat rows (Deliver number)).sent k)
+  reported_then : (result : OrderResult) → IsTold (row_of player_table seat rows (Deliver number)).sent n result → IsTold (mails then) n result
+  reported_then result k = subst (λ ms. IsTold ms n result) (sym (mails-snoc rows (row_of player_table seat rows (Deliver number)))) (told_behind n result (mails rows) (row_of player_table seat rows (Deliver number)).sent k)
 
   module _ (group : Draw) (chief : ℕ) (r : ReplicaState) (fact : view_at births rows group chief ≡ Some r) (leads : now.lead group ≡ Some chief) (none : IsOrderHeld after → ⊥) where
     runs : r.running ≡ true
@@ -165,7 +165,7 @@ module _ (n : ℕ) (told : is_reported n ≡ true) (words : ℕ → ℕ → ℕ 
         by (Ran flight w among had e gone made stays reports) =
             let own : w ≡ work = same_one w work (sym had ∙ one) in
             elim (order_ends n r.me r.group flight.value w e (subst IsOrder (sym own) order) (number_of flight among) (λ tx opens. named tx (sym own ∙ opens)) (l.entries group chief r fact runs flight among)) [
-              | inl ends ↦ record { result = ends.0; told = told_then ends.0 (acted.3 n ends.0 (reports n ends.0 told ends.1)); cause = λ aborted. absurd (ends.2 aborted) }
+              | inl ends ↦ record { result = ends.0; told = reported_then ends.0 (acted.3 n ends.0 (reports n ends.0 told ends.1)); cause = λ aborted. absurd (ends.2 aborted) }
               | inr goes ↦ absurd (asks_none (stays goes.3) goes.0 goes.1 goes.2 (ap (λ (g : Group). bond_of g.core) made ∙ goes.4))
             ]
 
@@ -184,7 +184,7 @@ module _ (n : ℕ) (told : is_reported n ≡ true) (words : ℕ → ℕ → ℕ 
         by (Ran flight w among had e gone made stays reports) =
             let own : w ≡ Records tx (is_watch turn) agreed host = same_one w (Records tx (is_watch turn) agreed host) (sym had ∙ one) in
             elim (record_ends n r.me r.group tx asked turn bound (l.locks group chief r fact) flight.value (is_watch turn) agreed host (e ∙ ap Some own) refl (l.entries group chief r fact runs flight among)) [
-              | inl ends ↦ record { result = ends.0; told = told_then ends.0 (acted.3 n ends.0 (reports n ends.0 told ends.1)); cause = λ aborted. voted_down tx asked turn bound (voted (ends.2 aborted)) }
+              | inl ends ↦ record { result = ends.0; told = reported_then ends.0 (acted.3 n ends.0 (reports n ends.0 told ends.1)); cause = λ aborted. voted_down tx asked turn bound (voted (ends.2 aborted)) }
               | inr goes ↦ absurd (asks_none (stays goes.3) goes.0 goes.1 goes.2 (ap (λ (g : Group). bond_of g.core) made ∙ goes.4))
             ]
 

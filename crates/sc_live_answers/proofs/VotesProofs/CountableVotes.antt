@@ -90,9 +90,9 @@ module _ (lone_fly : WorksFlyLone) (entries_count : OrderEntriesCount) (leave_on
   one_flies flight e slot =
       let f = find_found (λ (x : Flight Command). eqb x.slot (next r)) r.leader.flights flight e in
       let work : IsWork flight.value = Each-among (λ (x : Flight Command). IsWork x.value) r.leader.flights flight counts.alone.flights f.0 in
-      let told = tell.led births rows base.core.id who r alone in
+      let reported = tell.led births rows base.core.id who r alone in
       let one = leave_one (scene_at births rows) base.core.id under in
-      let works_are : works r ≡ listed one.0 = sym told.1.1 ∙ one.1 in
+      let works_are : works r ≡ listed one.0 = sym reported.1.1 ∙ one.1 in
       let some : Among work.0 (works r) =
       among-right work.0 (works_in r.acts) (works_in r.backlog ++ (works_flying r.leader.flights ++ works_ready r.ready))
       (among-right work.0 (works_in r.backlog) (works_flying r.leader.flights ++ works_ready r.ready)

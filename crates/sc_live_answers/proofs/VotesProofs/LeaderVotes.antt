@@ -243,8 +243,8 @@ module _ (words : ℕ → ℕ → ℕ × ℕ) (births : List (Seat Player)) (row
         (among-left work.0 (works_flying r.leader.flights) (works_ready r.ready) (work_flies r.leader.flights flight work.0 f.0 work.1))) in
         let only : works r ≡ work.0 ∷ [] = one.1 ∙ only_work one.0 work.0 (subst (Among work.0) one.1 some) in
         let flies = fly_lone work.0 flight r runs (free_of words births rows seat number mail base node r h runs) only lone.flights lone.ready f.0 place in
-        let told = tell.led births rows base.core.id seat.who r lead_alone in
-        let expects : WorkExpects work.0 (bond_of r.group.core) = subst (WorkExpects work.0) told.1.0 (stages_expect_work (scene_at births rows) base.core.id work.0 under (told.1.1 ∙ only)) in
+        let reported = tell.led births rows base.core.id seat.who r lead_alone in
+        let expects : WorkExpects work.0 (bond_of r.group.core) = subst (WorkExpects work.0) reported.1.0 (stages_expect_work (scene_at births rows) base.core.id work.0 under (reported.1.1 ∙ only)) in
         by_command flight flies work flight.value refl work (subst (λ o. ExpectsBy o (bond_of r.group.core)) (sym work.1) expects) so
 
     found_at : FindsFlight births rows seat number mail base.core.id r slot

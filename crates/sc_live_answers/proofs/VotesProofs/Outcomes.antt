@@ -121,9 +121,9 @@ module _ (sources : Sources) (ring : Ring) (gs : Groups) (ys : Stories) (g : Dra
 
   -- ---- what a coordinator decides
 
-  module _ (tx : Draw) (f : Frozen) (told : IsVoteCast ys tx (Vows.Yes f)) where
+  module _ (tx : Draw) (f : Frozen) (reported : IsVoteCast ys tx (Vows.Yes f)) where
     its_vote : (y : Story) → ys tx ≡ Some y → y.vote ≡ Some (Vows.Yes f)
-    its_vote y e = ap (λ (z : Story). z.vote) (same_Some y told.0 (sym e ∙ told.1)) ∙ told.2
+    its_vote y e = ap (λ (z : Story). z.vote) (same_Some y reported.0 (sym e ∙ reported.1)) ∙ reported.2
 
     voted_is : (y : Story) → ys tx ≡ Some y → (frozen : Frozen) → y.vote ≡ Some (Vows.Yes frozen) → f ≡ frozen
     voted_is y e frozen v = same_vote f frozen (sym (its_vote y e) ∙ v)

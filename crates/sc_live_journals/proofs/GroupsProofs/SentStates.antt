@@ -14,7 +14,7 @@ use Rattle.sc_node_table.specs.NodeDefinitions.{entered, learnt_to, welcomed, la
 use Rattle.sc_law_walks.specs.WalkDefinitions.{IfThere}
 use Rattle.sc_law_walks.proofs.WalkLemmas.{idle_ready}
 use Rattle.sc_live_steps.specs.following.FollowingDefinitions.{Mark, Installs, mark_of, marks_of, Course, Progress, Sets, IsLed, IsNext, AreNext, IsLeadOf, IsAside, DecidesNext, marks_for}
-use Rattle.sc_live_steps.proofs.FollowingProofs.FollowingLemmas.{aside_is, order_is, entered_keeps, landed_told, ends, entries_lead, with_state, with_both, stays_led, ready_of, among-left, among-right, same_mark, vote_row, turned_kept, spoken_kept, ended_kept, announced_kept}
+use Rattle.sc_live_steps.proofs.FollowingProofs.FollowingLemmas.{aside_is, order_is, entered_keeps, landed_taught, ends, entries_lead, with_state, with_both, stays_led, ready_of, among-left, among-right, same_mark, vote_row, turned_kept, spoken_kept, ended_kept, announced_kept}
 use Rattle.sc_live_journals.specs.groups.GroupDefinitions.{IsStateFrom}
 pub use Rattle.sc_words.proofs.PaxosProofs.ListLemmas.{Each-from as each_among}
 
@@ -171,7 +171,7 @@ module _ (name : Draw) (own : ℕ) where
 
       own_past : Own (looked (left (landed true (next r) command told))).1
       own_past =
-          subst (λ (p : Place). Own (looked (left p)).1) (sym (landed_told (members r) (next r) command here more))
+          subst (λ (p : Place). Own (looked (left p)).1) (sym (landed_taught (members r) (next r) command here more))
           (ends (λ p. Own p.1) over told.1 ((entered_keeps command r).0 ∙ led.running) is_next.roster (λ stands stays. own_told) (λ why hint answer. ended_kept name Keeps (λ _ h. h) (λ a b c one other h. other (one h)) keep hint answer over told.1 own_told))
 
     pub own_entry : Own (executed_one true command (r, mails)).1

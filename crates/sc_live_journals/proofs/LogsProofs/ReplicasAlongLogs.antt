@@ -16,7 +16,7 @@ use Rattle.sc_law_entries.proofs.HistoryProofs.HistoryLemmas.{state_same}
 use Rattle.sc_law_walks.specs.WalkDefinitions.{IfThere}
 use Rattle.sc_law_walks.proofs.WalkLemmas.{entered_next, entered_group}
 use Rattle.sc_live_steps.specs.following.FollowingDefinitions.{Sets, members_at, IsNext, AreNext, AreEntries, AreAt}
-use Rattle.sc_live_steps.proofs.FollowingProofs.FollowingLemmas.{told_state, landed_is, entered_keeps, ends, announced_keeps, spoken_same, are_next as are_later, entered_sets}
+use Rattle.sc_live_steps.proofs.FollowingProofs.FollowingLemmas.{taught_state, landed_is, entered_keeps, ends, announced_keeps, spoken_same, are_next as are_later, entered_sets}
 use Rattle.sc_law_groups.proofs.GroupProofs.GroupLemmas.{IsLearnt, by_own_log, Steps, rule, first, birth, AreSets, Each-without_slot, slot_among, rest_length}
 use Rattle.sc_law_groups.proofs.WholeProofs.WholeLemmas.{members_stay_rosters}
 
@@ -147,12 +147,12 @@ module _ (ahead : Ahead) (open_slots : ahead.slots ≡ slots_ahead) (base : Base
     unfolding ended
     past acts backlog more =
         let here : ReplicaState = record (entered c r) { acts = acts; backlog = backlog } in
-        let told : Place = welcomed true (members r) (learnt_to true (members r) (next r) c (here, more)) in
+        let reported : Place = welcomed true (members r) (learnt_to true (members r) (next r) c (here, more)) in
         let over : ReplicaState = record here { leader = without_flight_at (next r) here.leader; ready = without_slot here.ready (next r) } in
-        let landed_there : landed true (next r) c told ≡ (over, told.1) =
-        ap (λ (q : ReplicaState). landed true (next r) c (q, told.1)) (told_state (members r) (next r) c here more) ∙ landed_is (next r) c here told.1 in
+        let landed_there : landed true (next r) c reported ≡ (over, reported.1) =
+        ap (λ (q : ReplicaState). landed true (next r) c (q, reported.1)) (taught_state (members r) (next r) c here more) ∙ landed_is (next r) c here reported.1 in
         subst (λ (p : Place). IsPast (looked (left p)).0) (sym landed_there)
-        (ends (λ p. IsPast p.0) over told.1 ((entered_keeps c r).0 ∙ runs) (is_next c r k t).roster
+        (ends (λ p. IsPast p.0) over reported.1 ((entered_keeps c r).0 ∙ runs) (is_next c r k t).roster
         (λ stands stays. (record { whole = along.whole; is_log = along.is_log; next_is = along.next_is; group_is = along.group_is; ready = Each-without_slot _ (entered c r).ready (next r) along.ready }, entered_next c r, λ on. stands))
         (λ why hint answer. (record { whole = along.whole; is_log = along.is_log; next_is = along.next_is; group_is = along.group_is; ready = tt }, entered_next c r, λ on. absurd (true≢false (sym on)))))
 

@@ -9,7 +9,7 @@ use Rattle.sc_live_steps.specs.calm.CalmDefinitions.{Rows}
 use Rattle.sc_live_steps.specs.orders.OrderDefinitions.{First, Lone, Next, is_watch, Bond, Unbound, Asking, Errand, Question, Reply, Work, Opens, Answers, Records, Ends, bound_by, Stage, IsAt, Still, Step, BeginsDeal, Votes, Aborts, Hears, IsFreed, LastFreed, OneFreed, TwoFreed, ByOrder, ByChange, ByDeal, ByVote, ByNo, ByHearing, ByDeciding, ByEnd, StepsBy, Kind, Changed, Opened, Voted, Aborted, Decided, Heard, Ended, results, work_by, works_in, works_flying, works_ready, works, bond_of, errands_for, EntryLeaves, FliesLone, Decides, RunsAlone, Works, MayFile}
 use Rattle.sc_live_steps.specs.orders.StageSteps as Follow
 use Rattle.sc_live_steps.specs.orders.StageSteps.{Changes}
-use Rattle.sc_live_steps.proofs.OrderStepsProofs.OrderStepLemmas.{changed-step, opened-step, voted-step, votes-count-alone, aborted-step, decided-step, heard-step, ended-step, tables-order, entries-run-alone, told-step}
+use Rattle.sc_live_steps.proofs.OrderStepsProofs.OrderStepLemmas.{changed-step, opened-step, voted-step, votes-count-alone, aborted-step, decided-step, heard-step, ended-step, tables-order, entries-run-alone, reported-step}
 use Rattle.sc_live_journals.specs.rows.RowDefinitions.{with_event}
 use Rattle.sc_live_journals.specs.scenes.SceneDefinitions.{scene_at, errands_sent, IsSceneKind, IsOfGroup, IsTablesRow, LeadsAlone, Stays, IsEntrysRow, StageAfter, KeepsStage, IsBeside, Led, Unled, IsCounting, IsEntry, StaysIn, VotesKeep, IsOrdered, OrdersKeep}
 use Rattle.sc_live_journals.proofs.ScenesProofs.RowKinds.{only_as, asides_stay, asides_are, leaders_are, entries_are}
@@ -123,7 +123,7 @@ module _ (words : ℕ → ℕ → ℕ × ℕ) (births : List (Seat Player)) (row
   led_by : LeadsAlone births rows group seat.who r → MayFile r → IsAt Still (scene_at births rows) → (w : Option OrderRefusal) → untaken node.draws line r ≡ w → StageAfter births rows seat told Still
   led_by leads may still None e =
       let t = tables-order.taken node.draws line r may e in
-      let to = told-step (scene_at births rows) (scene_at births (with_event rows seat told)) group None (errands_sent rows seat told) (rows_are words births rows seat told group row.0)
+      let to = reported-step (scene_at births rows) (scene_at births (with_event rows seat told)) group None (errands_sent rows seat told) (rows_are words births rows seat told group row.0)
       (leaders_are.told births rows seat told group t.0 r place (record { leads = leads; table = row.1; works_so = t.3 }) may.idle t.1 refl) still in
       (to.0, to.1, inr (record { group = group; step = ByOrder to.2; of = refl; begins = λ e. tt }))
   led_by leads may still (Some why) e =

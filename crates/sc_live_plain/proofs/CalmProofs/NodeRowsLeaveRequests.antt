@@ -25,7 +25,7 @@ use Rattle.sc_live_plain.proofs.CalmProofs.CalmClients.{asking}
 use Rattle.sc_live_plain.proofs.LeadersProofs.LeadingReplicas.{IsHeld, IsReportedOf}
 use Rattle.sc_live_plain.proofs.PlainRowsProofs.Lists.{some_is}
 use Rattle.sc_live_plain.proofs.PlainRowsProofs.NodeRows.{NodeRow, found_after, others_after}
-use Rattle.sc_live_plain.proofs.CalmProofs.RequestsLeftByRows.{IsFinal, does_holds, sent_left, others_left, own_left, behind_left, told_final}
+use Rattle.sc_live_plain.proofs.CalmProofs.RequestsLeftByRows.{IsFinal, does_holds, sent_left, others_left, own_left, behind_left, reported_final}
 use Rattle.sc_live_plain.proofs.PlainRowsProofs.ReplicaRows.{Does}
 use Rattle.sc_live_plain.proofs.PlainRowsProofs.RepeatedMail.{mail_of}
 use Rattle.sc_live_plain.proofs.CalmProofs.SoughtRequests.{IsAnswered, IsHeldAt, IsSought, AreSought, me_of}
@@ -109,8 +109,8 @@ module _ (words : ℕ → ℕ → ℕ × ℕ) (scenario : Scenario) (begins : Is
         after_is group = replica_is words scenario (rows ++ row_of player_table (nseat me) rows (Deliver number) ∷ []) group me (Node step.0) number_is became
 
         -- an answer that the node sends
-        told_later : (answer : AnswerBody) → EndsWait answer → Among (mail_of w.target (client_actor client.me) (Answer w.group w.seq answer)) step.1 → Later
-        told_later answer ends sent =
+        recorded_later : (answer : AnswerBody) → EndsWait answer → Among (mail_of w.target (client_actor client.me) (Answer w.group w.seq answer)) step.1 → Later
+        recorded_later answer ends sent =
             inr (inl (record {
               answer = answer;
               ends = ends;
@@ -130,11 +130,11 @@ module _ (words : ℕ → ℕ → ℕ × ℕ) (scenario : Scenario) (begins : Is
                 ∙ ap (λ d. mail_of w.target (client_actor client.me) (Answer d w.seq answer)) name
 
             answered_later : (answer : AnswerBody) → EndsWait answer → Among (mail_of k.frame.lead (client_actor client.me) (Answer k.frame.core.id w.seq answer)) k.place.1 → Later
-            answered_later answer ends sent = told_later answer ends (subst (Among (mail_of w.target (client_actor client.me) (Answer w.group w.seq answer))) (sym said_is) (subst (λ m. Among m k.place.1) (mail_is answer) sent))
+            answered_later answer ends sent = recorded_later answer ends (subst (Among (mail_of w.target (client_actor client.me) (Answer w.group w.seq answer))) (sym said_is) (subst (λ m. Among m k.place.1) (mail_is answer) sent))
 
             taught_slots : IsReportedOf k.frame k.place.1 client.me w.seq → Later
             taught_slots x =
-                let f = told_final words scenario begins rows asks a client was who w k.frame k.place.1 k.row.said x in
+                let f = reported_final words scenario begins rows asks a client was who w k.frame k.place.1 k.row.said x in
                 answered_later f.0 (final_ends f.0 f.1) f.2
 
             held_later : IsHeld k.place.0 client.me w.seq → Later
@@ -207,7 +207,7 @@ module _ (words : ℕ → ℕ → ℕ × ℕ) (scenario : Scenario) (begins : Is
               let mail : mail_of me (client_actor c) (Answer group seq answer) ≡ mail_of w.target (client_actor client.me) (Answer w.group w.seq answer) =
               ap (λ x. mail_of x (client_actor c) (Answer group seq answer)) (sym here)
               ∙ (ap (λ x. mail_of w.target (client_actor x) (Answer group seq answer)) who_ ∙ (ap (λ d. mail_of w.target (client_actor client.me) (Answer d seq answer)) g ∙ ap (λ m. mail_of w.target (client_actor client.me) (Answer w.group m answer)) seq_)) in
-              told_later answer ends (subst (Among (mail_of w.target (client_actor client.me) (Answer w.group w.seq answer))) (sym (ap (λ (x : NodeState × List Mail). x.1) step_is_)) (inl mail))
+              recorded_later answer ends (subst (Among (mail_of w.target (client_actor client.me) (Answer w.group w.seq answer))) (sym (ap (λ (x : NodeState × List Mail). x.1) step_is_)) (inl mail))
 
           held_aside : Held
           held_aside h =

@@ -20,7 +20,7 @@ use Rattle.sc_live_plain.proofs.PlainProofs.PlainSteps.{node_number}
 use Rattle.sc_live_plain.proofs.PlainRowsProofs.RowViews.{Journal, replica_is}
 use Rattle.sc_live_plain.proofs.PlainRowsProofs.RowViews.{client_is}
 use Rattle.sc_live_plain.proofs.CalmProofs.QuietFrames.{quiet_stand_plain}
-use Rattle.sc_live_plain.proofs.PlainRowsProofs.MarkLists.{told-other as other_told}
+use Rattle.sc_live_plain.proofs.PlainRowsProofs.MarkLists.{taught-other as other_reported}
 
 -- ---- mail that is nothing to a group
 
@@ -44,7 +44,7 @@ other_below bound (m ∷ marks) e = (subst (IsBelow bound) (sym e.0) tt, other_b
 between_others : (frame : Frame) (view : View) (marks : ℕ → List Mark) → ((node : ℕ) → Each IsOther (marks node)) → IsBetween frame view (λ node. [])
     → ((slot : ℕ) (voters : List ℕ) → view.voters slot ≡ Some voters → ⊥) → IsBetween frame view marks
 between_others frame view marks others b none = record {
-  learners = λ node m ne. (let l = b.learners node m ne in record { left = l.left; reaches = l.reaches; tells = other_told (marks node) (others node) ∙ l.tells });
+  learners = λ node m ne. (let l = b.learners node m ne in record { left = l.left; reaches = l.reaches; tells = other_reported (marks node) (others node) ∙ l.tells });
   order = λ node. other_order (view.next node) (marks node) (others node);
   below = λ node. other_below view.bound (marks node) (others node);
   low = b.low;

@@ -96,9 +96,9 @@ module _ (words : ℕ → ℕ → ℕ × ℕ) (scenario : Scenario) where
         omega (arith, low, at, one, number)
 
     -- so what its leader answers for good is the answer to the request that waits
-    pub told_final : (frame : Frame) (sent : List Mail) → Each (λ mail. IsPlainBody (IsBegun scenario rows) frame mail.from mail.to mail.body) sent → IsReportedOf frame sent client.me w.seq
+    pub reported_final : (frame : Frame) (sent : List Mail) → Each (λ mail. IsPlainBody (IsBegun scenario rows) frame mail.from mail.to mail.body) sent → IsReportedOf frame sent client.me w.seq
         → (answer : AnswerBody) × IsFinal answer × Among (mail_of frame.lead (client_actor client.me) (Answer frame.core.id w.seq answer)) sent
-    told_final frame sent said t =
+    reported_final frame sent said t =
         let plain = Each-among (λ (mail : Mail). IsPlainBody (IsBegun scenario rows) frame mail.from mail.to mail.body) sent _ said t.taught_slots in
         let reply = plain.1 in
         let who : client.me ≡ reply.client = (let to : client_actor client.me ≡ client_actor reply.client = reply.to_is in omega (arith, to)) in

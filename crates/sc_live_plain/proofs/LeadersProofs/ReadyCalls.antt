@@ -67,9 +67,9 @@ module _ (begun : Requests) (frame : Frame) (fact : IsFrame frame) (first free :
     unfolding entered forgotten
     runs_after = k.leader.running
 
-    told_is : recorded_after r (entered (Call client seq op) r) client seq op serves.answer mails ≡ said_mails
+    taught_is : recorded_after r (entered (Call client seq op) r) client seq op serves.answer mails ≡ said_mails
     unfolding said_mails
-    told_is =
+    taught_is =
         ap (λ me. sent_others me (members r) (Learn (name_of (entered (Call client seq op) r)) (next r) (Call client seq op)) (answer_to me (name_of (entered (Call client seq op) r)) client seq serves.answer mails)) me_after
         ∙ ap (λ (core : Core). sent_others frame.lead (members r) (Learn core.id (next r) (Call client seq op)) (answer_to frame.lead core.id client seq serves.answer mails)) (entered_frame begun frame client seq op r serves)
         ∙ ap (λ (core : Core). sent_others frame.lead core.members (Learn frame.core.id (next r) (Call client seq op)) (answer_to frame.lead frame.core.id client seq serves.answer mails)) k.plain.group.core_is
@@ -80,7 +80,7 @@ module _ (begun : Requests) (frame : Frame) (fact : IsFrame frame) (first free :
     place_is : executed_one true (Call client seq op) (r, mails) ≡ (after, said_mails)
     place_is =
         counted_call client seq op serves.answer r mails serves.answer_is (ap (λ (core : Core). core.members) ((entered_frame begun frame client seq op r serves) ∙ sym k.plain.group.core_is)) runs_after (ap (λ (core : Core). core.gone) (entered_frame begun frame client seq op r serves) ∙ fact.stands) leads_here
-        ∙ ap (λ l. (after, l)) told_is
+        ∙ ap (λ l. (after, l)) taught_is
 
     -- ---- what holds after it
 
@@ -181,9 +181,9 @@ module _ (begun : Requests) (frame : Frame) (fact : IsFrame frame) (first free :
         others_kept frame.lead (Learn frame.core.id (next r) (Call client seq op)) frame.core.members (answer_to frame.lead frame.core.id client seq serves.answer mails) mail
         (among_push mails (mail_of frame.lead (client_actor client) (Answer frame.core.id seq serves.answer)) mail a)
 
-    told_it : Among (mail_of frame.lead (client_actor client) (Answer frame.core.id seq serves.answer)) said_mails
+    taught_it : Among (mail_of frame.lead (client_actor client) (Answer frame.core.id seq serves.answer)) said_mails
     unfolding said_mails
-    told_it =
+    taught_it =
         others_kept frame.lead (Learn frame.core.id (next r) (Call client seq op)) frame.core.members (answer_to frame.lead frame.core.id client seq serves.answer mails) (mail_of frame.lead (client_actor client) (Answer frame.core.id seq serves.answer))
         (last_among mails (mail_of frame.lead (client_actor client) (Answer frame.core.id seq serves.answer)))
 
@@ -204,7 +204,7 @@ module _ (begun : Requests) (frame : Frame) (fact : IsFrame frame) (first free :
                     answer = serves.answer;
                     later = h.later;
                     taught_slots = subst (λ m. Among (mail_of frame.lead (client_actor c) (Answer frame.core.id m serves.answer)) said_mails) number
-                        (subst (λ m. Among (mail_of frame.lead (client_actor m) (Answer frame.core.id seq serves.answer)) said_mails) who told_it);
+                        (subst (λ m. Among (mail_of frame.lead (client_actor m) (Answer frame.core.id seq serves.answer)) said_mails) who taught_it);
                   }))
               | inr past ↦ inl (record {
                 number = h.number;

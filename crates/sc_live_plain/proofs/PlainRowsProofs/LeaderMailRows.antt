@@ -5,7 +5,7 @@ use Rattle.sc_base.specs.Definitions.{Among, Each, is_member}
 use Rattle.sc_node_table.specs.NodeDefinitions.{numbers_from}
 use Rattle.sc_paxos_law.proofs.Lemmas.{Among-left, Among-right, Among-either}
 use Rattle.sc_live_plain.specs.PlainDefinitions.{Frame, Mark, Asks, Votes, Teaches, Other, AreInOrder, IsBelow, taught_slots, View, IsLearning, IsVoting, IsBetween, IsNew, IsIdle, Accepts, Learns, IsCount, IsElsewhere, IsOffered, IsCounted, Leads, Moves, IsTaken}
-use Rattle.sc_live_plain.proofs.PlainRowsProofs.MarkLists.{order-lower, order-tail, order-asks, order-append, order-raise, order-new, below-append, below-among, other-new, other-asks, asks≢other, votes≢other, told-append, told-other, numbers-append}
+use Rattle.sc_live_plain.proofs.PlainRowsProofs.MarkLists.{order-lower, order-tail, order-asks, order-append, order-raise, order-new, below-append, below-among, other-new, other-asks, asks≢other, votes≢other, taught-append, taught-other, numbers-append}
 
 -- ---- what is left after the first is taken
 
@@ -28,12 +28,12 @@ left_each P taken before left (inl fact) e = (subst (Each P) fact e).1
 left_each P taken before left (inr fact) e = subst (Each P) fact.1 e
 
 -- no Tells mark is taken, unless the head of the list is one
-left_told : (taken : Mark) (before left : List Mark) → IsTaken taken before left → ((slot : ℕ) → taken ≡ Teaches slot → ⊥) → taught_slots before ≡ taught_slots left
-left_told (Asks slot) before left (inl fact) never = ap taught_slots fact
-left_told (Votes node slot) before left (inl fact) never = ap taught_slots fact
-left_told (Teaches slot) before left (inl fact) never = absurd (never slot refl)
-left_told Other before left (inl fact) never = ap taught_slots fact
-left_told taken before left (inr fact) never = ap taught_slots fact.1
+left_taught : (taken : Mark) (before left : List Mark) → IsTaken taken before left → ((slot : ℕ) → taken ≡ Teaches slot → ⊥) → taught_slots before ≡ taught_slots left
+left_taught (Asks slot) before left (inl fact) never = ap taught_slots fact
+left_taught (Votes node slot) before left (inl fact) never = ap taught_slots fact
+left_taught (Teaches slot) before left (inl fact) never = absurd (never slot refl)
+left_taught Other before left (inl fact) never = ap taught_slots fact
+left_taught taken before left (inr fact) never = ap taught_slots fact.1
 
 -- what is asked for behind a vote is above it
 above_vote : (low : ℕ) (taken : Mark) (before left : List Mark) (node slot other : ℕ) → IsTaken taken before left → AreInOrder low before → taken ≡ Votes node slot → Among (Asks other) left → slot < other
@@ -50,11 +50,11 @@ elsewhere low (Asks other) before left slot t o a = tt
 elsewhere low (Teaches other) before left slot t o a = tt
 elsewhere low Other before left slot t o a = tt
 
-never_told : (frame : Frame) (taken : Mark) → IsCount frame taken → (slot : ℕ) → taken ≡ Teaches slot → ⊥
-never_told frame (Votes node other) c slot e = cc
-never_told frame (Asks other) c slot e = cc
-never_told frame (Teaches other) c slot e = c
-never_told frame Other c slot e = cc
+never_taught : (frame : Frame) (taken : Mark) → IsCount frame taken → (slot : ℕ) → taken ≡ Teaches slot → ⊥
+never_taught frame (Votes node other) c slot e = cc
+never_taught frame (Asks other) c slot e = cc
+never_taught frame (Teaches other) c slot e = c
+never_taught frame Other c slot e = cc
 
 never_asked : (frame : Frame) (taken : Mark) → IsCount frame taken → (slot : ℕ) → taken ≡ Asks slot → ⊥
 never_asked frame (Votes node other) c slot e = cc
@@ -115,13 +115,13 @@ module _ (frame : Frame) (now after : View) (node : ℕ) (taken : Mark) (sent ma
   ]
 
   -- the slots of Tells marks after a row that takes none
-  told-row : (who : ℕ) → ((slot : ℕ) → who ≡ node → taken ≡ Teaches slot → ⊥) → taught_slots (marks' who) ≡ taught_slots (marks who) ++ taught_slots (sent who)
-  told-row who never = elim (cases_eq who node) [
+  taught-row : (who : ℕ) → ((slot : ℕ) → who ≡ node → taken ≡ Teaches slot → ⊥) → taught_slots (marks' who) ≡ taught_slots (marks who) ++ taught_slots (sent who)
+  taught-row who never = elim (cases_eq who node) [
     | inl fact ↦ ap (λ n. taught_slots (marks' n)) fact
         ∙ (ap taught_slots own
-        ∙ (told-append left (sent node)
-        ∙ (ap (λ t. t ++ taught_slots (sent node)) (sym (left_told taken (marks node) left takes (λ slot e. never slot fact e))) ∙ ap (λ n. taught_slots (marks n) ++ taught_slots (sent n)) (sym fact))))
-    | inr ne ↦ ap taught_slots (others who ne) ∙ told-append (marks who) (sent who)
+        ∙ (taught-append left (sent node)
+        ∙ (ap (λ t. t ++ taught_slots (sent node)) (sym (left_taught taken (marks node) left takes (λ slot e. never slot fact e))) ∙ ap (λ n. taught_slots (marks n) ++ taught_slots (sent n)) (sym fact))))
+    | inr ne ↦ ap taught_slots (others who ne) ∙ taught-append (marks who) (sent who)
   ]
 
   -- ---- the four kinds
@@ -138,7 +138,7 @@ module _ (frame : Frame) (now after : View) (node : ℕ) (taken : Mark) (sent ma
         record {
           learners = λ who member follows.
               learning_at (now.next who) (now.next frame.lead) (after.next who) (after.next frame.lead) (marks' who) (next who) (next frame.lead)
-              (learning_same (now.next who) (now.next frame.lead) (marks who) (marks' who) (told-row who (never who) ∙ (ap (λ t. taught_slots (marks who) ++ t) (told-other (sent who) (i.sends who)) ∙ append-nil (taught_slots (marks who)))) (was.learners who member follows));
+              (learning_same (now.next who) (now.next frame.lead) (marks who) (marks' who) (taught-row who (never who) ∙ (ap (λ t. taught_slots (marks who) ++ t) (taught-other (sent who) (i.sends who)) ∙ append-nil (taught_slots (marks who)))) (was.learners who member follows));
           order = λ who. subst (λ n. AreInOrder n (marks' who)) (sym (next who)) (order-row (now.next who) now.bound now.bound who (was.order who) (was.below who) (was.low who) (new who));
           below = λ who. subst (λ n. Each (IsBelow n) (marks' who)) (sym i.bound) (below-row now.bound now.bound who (omega arith) (was.below who) (new who));
           low = λ who. (let le = was.low who in let e = next who in let b = i.bound in omega (arith, le, e, b));
@@ -161,11 +161,11 @@ module _ (frame : Frame) (now after : View) (node : ℕ) (taken : Mark) (sent ma
           | inr ne ↦ other-new now.bound now.bound (sent who) (i.others who ne)
         ] in
         let never : (who slot : ℕ) → who ≡ node → taken ≡ Teaches slot → ⊥ = λ who slot fact e. (let bad : Asks i.slot ≡ Teaches slot = sym i.takes ∙ e in cc) in
-        let silent : (who : ℕ) → taught_slots (sent who) ≡ [] = λ who. elim (cases_eq who frame.lead) [ inl fact ↦ ap (λ n. taught_slots (sent n)) fact ∙ ap taught_slots i.lead | inr ne ↦ told-other (sent who) (i.others who ne) ] in
+        let silent : (who : ℕ) → taught_slots (sent who) ≡ [] = λ who. elim (cases_eq who frame.lead) [ inl fact ↦ ap (λ n. taught_slots (sent n)) fact ∙ ap taught_slots i.lead | inr ne ↦ taught-other (sent who) (i.others who ne) ] in
         record {
           learners = λ who member follows.
               learning_at (now.next who) (now.next frame.lead) (after.next who) (after.next frame.lead) (marks' who) (next who) (next frame.lead)
-              (learning_same (now.next who) (now.next frame.lead) (marks who) (marks' who) (told-row who (never who) ∙ (ap (λ t. taught_slots (marks who) ++ t) (silent who) ∙ append-nil (taught_slots (marks who)))) (was.learners who member follows));
+              (learning_same (now.next who) (now.next frame.lead) (marks who) (marks' who) (taught-row who (never who) ∙ (ap (λ t. taught_slots (marks who) ++ t) (silent who) ∙ append-nil (taught_slots (marks who)))) (was.learners who member follows));
           order = λ who. subst (λ n. AreInOrder n (marks' who)) (sym (next who)) (order-row (now.next who) now.bound now.bound who (was.order who) (was.below who) (was.low who) (new who));
           below = λ who. subst (λ n. Each (IsBelow n) (marks' who)) (sym i.bound) (below-row now.bound now.bound who (omega arith) (was.below who) (new who));
           low = λ who. (let le = was.low who in let e = next who in let b = i.bound in omega (arith, le, e, b));
@@ -200,8 +200,8 @@ module _ (frame : Frame) (now after : View) (node : ℕ) (taken : Mark) (sent ma
         let at : i.slot ≡ now.next node = own_learning.0 in
         let bound : i.slot < now.bound = below-among now.bound (marks node) (Teaches i.slot) (was.below node) (subst (Among (Teaches i.slot)) (sym before) (inl refl)) in
         let new : (who : ℕ) → Each (IsNew now.bound now.bound) (sent who) = λ who. other-new now.bound now.bound (sent who) (i.sends who) in
-        let silent : (who : ℕ) → taught_slots (sent who) ≡ [] = λ who. told-other (sent who) (i.sends who) in
-        let own_told : taught_slots (marks' node) ≡ taught_slots left = ap taught_slots own ∙ (told-append left (sent node) ∙ (ap (λ t. taught_slots left ++ t) (silent node) ∙ append-nil (taught_slots left))) in
+        let silent : (who : ℕ) → taught_slots (sent who) ≡ [] = λ who. taught-other (sent who) (i.sends who) in
+        let own_taught : taught_slots (marks' node) ≡ taught_slots left = ap taught_slots own ∙ (taught-append left (sent node) ∙ (ap (λ t. taught_slots left ++ t) (silent node) ∙ append-nil (taught_slots left))) in
         let o : AreInOrder (max (now.next node) (suc i.slot)) left = subst (AreInOrder (now.next node)) before (was.order node) in
         let own_order : AreInOrder (after.next node) (marks' node) =
         (let n = i.next in
@@ -212,9 +212,9 @@ module _ (frame : Frame) (now after : View) (node : ℕ) (taken : Mark) (sent ma
           learners = λ who member follows. elim (cases_eq who node) [
             | inl fact ↦ subst (λ n. IsLearning (after.next n) (after.next frame.lead) (marks' n)) (sym fact)
                 (learning_at (suc (now.next node)) (now.next frame.lead) (after.next node) (after.next frame.lead) (marks' node) (i.next ∙ one_more (now.next node)) lead
-                (learning_same (suc (now.next node)) (now.next frame.lead) left (marks' node) own_told own_learning.1))
+                (learning_same (suc (now.next node)) (now.next frame.lead) left (marks' node) own_taught own_learning.1))
             | inr ne ↦ learning_at (now.next who) (now.next frame.lead) (after.next who) (after.next frame.lead) (marks' who) (stand who ne) lead
-                (learning_same (now.next who) (now.next frame.lead) (marks who) (marks' who) (ap taught_slots (others who ne) ∙ (told-append (marks who) (sent who) ∙ (ap (λ t. taught_slots (marks who) ++ t) (silent who) ∙ append-nil (taught_slots (marks who))))) (was.learners who member follows))
+                (learning_same (now.next who) (now.next frame.lead) (marks who) (marks' who) (ap taught_slots (others who ne) ∙ (taught-append (marks who) (sent who) ∙ (ap (λ t. taught_slots (marks who) ++ t) (silent who) ∙ append-nil (taught_slots (marks who))))) (was.learners who member follows))
           ];
           order = λ who. elim (cases_eq who node) [
             | inl fact ↦ subst (λ n. AreInOrder (after.next n) (marks' n)) (sym fact) own_order
@@ -250,7 +250,7 @@ module _ (frame : Frame) (now after : View) (node : ℕ) (taken : Mark) (sent ma
 
     leads : Leads frame now after node taken sent → IsBetween frame after marks'
     leads i =
-        let never : (who slot : ℕ) → who ≡ node → taken ≡ Teaches slot → ⊥ = λ who slot fact e. never_told frame taken i.takes slot e in
+        let never : (who slot : ℕ) → who ≡ node → taken ≡ Teaches slot → ⊥ = λ who slot fact e. never_taught frame taken i.takes slot e in
         record {
           learners = λ who member follows.
               (let l = was.learners who member follows in
@@ -263,7 +263,7 @@ module _ (frame : Frame) (now after : View) (node : ℕ) (taken : Mark) (sent ma
               record {
                 left = l.left + i.executed;
                 reaches = omega (arith, from, next, at, lead);
-                tells = told-row who (never who)
+                tells = taught-row who (never who)
                     ∙ (ap (λ t. t ++ taught_slots (sent who)) l.tells
                     ∙ (ap (λ t. numbers_from (now.next who) l.left ++ t) (i.tells who member follows ∙ ap (λ n. numbers_from n i.executed) at)
                     ∙ (sym (numbers-append (now.next who) l.left i.executed) ∙ ap (λ n. numbers_from n (l.left + i.executed)) (sym from))));

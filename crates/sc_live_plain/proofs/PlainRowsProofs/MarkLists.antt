@@ -102,16 +102,16 @@ votes≢other node slot e = cc
 
 -- ---- the slots of Tells marks
 
-pub told-append : (xs ys : List Mark) → taught_slots (xs ++ ys) ≡ taught_slots xs ++ taught_slots ys
-told-append [] ys = refl
-told-append (Teaches slot ∷ xs) ys = ap (λ t. slot ∷ t) (told-append xs ys)
-told-append (Asks slot ∷ xs) ys = told-append xs ys
-told-append (Votes node slot ∷ xs) ys = told-append xs ys
-told-append (Other ∷ xs) ys = told-append xs ys
+pub taught-append : (xs ys : List Mark) → taught_slots (xs ++ ys) ≡ taught_slots xs ++ taught_slots ys
+taught-append [] ys = refl
+taught-append (Teaches slot ∷ xs) ys = ap (λ t. slot ∷ t) (taught-append xs ys)
+taught-append (Asks slot ∷ xs) ys = taught-append xs ys
+taught-append (Votes node slot ∷ xs) ys = taught-append xs ys
+taught-append (Other ∷ xs) ys = taught-append xs ys
 
-pub told-other : (marks : List Mark) → Each IsOther marks → taught_slots marks ≡ []
-told-other [] e = refl
-told-other (mark ∷ marks) e = ap (λ m. taught_slots (m ∷ marks)) e.0 ∙ told-other marks e.1
+pub taught-other : (marks : List Mark) → Each IsOther marks → taught_slots marks ≡ []
+taught-other [] e = refl
+taught-other (mark ∷ marks) e = ap (λ m. taught_slots (m ∷ marks)) e.0 ∙ taught-other marks e.1
 
 pub numbers-append : (from one two : ℕ) → numbers_from from (one + two) ≡ numbers_from from one ++ numbers_from (from + one) two
 numbers-append from zero two = (let a : zero + two ≡ two = omega arith in let b : from + zero ≡ from = omega arith in rw (a, b) refl)

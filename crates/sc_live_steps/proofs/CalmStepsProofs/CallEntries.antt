@@ -100,9 +100,9 @@ module _ (ways : Ways) where
       let a = announced_call effect client seq op (entered (Call client seq op) r) mails s.answer s.answers (s.ends ways (name_of (entered (Call client seq op) r))) in
       let place1 = announced true effect (Call client seq op) (entered (Call client seq op) r, mails) in
       let b = spoken_call (before_of r.group.core) effect client seq op place1.0 place1.1 in
-      let told = a.1 in
+      let reported = a.1 in
       let same = b.1 in
-      (b.0 ∙ a.0, omega (arith, told, same))
+      (b.0 ∙ a.0, omega (arith, reported, same))
 
   pub call_owes : (client seq : ℕ) (op : Op) (place : Place) → IsCounting (Call client seq op) place.0 → IsServed op place.0.group.core → place_owes ways (executed_one true (Call client seq op) place) ≤ place_owes ways place
   call_owes client seq op place is_counting fact =

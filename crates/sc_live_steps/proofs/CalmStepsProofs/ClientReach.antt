@@ -68,8 +68,8 @@ module _ (reach : Reach) where
       by true = ends_changed (λ way. record way { lo = lo }) group known (way_to group known)
       by false = let s = sum_by_push (λ (entry : Draw × Way). reach.distance entry.0) known (group, new_way lo members) in omega (arith, s, none)
 
-  ends_told : (group : Draw) (arc : Arc) (succ : Link) (known : KnownGroups) → reach.distance succ.group ≡ 0 → ends_of (learnt_from_not_mine group arc succ known) ≡ ends_of known
-  ends_told group arc succ known none =
+  ends_reported : (group : Draw) (arc : Arc) (succ : Link) (known : KnownGroups) → reach.distance succ.group ≡ 0 → ends_of (learnt_from_not_mine group arc succ known) ≡ ends_of known
+  ends_reported group arc succ known none =
       ends_learnt succ.group (end_of arc) succ.members (starting group arc.lo known) none ∙ ends_changed (λ way. record way { lo = arc.lo }) group known (way_to group known)
 
   unknown_same : (known after : KnownGroups) → ((group : Draw) → is_some (way_to group after) ≡ is_some (way_to group known)) → (groups : List Draw) → unknown groups after ≡ unknown groups known
@@ -189,11 +189,11 @@ module _ (ways : Ways) (reach : Reach) (client : ClientState) (bounded : AreBoun
 
   not_mine_pays : (seq : ℕ) (group : Draw) (arc : Arc) (succ : Link) → client.waiting ≡ Some seq → LearnsOf reach succ.group client → client_turn_owes ways reach (request_sent (record client { known = learnt_from_not_mine group arc succ client.known })) + 1 ≤ client_owes ways reach client + 27
   not_mine_pays seq group arc succ waits fact =
-      let told = told_one ways reach.standing group arc succ client bounded fact.among fact.none in
-      let owes = told.0 in
-      let few = told.1 in
+      let reported = told_one ways reach.standing group arc succ client bounded fact.among fact.none in
+      let owes = reported.0 in
+      let few = reported.1 in
       let knows = request_same (λ (c : ClientState). unknown reach.standing c.known) (λ c a. refl) after in
-      let ends = ends_told reach group arc succ client.known fact.ends in
+      let ends = ends_reported reach group arc succ client.known fact.ends in
       let less = less_search reach ways.most client (learnt_from_not_mine group arc succ client.known) client.waiting seq waits (omega (arith, few, knows, ends)) in
       let same = request_search reach ways.most after in
       omega (arith, owes, less, same)

@@ -165,7 +165,7 @@ module _ (ways : Ways) where
   pub counted_ends : (P : Place → Type 0) (command : Command) (before : Place) (said : ℕ) → IsCounting command before.0 → (said_place command before).0 ≡ entered command before.0 → sum (said_place command before).1 ≤ sum before.1 + said
       → ((r : ReplicaState) (mails : List Mail) → Counts command said before (r, mails) → P (looked (left (r, mails)))) → P (executed_one true command before)
   unfolding executed_one
-  counted_ends P command (r, mails) said is_counting state told then =
+  counted_ends P command (r, mails) said is_counting state reported then =
       let place2 = said_place command (r, mails) in
       let me : place2.0.me ≡ r.me = ap (λ (q : ReplicaState). q.me) state ∙ entered_me command r in
       let a = learnt_counted (members r) (next r) command place2.0 place2.1 is_counting.few (ap (is_member (members r)) me ∙ is_counting.mine) in
@@ -184,7 +184,7 @@ module _ (ways : Ways) where
         me_is = c.2 ∙ (ap (λ (q : ReplicaState). q.me) fact ∙ entered_me command r);
         group_is = c.1 ∙ ap (λ (q : ReplicaState). q.group) fact;
         owes = (let low = c.3 in omega (arith, low, owes));
-        sent = (let mails5 = ap sum c.4 in let b1 = b.1 in let a1 = a.1 in omega (arith, mails5, b1, a1, welcome, told));
+        sent = (let mails5 = ap sum c.4 in let b1 = b.1 in let a1 = a.1 in omega (arith, mails5, b1, a1, welcome, reported));
         flights = c.5 ∙ (ap (λ (q : ReplicaState). without_flight (next r) q.leader.flights) fact ∙ ap (λ (l : LeaderState Command). without_flight (next r) l.flights) (entered_flights ways command r));
         ready = c.6 ∙ (ap (λ (q : ReplicaState). without_slot q.ready (next r)) fact ∙ ap (λ (es : List (ℕ × Command)). without_slot es (next r)) (entered_ready command r));
         backlog = c.7 ∙ (ap (λ (q : ReplicaState). q.backlog) fact ∙ entered_calls command r);
@@ -198,8 +198,8 @@ module _ (ways : Ways) where
       → (said_place command place).0 ≡ entered command place.0 → sum (said_place command place).1 ≤ sum place.1 + said
       → 8 + said + 3 * length (newcomers command place.0) ≤ offered_owes ways.most command
       → place_owes ways (executed_one true command place) ≤ place_owes ways place
-  counted_owes command (r, mails) said is_counting stands stays state told paid =
-      counted_ends (λ p. place_owes ways p ≤ place_owes ways (r, mails)) command (r, mails) said is_counting state told
+  counted_owes command (r, mails) said is_counting stands stays state reported paid =
+      counted_ends (λ p. place_owes ways p ≤ place_owes ways (r, mails)) command (r, mails) said is_counting state reported
       (λ q more counts.
       let gone : q.group.core.gone ≡ None = ap (λ (g : Group). g.core.gone) counts.group_is ∙ stands in
       let member : is_member (members q) q.me ≡ true = ap (λ n. is_member (members q) n) counts.me_is ∙ (ap (λ (g : Group). is_member g.core.members r.me) counts.group_is ∙ stays) in
@@ -230,8 +230,8 @@ module _ (ways : Ways) where
       → (said_place command place).0 ≡ entered command place.0 → sum (said_place command place).1 ≤ sum place.1 + said
       → 8 + said + 3 * length (newcomers command place.0) + election ≤ offered_owes ways.most command
       → place_owes ways (executed_one true command place) ≤ place_owes ways place
-  leaving_owes command (r, mails) said is_counting stands leaves flights ready backlog state told paid =
-      counted_ends (λ p. place_owes ways p ≤ place_owes ways (r, mails)) command (r, mails) said is_counting state told
+  leaving_owes command (r, mails) said is_counting stands leaves flights ready backlog state reported paid =
+      counted_ends (λ p. place_owes ways p ≤ place_owes ways (r, mails)) command (r, mails) said is_counting state reported
       (λ q more counts.
       let gone : q.group.core.gone ≡ None = ap (λ (g : Group). g.core.gone) counts.group_is ∙ stands in
       let member : is_member (members q) q.me ≡ false = ap (λ n. is_member (members q) n) counts.me_is ∙ (ap (λ (g : Group). is_member g.core.members r.me) counts.group_is ∙ leaves) in

@@ -75,8 +75,8 @@ module _ (ways : Ways) where
 
   pub ending_owes : (command : Command) (place : Place) (said : ℕ) → EndsAfter command place.0 → (said_place command place).0 ≡ entered command place.0 → sum (said_place command place).1 ≤ sum place.1 + said
       → 8 + said + 3 * length (newcomers command place.0) ≤ offered_owes ways.most command → place_owes ways (executed_one true command place) ≤ place_owes ways place
-  ending_owes command (r, mails) said ends state told paid =
-      counted_ends ways (λ p. place_owes ways p ≤ place_owes ways (r, mails)) command (r, mails) said ends.counting state told
+  ending_owes command (r, mails) said ends state reported paid =
+      counted_ends ways (λ p. place_owes ways p ≤ place_owes ways (r, mails)) command (r, mails) said ends.counting state reported
       (λ q more counts.
       let gone = ap (λ (g : Group). g.core.gone) counts.group_is ∙ ends.goes in
       let same = ap (place_owes ways) (all_ends ends.into q more counts.running gone) in
@@ -87,8 +87,8 @@ module _ (ways : Ways) where
 
   pub ends_paid : (command : Command) (place : Place) (said : ℕ) → EndsAfter command place.0 → (said_place command place).0 ≡ entered command place.0 → sum (said_place command place).1 ≤ sum place.1 + said
       → ArePaid (executed_one true command place).0.ready (executed_one true command place)
-  ends_paid command (r, mails) said ends state told =
-      counted_ends ways (λ p. ArePaid p.0.ready p) command (r, mails) said ends.counting state told
+  ends_paid command (r, mails) said ends state reported =
+      counted_ends ways (λ p. ArePaid p.0.ready p) command (r, mails) said ends.counting state reported
       (λ q more counts.
       let gone = ap (λ (g : Group). g.core.gone) counts.group_is ∙ ends.goes in
       let end = looked (left (q, more)) in

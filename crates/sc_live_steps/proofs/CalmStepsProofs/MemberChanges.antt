@@ -132,12 +132,12 @@ module _ (ways : Ways) where
   pub changes_owe : (command : Command) (place : Place) → IsChange command → LeadsOn command place.0 → place_owes ways (executed_one true command place) ≤ place_owes ways place
   changes_owe command place fact leads =
       let said = silent_said command place.0 place.1 fact in
-      let told = said.1 in
-      counted_owes ways command place 0 leads.counting leads.stands leads.stays said.0 (omega (arith, told)) (paid command place.0 fact)
+      let reported = said.1 in
+      counted_owes ways command place 0 leads.counting leads.stands leads.stays said.0 (omega (arith, reported)) (paid command place.0 fact)
 
   pub leader_leaves : (node order : ℕ) (place : Place) → StopsAfter (Leave node order) place.0 → place_owes ways (executed_one true (Leave node order) place) ≤ place_owes ways place
   leader_leaves node order place stops =
       let said = silent_said (Leave node order) place.0 place.1 tt in
-      let told = said.1 in
+      let reported = said.1 in
       let none = ap length (leave_new node order place.0) in
-      leaving_owes ways (Leave node order) place 0 stops.counting stops.stands stops.leaves stops.flights stops.alone stops.backlog said.0 (omega (arith, told)) (omega (arith, none))
+      leaving_owes ways (Leave node order) place 0 stops.counting stops.stands stops.leaves stops.flights stops.alone stops.backlog said.0 (omega (arith, reported)) (omega (arith, none))

@@ -155,8 +155,8 @@ module _ (ways : Ways) (command : Command) (before : Place) (may : MayPump befor
 
   leads_paid : (said : ℕ) → LeadsOn command before.0 → without_slot before.0.ready (next before.0) ≡ [] → (said_place command before).0 ≡ entered command before.0
       → sum_by (mail_owes ways) (said_place command before).1 ≤ sum_by (mail_owes ways) before.1 + said → ArePaid (executed_one true command before).0.ready (executed_one true command before)
-  leads_paid said leads alone state told =
-      counted_ends ways (λ p. ArePaid p.0.ready p) command before said leads.counting state told
+  leads_paid said leads alone state reported =
+      counted_ends ways (λ p. ArePaid p.0.ready p) command before said leads.counting state reported
       (λ r mails counts.
       let gone = ap (λ (g : Group). g.core.gone) counts.group_is ∙ leads.stands in
       let mine = ap (λ n. is_member (members r) n) counts.me_is ∙ (ap (λ (g : Group). is_member g.core.members before.0.me) counts.group_is ∙ leads.stays) in
@@ -165,8 +165,8 @@ module _ (ways : Ways) (command : Command) (before : Place) (may : MayPump befor
 
   stops_paid : (said : ℕ) → StopsAfter command before.0 → (said_place command before).0 ≡ entered command before.0
       → sum_by (mail_owes ways) (said_place command before).1 ≤ sum_by (mail_owes ways) before.1 + said → ArePaid (executed_one true command before).0.ready (executed_one true command before)
-  stops_paid said stops state told =
-      counted_ends ways (λ p. ArePaid p.0.ready p) command before said stops.counting state told
+  stops_paid said stops state reported =
+      counted_ends ways (λ p. ArePaid p.0.ready p) command before said stops.counting state reported
       (λ r mails counts.
       let gone = ap (λ (g : Group). g.core.gone) counts.group_is ∙ stops.stands in
       let other = ap (λ n. is_member (members r) n) counts.me_is ∙ (ap (λ (g : Group). is_member g.core.members before.0.me) counts.group_is ∙ stops.leaves) in
@@ -198,8 +198,8 @@ Follows command place = IsSaid command place × (LeadsOn command place.0 ⊎ (St
 change_said : (command : Command) (place : Place) → IsChange command → IsSaid command place
 change_said command place fact =
     let said = silent_said near command place.0 place.1 fact in
-    let told = said.1 in
-    record { most = 0; says = (said.0, omega (arith, told)) }
+    let reported = said.1 in
+    record { most = 0; says = (said.0, omega (arith, reported)) }
 
 watch_ends : (tx : Draw) (vote : Past) (by : ℕ) (place : Place) → IsWatchPaid tx vote by place.0 → Follows (RecordWatch tx vote by) place
 watch_ends tx Cast.Yes by place (few, inl leads) = (record { most = 62; says = watch_said near tx by place.0 place.1 }, inl leads)

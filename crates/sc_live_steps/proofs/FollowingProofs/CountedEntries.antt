@@ -24,9 +24,9 @@ welcomed_state (node ∷ nodes) r mails = by (λ more. welcomed_state nodes r mo
     by rest true = rest (with_state 0 r node mails)
     by rest false = rest (with_both 0 r node mails)
 
-pub told_state : (before : List ℕ) (slot : ℕ) (command : Command) (r : ReplicaState) (mails : List Mail) → (welcomed true before (learnt_to true before slot command (r, mails))).0 ≡ r
+pub taught_state : (before : List ℕ) (slot : ℕ) (command : Command) (r : ReplicaState) (mails : List Mail) → (welcomed true before (learnt_to true before slot command (r, mails))).0 ≡ r
 unfolding welcomed learnt_to
-told_state before slot command r mails = welcomed_state (filter (λ node. not (is_member before node)) (members r)) r _
+taught_state before slot command r mails = welcomed_state (filter (λ node. not (is_member before node)) (members r)) r _
 
 pub landed_is : (slot : ℕ) (command : Command) (r : ReplicaState) (mails : List Mail) → landed true slot command (r, mails) ≡ (record r { leader = without_flight_at slot r.leader; ready = without_slot r.ready slot }, mails)
 unfolding landed
@@ -38,11 +38,11 @@ landed_is slot command r mails = by (flying r slot)
     by (Some other) = refl
 
 -- so lands a place that was told of an entry
-pub landed_told : (before : List ℕ) (slot : ℕ) (command : Command) (r : ReplicaState) (mails : List Mail) → landed true slot command (welcomed true before (learnt_to true before slot command (r, mails)))
+pub landed_taught : (before : List ℕ) (slot : ℕ) (command : Command) (r : ReplicaState) (mails : List Mail) → landed true slot command (welcomed true before (learnt_to true before slot command (r, mails)))
     ≡ (record r { leader = without_flight_at slot r.leader; ready = without_slot r.ready slot }, (welcomed true before (learnt_to true before slot command (r, mails))).1)
-landed_told before slot command r mails =
+landed_taught before slot command r mails =
     let after : List Mail = (welcomed true before (learnt_to true before slot command (r, mails))).1 in
-    ap (λ (q : ReplicaState). landed true slot command (q, after)) (told_state before slot command r mails) ∙ landed_is slot command r after
+    ap (λ (q : ReplicaState). landed true slot command (q, after)) (taught_state before slot command r mails) ∙ landed_is slot command r after
 
 -- what an entry leaves
 pub entered_keeps : (command : Command) (r : ReplicaState) → ((entered command r).running ≡ r.running) × ((entered command r).leader ≡ r.leader) × ((entered command r).ready ≡ r.ready) × ((entered command r).me ≡ r.me)
@@ -141,7 +141,7 @@ module _ (at : Sets) (course : Course) (command : Command) (r : ReplicaState) (m
 
     past : LeadsPast at course command (r, mails) (looked (left (landed true (next r) command told)))
     past =
-        subst (λ (p : Place). LeadsPast at course command (r, mails) (looked (left p))) (sym (landed_told (members r) (next r) command here more))
+        subst (λ (p : Place). LeadsPast at course command (r, mails) (looked (left p))) (sym (landed_taught (members r) (next r) command here more))
         (ends (LeadsPast at course command (r, mails)) over told.1 ((entered_keeps command r).0 ∙ led.running) is_next.roster goes_on ends_off)
 
   -- what follows once clients and the desk have their answers

@@ -135,20 +135,20 @@ module _ (at : Sets) (course : Course) (before : List ℕ) (slot : ℕ) (command
       ∙ ap (λ w. cond (is_member newcomers who) w []) welcomes
 
   -- by which node it is: what it is sent to learn, and the welcome that it is sent
-  sent_is : (told : List Mark) → marks_for (name_of r) who told_mails ≡ old ++ told → told ++ cond (is_member newcomers who) (welcome course slot) [] ≡ reported_of at course slot who
+  sent_is : (taught : List Mark) → marks_for (name_of r) who told_mails ≡ old ++ taught → taught ++ cond (is_member newcomers who) (welcome course slot) [] ≡ reported_of at course slot who
       → marks_for (name_of r) who (welcomed_all newcomers (r, told_mails)).1 ≡ old ++ reported_of at course slot who
-  sent_is told first both =
+  sent_is taught first both =
       welcome_marks who r newcomers told_mails
       ∙ (ap (λ l. l ++ blocks (welcome_of r) who newcomers) first
-      ∙ (append_one old told (blocks (welcome_of r) who newcomers) ∙ (ap (λ l. old ++ (told ++ l)) new_marks ∙ ap (λ l. old ++ l) both)))
+      ∙ (append_one old taught (blocks (welcome_of r) who newcomers) ∙ (ap (λ l. old ++ (taught ++ l)) new_marks ∙ ap (λ l. old ++ l) both)))
 
-  abbrev told_member : List Mark
-  told_member = cond (is_member (members_at at slot) who) (Teaches slot ∷ []) (cond (is_member (members_at at (slot + 1)) who) (welcome course slot) [])
+  abbrev taught_member : List Mark
+  taught_member = cond (is_member (members_at at slot) who) (Teaches slot ∷ []) (cond (is_member (members_at at (slot + 1)) who) (welcome course slot) [])
 
   own : who ≡ r.me → [] ++ cond (is_member newcomers who) (welcome course slot) [] ≡ reported_of at course slot who
   own fact =
       ap (λ b. cond b (welcome course slot) []) (fails (λ node. not (is_member before node)) who (not_from_true (is_member before who) (ap (is_member before) fact ∙ l.member)) (members r))
-      ∙ sym (cond-true (eqb who course.ballot.node) [] told_member (eq-eqb who course.ballot.node (fact ∙ sym l.mine)))
+      ∙ sym (cond-true (eqb who course.ballot.node) [] taught_member (eq-eqb who course.ballot.node (fact ∙ sym l.mine)))
 
   other : (who ≡ r.me → ⊥) → cond (is_member before who) (Teaches slot ∷ []) [] ++ cond (is_member newcomers who) (welcome course slot) [] ≡ reported_of at course slot who
   other apart =
@@ -160,7 +160,7 @@ module _ (at : Sets) (course : Course) (before : List ℕ) (slot : ℕ) (command
             ∙ (ap (λ b. cond b (welcome course slot) []) (passes (λ node. not (is_member before node)) who (not_from_false (is_member before who) f) (members r) ∙ ap (λ m. is_member m who) (sym l.fact))
             ∙ sym (cond-false (is_member (members_at at slot) who) (Teaches slot ∷ []) (cond (is_member (members_at at (slot + 1)) who) (welcome course slot) []) (ap (λ m. is_member m who) l.was ∙ f)))
       ]
-      ∙ sym (cond-false (eqb who course.ballot.node) [] told_member (ne_eqb who course.ballot.node (λ e. apart (e ∙ l.mine))))
+      ∙ sym (cond-false (eqb who course.ballot.node) [] taught_member (ne_eqb who course.ballot.node (λ e. apart (e ∙ l.mine))))
 
   pub tells : marks_for (name_of r) who (welcomed true before (learnt_to true before slot command (r, mails))).1 ≡ old ++ reported_of at course slot who
   unfolding welcomed learnt_to

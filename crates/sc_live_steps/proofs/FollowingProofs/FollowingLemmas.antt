@@ -3,7 +3,7 @@ pub use Rattle.sc_live_steps.proofs.FollowingProofs.StoppingLeaders.{ReadyAlone,
 pub use Rattle.sc_live_steps.proofs.FollowingProofs.QueueingRows.{rows_lead, aside_is, order_is}
 pub use Rattle.sc_live_steps.proofs.FollowingProofs.LeaderPrepares.{rows_ask_next}
 pub use Rattle.sc_live_steps.proofs.FollowingProofs.FirstLeaders.{leaders_begin}
-pub use Rattle.sc_live_steps.proofs.FollowingProofs.CountedEntries.{entries_lead, told_state, landed_is, landed_told, entered_keeps, ends}
+pub use Rattle.sc_live_steps.proofs.FollowingProofs.CountedEntries.{entries_lead, taught_state, landed_is, landed_taught, entered_keeps, ends}
 pub use Rattle.sc_live_steps.proofs.FollowingProofs.AskedSlots.{slots_are_kept, prepares_are_known, nothing}
 pub use Rattle.sc_live_steps.proofs.FollowingProofs.ElectionPrepares.{elections_ask_next}
 pub use Rattle.sc_live_steps.proofs.FollowingProofs.LeastMembers.{tables_elect}
@@ -19,7 +19,7 @@ pub use Rattle.sc_live_steps.proofs.FollowingProofs.NodeMarks.{counts_of, each-r
 pub use Rattle.sc_live_steps.proofs.FollowingProofs.LeaderTables.{none_taken, none_there}
 pub use Rattle.sc_live_steps.proofs.FollowingProofs.LeaderRows.{leads-keeps as leaders_keep_following, least_in, leads-keeps}
 pub use Rattle.sc_live_steps.proofs.FollowingProofs.FollowerTables.{tables as tables_follow, looked_same, over, over_off, place2, looks, told_is, tables, entered_floor}
-pub use Rattle.sc_live_steps.proofs.FollowingProofs.Marks.{reached-least, reached-append, pledged-append, pledged-most, rises, offers-reached, among-either, count-reached, count-pledged, offers-each, told-each, among-left, among-right}
+pub use Rattle.sc_live_steps.proofs.FollowingProofs.Marks.{reached-least, reached-append, pledged-append, pledged-most, rises, offers-reached, among-either, count-reached, count-pledged, offers-each, taught-each, among-left, among-right}
 pub use Rattle.sc_live_steps.proofs.FollowingProofs.MailTables.{states as states_make_replicas, saw_either, same_mark, states, floor_low}
 pub use Rattle.sc_live_steps.proofs.FollowingProofs.Offers.{pumps_offer}
 pub use Rattle.sc_live_steps.proofs.FollowingProofs.FlightOrderRows.{order_is_kept}

@@ -7,7 +7,7 @@ use Rattle.sc_node_table.specs.NodeDefinitions.{is_among, listed, slots_ahead}
 use Rattle.sc_words.specs.paxos.PaxosDefinitions.{below}
 use Rattle.sc_words.proofs.PaxosProofs.PaxosLemmas.{at_least_below}
 use Rattle.sc_live_steps.specs.following.FollowingDefinitions.{Mark, promise_by, reached, pledged, Course, Progress, Sets, members_at, IsOpen, IsFollowing, SlotLeaders, hint_by, hinted, MayLeave, AreHeeded, IsOther, IsHeeding, GoesBy, LeavesLast, HintsAreKept, NodesHeed, IsRow, IsIdle, IsCount, Takes, taught_from, Leads, Elects, begun}
-use Rattle.sc_live_steps.proofs.FollowingProofs.Hints.{hinted-append, heeded-append, heeded-change, no_more, count-heeded, count-hinted, offers-heeded, offers-hinted, told-heeded, told-hinted}
+use Rattle.sc_live_steps.proofs.FollowingProofs.Hints.{hinted-append, heeded-append, heeded-change, no_more, count-heeded, count-hinted, offers-heeded, offers-hinted, taught-heeded, taught-hinted}
 use Rattle.sc_live_steps.proofs.FollowingProofs.NodeMarks.{counts_of, idle_promise, idle_marks, takes-keeps}
 use Rattle.sc_live_steps.proofs.FollowingProofs.LeaderRows.{leads-keeps}
 use Rattle.sc_live_steps.proofs.FollowingProofs.Marks.{pledged-most}
@@ -142,7 +142,7 @@ module _ (at : Sets) (by : SlotLeaders) (now after : Progress) (node : ℕ) (tak
           (heeded-append at by after.course who (now.promise who) (hints who) (marks who) (sent who) (heeded-change at by now.course after.course who may (now.promise who) (hints who) (marks who) (h.heeds who other))
           (subst (AreHeeded at by after.course who then_promise then_hint) (sym (l.sends who))
           (heeded-append at by after.course who then_promise then_hint (taught_from at now.course newest l.executed who) (l.offers who)
-          (told-heeded at by now.course after.course who apart l.executed newest then_promise then_hint member counted (λ s least most. w.stayed s least (let up = l.newest in omega (arith, most, up))) ends_then)
+          (taught-heeded at by now.course after.course who apart l.executed newest then_promise then_hint member counted (λ s least most. w.stayed s least (let up = l.newest in omega (arith, most, up))) ends_then)
           (offers-heeded at by after.course after.course now.course.bound who who _ _ (l.offers who) (l.asks who)))))
 
       all_stay : after.course.running ≡ true → (s : ℕ) → newest ≤ s → s < newest + l.executed → is_member (members_at at (s + 1)) lead ≡ true
@@ -170,7 +170,7 @@ module _ (at : Sets) (by : SlotLeaders) (now after : Progress) (node : ℕ) (tak
           ∙ (ap (hinted at by then_promise then_hint) (l.sends who)
           ∙ (hinted-append at by then_promise then_hint (taught_from at now.course newest l.executed who) (l.offers who)
           ∙ offers-hinted at by after.course now.course.bound who _ _ (l.offers who) (l.asks who)
-          (told-hinted at by now.course after.course who apart l.executed newest then_promise then_hint (some_then o) member counted (all_stay r) ∙ ap (λ (b : Ballot). Some b.node) (sym l.ballot))))
+          (taught-hinted at by now.course after.course who apart l.executed newest then_promise then_hint (some_then o) member counted (all_stay r) ∙ ap (λ (b : Ballot). Some b.node) (sym l.ballot))))
 
     pub leads-hints : IsHeeding at by after hints_after marks_after
     leads-hints = record {

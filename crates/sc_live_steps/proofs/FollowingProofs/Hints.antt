@@ -6,7 +6,7 @@ use Rattle.sc_node_table.specs.Values.{Ballot}
 use Rattle.sc_node_table.specs.NodeDefinitions.{is_among}
 use Rattle.sc_words.specs.paxos.PaxosDefinitions.{below}
 use Rattle.sc_live_steps.specs.following.FollowingDefinitions.{Mark, Asks, Votes, Teaches, Installs, Prepares, Promises, promise_by, reached, pledged, AreFit, Course, Sets, members_at, SlotLeaders, hint_by, hinted, MayLeave, IsHeeded, AreHeeded, IsCount, IsOffer, reported_of, taught_from}
-use Rattle.sc_live_steps.proofs.FollowingProofs.Marks.{reached-least, told-cases}
+use Rattle.sc_live_steps.proofs.FollowingProofs.Marks.{reached-least, taught-cases}
 
 module _ (at : Sets) (by : SlotLeaders) where
   pub hinted-append : (promise : Ballot) (hint : Option ℕ) (xs ys : List Mark) → hinted at by promise hint (xs ++ ys) ≡ hinted at by (pledged promise xs) (hinted at by promise hint xs) ys
@@ -94,7 +94,7 @@ module _ (at : Sets) (by : SlotLeaders) where
 
     one_heeded : (slot : ℕ) (promise : Ballot) (hint : Option ℕ) → (is_member (members_at at slot) who ≡ true → hint ≡ Some lead) → by slot ≡ lead → IsEnd slot → AreHeeded at by after who promise hint (reported_of at now slot who)
     one_heeded slot promise hint member counts ends =
-        told-cases at now who apart (AreHeeded at by after who promise hint) slot
+        taught-cases at now who apart (AreHeeded at by after who promise hint) slot
         (λ m. ((member m ∙ ap Some (sym counts), may), tt))
         (λ out come. (welcomed out come, cond_both now.is_first [] (Prepares now.ballot ∷ []) (AreHeeded at by after who promise (Some (by slot))) (λ _. tt) (λ _. (tt, tt))))
         (λ out stays. tt)
@@ -108,32 +108,32 @@ module _ (at : Sets) (by : SlotLeaders) where
     one_hinted : (slot : ℕ) (promise : Ballot) (hint : Option ℕ) → (hint ≡ Some lead) ⊎ (is_member (members_at at (slot + 1)) who ≡ true) → (is_member (members_at at slot) who ≡ true → hint ≡ Some lead) → by slot ≡ lead
         → is_member (members_at at (slot + 1)) lead ≡ true → hinted at by promise hint (reported_of at now slot who) ≡ Some lead
     one_hinted slot promise hint some member counts stays =
-        told-cases at now who apart (λ l. hinted at by promise hint l ≡ Some lead) slot
+        taught-cases at now who apart (λ l. hinted at by promise hint l ≡ Some lead) slot
         (λ m. cond-true (is_among (members_at at (slot + 1)) hint) hint (Some (least_of (members_at at (slot + 1)))) (ap (is_among (members_at at (slot + 1))) (member m) ∙ stays) ∙ member m)
         (λ out come. cond_both now.is_first [] (Prepares now.ballot ∷ []) (λ l. hinted at by promise (Some (by slot)) l ≡ Some lead) (λ _. ap Some counts)
         (λ _. cond_both (below promise now.ballot) (Some lead) (Some (by slot)) (λ o. o ≡ Some lead) (λ _. refl) (λ _. ap Some counts)))
         (λ out none. elim some [ inl e ↦ e | inr come ↦ absurd (both_no come none) ])
 
-    pub told-heeded : (more slot : ℕ) (promise : Ballot) (hint : Option ℕ) → (is_member (members_at at slot) who ≡ true → hint ≡ Some lead) → ((s : ℕ) → slot ≤ s → s < slot + more → by s ≡ lead)
+    pub taught-heeded : (more slot : ℕ) (promise : Ballot) (hint : Option ℕ) → (is_member (members_at at slot) who ≡ true → hint ≡ Some lead) → ((s : ℕ) → slot ≤ s → s < slot + more → by s ≡ lead)
         → ((s : ℕ) → slot ≤ s → suc s < slot + more → is_member (members_at at (s + 1)) lead ≡ true) → ((s : ℕ) → slot ≤ s → suc s ≡ slot + more → IsEnd s) → AreHeeded at by after who promise hint (taught_from at now slot more who)
-    told-heeded zero slot promise hint member counts stayed ends = tt
-    told-heeded (suc zero) slot promise hint member counts stayed ends =
+    taught-heeded zero slot promise hint member counts stayed ends = tt
+    taught-heeded (suc zero) slot promise hint member counts stayed ends =
         heeded-append after who promise hint (reported_of at now slot who) [] (one_heeded slot promise hint member (counts slot (omega arith) (omega arith)) (ends slot (omega arith) (omega arith))) tt
-    told-heeded (suc (suc more)) slot promise hint member counts stayed ends =
+    taught-heeded (suc (suc more)) slot promise hint member counts stayed ends =
         let here = stayed slot (omega arith) (omega arith) in
         let first = reported_of at now slot who in
         heeded-append after who promise hint first (taught_from at now (slot + 1) (suc more) who)
         (one_heeded slot promise hint member (counts slot (omega arith) (omega arith)) (inl here))
-        (told-heeded (suc more) (slot + 1) (pledged promise first) (hinted at by promise hint first) (λ m. one_hinted slot promise hint (inr m) member (counts slot (omega arith) (omega arith)) here)
+        (taught-heeded (suc more) (slot + 1) (pledged promise first) (hinted at by promise hint first) (λ m. one_hinted slot promise hint (inr m) member (counts slot (omega arith) (omega arith)) here)
         (λ s least most. counts s (omega (arith, least)) (omega (arith, most))) (λ s least most. stayed s (omega (arith, least)) (omega (arith, most))) (λ s least fact. ends s (omega (arith, least)) (omega (arith, fact))))
 
-    pub told-hinted : (more slot : ℕ) (promise : Ballot) (hint : Option ℕ) → (hint ≡ Some lead) ⊎ ((j : ℕ) × (j < more) × (is_member (members_at at (slot + j + 1)) who ≡ true)) → (is_member (members_at at slot) who ≡ true → hint ≡ Some lead)
+    pub taught-hinted : (more slot : ℕ) (promise : Ballot) (hint : Option ℕ) → (hint ≡ Some lead) ⊎ ((j : ℕ) × (j < more) × (is_member (members_at at (slot + j + 1)) who ≡ true)) → (is_member (members_at at slot) who ≡ true → hint ≡ Some lead)
         → ((s : ℕ) → slot ≤ s → s < slot + more → by s ≡ lead) → ((s : ℕ) → slot ≤ s → s < slot + more → is_member (members_at at (s + 1)) lead ≡ true) → hinted at by promise hint (taught_from at now slot more who) ≡ Some lead
-    told-hinted zero slot promise hint (inl e) member counts stayed = e
-    told-hinted zero slot promise hint (inr (j, low, m)) member counts stayed = absurd (omega (arith, low))
-    told-hinted (suc more) slot promise hint some member counts stayed =
+    taught-hinted zero slot promise hint (inl e) member counts stayed = e
+    taught-hinted zero slot promise hint (inr (j, low, m)) member counts stayed = absurd (omega (arith, low))
+    taught-hinted (suc more) slot promise hint some member counts stayed =
         hinted-append promise hint first (taught_from at now (slot + 1) more who)
-        ∙ told-hinted more (slot + 1) (pledged promise first) (hinted at by promise hint first) (later some) (λ m. here (inr m)) (λ s least most. counts s (omega (arith, least)) (omega (arith, most)))
+        ∙ taught-hinted more (slot + 1) (pledged promise first) (hinted at by promise hint first) (later some) (λ m. here (inr m)) (λ s least most. counts s (omega (arith, least)) (omega (arith, most)))
         (λ s least most. stayed s (omega (arith, least)) (omega (arith, most)))
       where
         first : List Mark

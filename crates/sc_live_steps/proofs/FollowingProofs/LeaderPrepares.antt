@@ -14,7 +14,7 @@ use Rattle.sc_law_walks.specs.WalkDefinitions.{IfThere}
 use Rattle.sc_law_walks.proofs.WalkLemmas.{idle_ready}
 use Rattle.sc_live_steps.specs.following.FollowingDefinitions.{Dated, marks_in, from_slot_of, dated_of, dated_for, AreLow, IsNoPrepare, AsksLow, RowsAskNext, Mark, Asks, Teaches, Installs, Prepares, mark_of, reached, Course, Sets, IsLed, IsNext, AreNext, marks_for}
 use Rattle.sc_live_steps.proofs.FollowingProofs.QueueingRows.{aside_is, order_is}
-use Rattle.sc_live_steps.proofs.FollowingProofs.CountedEntries.{entered_keeps, landed_told, ends, entries_lead}
+use Rattle.sc_live_steps.proofs.FollowingProofs.CountedEntries.{entered_keeps, landed_taught, ends, entries_lead}
 use Rattle.sc_live_steps.proofs.FollowingProofs.AskedSlots.{low-append, none_low, nothing, prepares_are_known}
 use Rattle.sc_live_steps.proofs.FollowingProofs.EntryMail.{with_state, with_both}
 use Rattle.sc_live_steps.proofs.FollowingProofs.ExecutedEntries.{stays_led, ready_of}
@@ -197,14 +197,14 @@ module _ (name : Draw) where
       abbrev over : ReplicaState
       over = record here { leader = without_flight_at (next r) here.leader; ready = without_slot here.ready (next r) }
 
-      low_told : Low told.1
+      low_taught : Low told.1
       unfolding welcomed learnt_to
-      low_told = low_welcome here (filter (λ node. not (is_member (members r) node)) (members here)) _ (low_others here.me (Learn (name_of here) (next r) command) (named_unasked (name_of here) (Teaches (next r)) tt) (members r) more g)
+      low_taught = low_welcome here (filter (λ node. not (is_member (members r) node)) (members here)) _ (low_others here.me (Learn (name_of here) (next r) command) (named_unasked (name_of here) (Teaches (next r)) tt) (members r) more g)
 
       low_past : Low (looked (left (landed true (next r) command told))).1
       low_past =
-          subst (λ (p : Place). Low (looked (left p)).1) (sym (landed_told (members r) (next r) command here more))
-          (ends (λ p. Low p.1) over told.1 ((entered_keeps command r).0 ∙ led.running) is_next.roster (λ stands stays. low_told) (λ why hint answer. ended_kept name Keeps (λ _ h. h) (λ a b c one other h. other (one h)) keep hint answer over told.1 low_told))
+          subst (λ (p : Place). Low (looked (left p)).1) (sym (landed_taught (members r) (next r) command here more))
+          (ends (λ p. Low p.1) over told.1 ((entered_keeps command r).0 ∙ led.running) is_next.roster (λ stands stays. low_taught) (λ why hint answer. ended_kept name Keeps (λ _ h. h) (λ a b c one other h. other (one h)) keep hint answer over told.1 low_taught))
 
     pub low_entry : Low (executed_one true command (r, mails)).1
     unfolding executed_one

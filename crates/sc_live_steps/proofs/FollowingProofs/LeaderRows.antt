@@ -7,7 +7,7 @@ use Rattle.sc_node_table.specs.NodeDefinitions.{listed, slots_ahead}
 use Rattle.sc_words.specs.paxos.PaxosDefinitions.{IsAtLeast}
 use Rattle.sc_words.proofs.PaxosProofs.PaxosLemmas.{at_least_itself, Each-append, Each-weaker}
 use Rattle.sc_live_steps.specs.following.FollowingDefinitions.{Mark, Asks, Votes, Teaches, Installs, Prepares, Promises, reached, pledged, AreFit, AreAskedFirst, Progress, Sets, members_at, IsOpen, IsKnown, IsVoting, HasPromised, IsPromising, IsFollowing, IsRow, IsCount, IsElsewhere, taught_from, IsCounted, IsKept, Leads}
-use Rattle.sc_live_steps.proofs.FollowingProofs.Marks.{known_later, among-left, among-right, among-either, reached-append, pledged-append, fit-append, reached-least, pledged-most, stands, count-reached, count-pledged, IsLater, IsNoVote, asked-none, asked-votes, offers-fit, offers-reached, offers-pledged, offers-each, told-each, told-own, told-prepares, IsTold, told-all}
+use Rattle.sc_live_steps.proofs.FollowingProofs.Marks.{known_later, among-left, among-right, among-either, reached-append, pledged-append, fit-append, reached-least, pledged-most, stands, count-reached, count-pledged, IsLater, IsNoVote, asked-none, asked-votes, offers-fit, offers-reached, offers-pledged, offers-each, taught-each, taught-own, taught-prepares, IsTaughtUpTo, taught-all}
 use Rattle.sc_live_steps.proofs.FollowingProofs.NodeMarks.{promise-row, goes, stays, each-row, asked-row}
 
 -- the least of some members is one
@@ -53,8 +53,8 @@ module _ (at : Sets) (now after : Progress) (node : ℕ) (taken : Option Mark) (
   abbrev newest_after : ℕ
   newest_after = after.course.newest
 
-  abbrev told : ℕ → List Mark
-  told who = taught_from at now.course newest l.executed who
+  abbrev taught : ℕ → List Mark
+  taught who = taught_from at now.course newest l.executed who
 
   apart : (who : ℕ) → (who ≡ node → ⊥) → who ≡ lead → ⊥
   apart who ne fact = ne (fact ∙ sym l.mine)
@@ -95,7 +95,7 @@ module _ (at : Sets) (now after : Progress) (node : ℕ) (taken : Option Mark) (
       ∙ (sym (pledged-append (now.promise node) (listed taken) row.left) ∙ (ap (pledged (now.promise node)) (sym row.takes) ∙ (was.ready node lead_open).promised))
 
   own_sent : sent node ≡ l.offers node
-  own_sent = l.sends node ∙ ap (λ t. t ++ l.offers node) (told-own at now.course node l.mine l.executed newest)
+  own_sent = l.sends node ∙ ap (λ t. t ++ l.offers node) (taught-own at now.course node l.mine l.executed newest)
 
   own_reached : reached (after.next node) (marks_after node) ≡ newest_after
   own_reached =
@@ -145,7 +145,7 @@ module _ (at : Sets) (now after : Progress) (node : ℕ) (taken : Option Mark) (
     abbrev promise_then : Ballot
     promise_then = pledged (now.promise who) (marks who)
 
-    before : IsTold at now.course who newest newest next_then promise_then
+    before : IsTaughtUpTo at now.course who newest newest next_then promise_then
     before = record {
       low = was.within who;
       member = was.members who;
@@ -154,24 +154,24 @@ module _ (at : Sets) (now after : Progress) (node : ℕ) (taken : Option Mark) (
       opens = λ slot f lt d. (let r = was.ready who (record { slot = slot; from = f; to = lt; decides = d }) in (r.replica, r.promised));
     }
 
-    told_there : AreFit next_then promise_then (told who) × IsTold at now.course who newest (newest + l.executed) (reached next_then (told who)) (pledged promise_then (told who))
-    told_there = told-all at now.course who (apart who ne) newest l.executed newest next_then promise_then (omega arith) was.some before
+    told_there : AreFit next_then promise_then (taught who) × IsTaughtUpTo at now.course who newest (newest + l.executed) (reached next_then (taught who)) (pledged promise_then (taught who))
+    told_there = taught-all at now.course who (apart who ne) newest l.executed newest next_then promise_then (omega arith) was.some before
 
-    other_reached : reached (after.next who) (marks_after who) ≡ reached next_then (told who)
+    other_reached : reached (after.next who) (marks_after who) ≡ reached next_then (taught who)
     other_reached =
         ap (reached (after.next who)) (row.others who ne)
         ∙ (reached-append (after.next who) (marks who) (sent who)
         ∙ (ap (λ n. reached (reached n (marks who)) (sent who)) (row.next who ne)
-        ∙ (ap (reached next_then) (l.sends who) ∙ (reached-append next_then (told who) (l.offers who) ∙ offers-reached at after.course now.course.bound who (reached next_then (told who)) (l.offers who) (l.asks who)))))
+        ∙ (ap (reached next_then) (l.sends who) ∙ (reached-append next_then (taught who) (l.offers who) ∙ offers-reached at after.course now.course.bound who (reached next_then (taught who)) (l.offers who) (l.asks who)))))
 
-    other_pledged : pledged (after.promise who) (marks_after who) ≡ pledged promise_then (told who)
+    other_pledged : pledged (after.promise who) (marks_after who) ≡ pledged promise_then (taught who)
     other_pledged =
         ap (pledged (after.promise who)) (row.others who ne)
         ∙ (pledged-append (after.promise who) (marks who) (sent who)
         ∙ (ap (λ p. pledged (pledged p (marks who)) (sent who)) (row.promise who ne)
-        ∙ (ap (pledged promise_then) (l.sends who) ∙ (pledged-append promise_then (told who) (l.offers who) ∙ offers-pledged at after.course now.course.bound who (pledged promise_then (told who)) (l.offers who) (l.asks who)))))
+        ∙ (ap (pledged promise_then) (l.sends who) ∙ (pledged-append promise_then (taught who) (l.offers who) ∙ offers-pledged at after.course now.course.bound who (pledged promise_then (taught who)) (l.offers who) (l.asks who)))))
 
-    other_opens : (slot : ℕ) → newest ≤ slot → slot < newest_after + slots_ahead → is_member (at slot) who ≡ true → (1 ≤ reached next_then (told who)) × (pledged promise_then (told who) ≡ now.course.ballot)
+    other_opens : (slot : ℕ) → newest ≤ slot → slot < newest_after + slots_ahead → is_member (at slot) who ≡ true → (1 ≤ reached next_then (taught who)) × (pledged promise_then (taught who) ≡ now.course.ballot)
     other_opens slot f lt d = (let up = l.newest in told_there.1.opens slot f (omega (arith, lt, up)) d)
 
     other_fit : AreFit (after.next who) (after.promise who) (marks_after who)
@@ -181,10 +181,10 @@ module _ (at : Sets) (now after : Progress) (node : ℕ) (taken : Option Mark) (
         let within = l.within in
         let starts = was.low in
         let high = l.high in
-        let offers : AreFit (reached next_then (told who)) (pledged promise_then (told who)) (l.offers who) =
-        offers-fit at after.course now.course.bound who (reached next_then (told who)) (pledged promise_then (told who)) (l.offers who) (l.asks who) (omega (arith, up, low, within))
+        let offers : AreFit (reached next_then (taught who)) (pledged promise_then (taught who)) (l.offers who) =
+        offers-fit at after.course now.course.bound who (reached next_then (taught who)) (pledged promise_then (taught who)) (l.offers who) (l.asks who) (omega (arith, up, low, within))
         (λ slot f lt d. (let o = other_opens slot (omega (arith, f, starts)) (omega (arith, lt, high)) d in (o.0, o.1 ∙ sym l.ballot))) in
-        let behind : AreFit next_then promise_then (sent who) = subst (AreFit next_then promise_then) (sym (l.sends who)) (fit-append next_then promise_then (told who) (l.offers who) told_there.0 offers) in
+        let behind : AreFit next_then promise_then (sent who) = subst (AreFit next_then promise_then) (sym (l.sends who)) (fit-append next_then promise_then (taught who) (l.offers who) told_there.0 offers) in
         subst (λ n. AreFit n (after.promise who) (marks_after who)) (sym (row.next who ne))
         (subst (λ p. AreFit (now.next who) p (marks_after who)) (sym (row.promise who ne))
         (subst (AreFit (now.next who) (now.promise who)) (sym (row.others who ne)) (fit-append (now.next who) (now.promise who) (marks who) (sent who) (was.fits who) behind)))
@@ -211,7 +211,7 @@ module _ (at : Sets) (now after : Progress) (node : ℕ) (taken : Option Mark) (
       → ((ballot : Ballot) (slot : ℕ) → now.course.bound ≤ slot → slot < after.course.bound → P (Asks ballot slot)) → (who : ℕ) → Each P (sent who)
   sent_each P tells installs prepares asks who =
       subst (Each P) (sym (l.sends who))
-      (Each-append P (told who) (l.offers who) (told-each at now.course who P tells installs prepares l.executed newest) (offers-each P at after.course now.course.bound who asks (l.offers who) (l.asks who)))
+      (Each-append P (taught who) (l.offers who) (taught-each at now.course who P tells installs prepares l.executed newest) (offers-each P at after.course now.course.bound who asks (l.offers who) (l.asks who)))
 
   taken_no : (mark : Mark) → (IsCount mark → ⊥) → taken ≡ Some mark → ⊥
   taken_no mark no_ e = no_ (counted_is taken mark l.takes e)
@@ -262,10 +262,10 @@ module _ (at : Sets) (now after : Progress) (node : ℕ) (taken : Option Mark) (
       | inr ge ↦ (let to = o.to in
           let up = l.newest in
           let same : o.slot ≡ newest + (o.slot - (newest + 3)) + 3 = omega (arith, ge) in
-          let prepared = told-prepares at now.course who (apart who ne) later l.executed newest (o.slot - (newest + 3)) (omega (arith, to, up, ge)) (subst (λ s. is_member (at s) who ≡ true) same o.decides) in
+          let prepared = taught-prepares at now.course who (apart who ne) later l.executed newest (o.slot - (newest + 3)) (omega (arith, to, up, ge)) (subst (λ s. is_member (at s) who ≡ true) same o.decides) in
           elim prepared [
             | inl m ↦ inl (record { slot = newest + 3; from = omega arith; to = omega arith; decides = m })
-            | inr a ↦ inr (subst (Among (Prepares now.course.ballot)) (sym (l.sends who)) (among-left (Prepares now.course.ballot) (told who) (l.offers who) a))
+            | inr a ↦ inr (subst (Among (Prepares now.course.ballot)) (sym (l.sends who)) (among-left (Prepares now.course.ballot) (taught who) (l.offers who) a))
           ])
     ]
   ]

@@ -9,7 +9,7 @@ use Rattle.sc_live_steps.specs.following.FollowingDefinitions.{Mark, Votes, Teac
 use Rattle.sc_live_steps.proofs.FollowingProofs.ElectionRows.{elects-each, self_election-keeps}
 use Rattle.sc_live_steps.proofs.FollowingProofs.NodeMarks.{idle_next, idle_reached, counts_of, each-row, reached_left}
 use Rattle.sc_live_steps.proofs.FollowingProofs.LeaderRows.{leads-keeps}
-use Rattle.sc_live_steps.proofs.FollowingProofs.Marks.{among-left, among-right, offers-each, reached-append, reached-least, told-cases, told-own}
+use Rattle.sc_live_steps.proofs.FollowingProofs.Marks.{among-left, among-right, offers-each, reached-append, reached-least, taught-cases, taught-own}
 
 -- ---- lists
 
@@ -23,13 +23,13 @@ more_reached : (next : ℕ) (promise : Ballot) (xs ys : List Mark) → AreFit ne
 more_reached next promise xs ys f = subst (λ n. reached next xs ≤ n) (sym (reached-append next xs ys)) (reached-least (reached next xs) (pledged promise xs) ys (fit_behind next promise xs ys f))
 
 -- an entry that is taken to be learnt is learnt
-told_reached : (next : ℕ) (promise : Ballot) (marks : List Mark) (slot : ℕ) → AreFit next promise marks → Among (Teaches slot) marks → slot < reached next marks
-told_reached next promise [] slot f a = absurd a
-told_reached next promise (mark ∷ marks) slot f (inl fact) =
+taught_reached : (next : ℕ) (promise : Ballot) (marks : List Mark) (slot : ℕ) → AreFit next promise marks → Among (Teaches slot) marks → slot < reached next marks
+taught_reached next promise [] slot f a = absurd a
+taught_reached next promise (mark ∷ marks) slot f (inl fact) =
     let least = reached-least (next_by next mark) (promise_by promise mark) marks f.1 in
     let step : next_by next mark ≡ suc slot = ap (next_by next) fact in
     omega (arith, least, step)
-told_reached next promise (mark ∷ marks) slot f (inr a) = told_reached (next_by next mark) (promise_by promise mark) marks slot f.1 a
+taught_reached next promise (mark ∷ marks) slot f (inr a) = taught_reached (next_by next mark) (promise_by promise mark) marks slot f.1 a
 
 count_member : (at : Sets) (node : ℕ) (mark : Mark) → IsCount mark → IsForMember at node mark
 count_member at node (Votes other ballot slot) c = tt
@@ -38,32 +38,32 @@ count_member at node _ c = absurd c
 
 module _ (at : Sets) (course : Course) (who : ℕ) (apart : who ≡ course.ballot.node → ⊥) where
   -- each member of a state is sent the entry after it
-  told_among : (more slot j : ℕ) → j < more → is_member (members_at at (slot + j)) who ≡ true → Among (Teaches (slot + j)) (taught_from at course slot more who)
-  told_among zero slot j low fact = absurd (omega (arith, low))
-  told_among (suc more) slot zero low fact =
+  taught_among : (more slot j : ℕ) → j < more → is_member (members_at at (slot + j)) who ≡ true → Among (Teaches (slot + j)) (taught_from at course slot more who)
+  taught_among zero slot j low fact = absurd (omega (arith, low))
+  taught_among (suc more) slot zero low fact =
       let e : slot + zero ≡ slot = omega arith in
       subst (λ s. Among (Teaches s) (reported_of at course slot who ++ taught_from at course (slot + 1) more who)) (sym e)
       (among-left (Teaches slot) (reported_of at course slot who) (taught_from at course (slot + 1) more who)
-      (told-cases at course who apart (Among (Teaches slot)) slot (λ _. inl refl) (λ out come. absurd (both_no (subst (λ s. is_member (members_at at s) who ≡ true) e fact) out)) (λ out stays. absurd (both_no (subst (λ s. is_member (members_at at s) who ≡ true) e fact) out))))
+      (taught-cases at course who apart (Among (Teaches slot)) slot (λ _. inl refl) (λ out come. absurd (both_no (subst (λ s. is_member (members_at at s) who ≡ true) e fact) out)) (λ out stays. absurd (both_no (subst (λ s. is_member (members_at at s) who ≡ true) e fact) out))))
     where
       both_no : {b : Bool} → b ≡ true → b ≡ false → ⊥
       both_no t f = cc
-  told_among (suc more) slot (suc j) low fact =
+  taught_among (suc more) slot (suc j) low fact =
       let e : slot + suc j ≡ slot + 1 + j = omega arith in
       among-right (Teaches (slot + suc j)) (reported_of at course slot who) (taught_from at course (slot + 1) more who)
-      (subst (λ s. Among (Teaches s) (taught_from at course (slot + 1) more who)) (sym e) (told_among more (slot + 1) j (omega (arith, low)) (subst (λ s. is_member (members_at at s) who ≡ true) e fact)))
+      (subst (λ s. Among (Teaches s) (taught_from at course (slot + 1) more who)) (sym e) (taught_among more (slot + 1) j (omega (arith, low)) (subst (λ s. is_member (members_at at s) who ≡ true) e fact)))
 
   -- nobody else is sent one
   one_member : (slot : ℕ) → Each (IsForMember at who) (reported_of at course slot who)
   one_member slot =
       let e : slot + 1 ≡ suc slot = omega arith in
-      told-cases at course who apart (Each (IsForMember at who)) slot (λ fact. (fact, tt))
+      taught-cases at course who apart (Each (IsForMember at who)) slot (λ fact. (fact, tt))
       (λ out come. (subst (λ s. is_member (members_at at s) who ≡ true) e come, cond_both course.is_first [] (Prepares course.ballot ∷ []) (Each (IsForMember at who)) (λ _. tt) (λ _. (tt, tt))))
       (λ out stays. tt)
 
-  told_members : (more slot : ℕ) → Each (IsForMember at who) (taught_from at course slot more who)
-  told_members zero slot = tt
-  told_members (suc more) slot = Each-append (IsForMember at who) (reported_of at course slot who) (taught_from at course (slot + 1) more who) (one_member slot) (told_members more (slot + 1))
+  taught_members : (more slot : ℕ) → Each (IsForMember at who) (taught_from at course slot more who)
+  taught_members zero slot = tt
+  taught_members (suc more) slot = Each-append (IsForMember at who) (reported_of at course slot who) (taught_from at course (slot + 1) more who) (one_member slot) (taught_members more (slot + 1))
 
 -- ---- a group begins
 
@@ -141,8 +141,8 @@ module _ (at : Sets) (by : SlotLeaders) (now after : Progress) (node : ℕ) (tak
       where
         told : Each (IsForMember at who) (taught_from at now.course now.course.newest l.executed who)
         told = elim (cases_eq who lead) [
-          | inl fact ↦ subst (Each (IsForMember at who)) (sym (told-own at now.course who fact l.executed now.course.newest)) tt
-          | inr ne ↦ told_members at now.course who ne l.executed now.course.newest
+          | inl fact ↦ subst (Each (IsForMember at who)) (sym (taught-own at now.course who fact l.executed now.course.newest)) tt
+          | inr ne ↦ taught_members at now.course who ne l.executed now.course.newest
         ]
 
     own_reached : (slot : ℕ) → slot < after.course.newest → slot < reached (after.next node) (marks_after node)
@@ -153,8 +153,8 @@ module _ (at : Sets) (by : SlotLeaders) (now after : Progress) (node : ℕ) (tak
         let j = slot - now.course.newest in
         let e : now.course.newest + j ≡ slot = omega (arith, from) in
         let up = l.newest in
-        let among = told_among at now.course who (λ h. ne (h ∙ sym l.mine)) l.executed now.course.newest j (omega (arith, low, up, from)) (subst (λ s. is_member (members_at at s) who ≡ true) (sym e) fact) in
-        told_reached (after.next who) (after.promise who) (marks_after who) slot (then.fits who)
+        let among = taught_among at now.course who (λ h. ne (h ∙ sym l.mine)) l.executed now.course.newest j (omega (arith, low, up, from)) (subst (λ s. is_member (members_at at s) who ≡ true) (sym e) fact) in
+        taught_reached (after.next who) (after.promise who) (marks_after who) slot (then.fits who)
         (subst (Among (Teaches slot)) (sym (row.others who ne)) (among-right (Teaches slot) (marks who) (sent who) (subst (Among (Teaches slot)) (sym (l.sends who))
         (among-left (Teaches slot) (taught_from at now.course now.course.newest l.executed who) (l.offers who) (subst (λ s. Among (Teaches s) (taught_from at now.course now.course.newest l.executed who)) e among)))))
 

@@ -239,9 +239,9 @@ offers-each P at course from who f (Promises node ballot ∷ marks) e = absurd e
 
 module _ (at : Sets) (course : Course) (who : ℕ) where
   -- it is an entry to be learnt, a state, or a request to promise the ballot
-  pub told-each : (P : Mark → Type 0) → ((slot : ℕ) → P (Teaches slot)) → ((slot : ℕ) → P (Installs slot)) → P (Prepares course.ballot) → (more slot : ℕ) → Each P (taught_from at course slot more who)
-  told-each P tells installs prepares zero slot = tt
-  told-each P tells installs prepares (suc more) slot = Each-append P (reported_of at course slot who) (taught_from at course (slot + 1) more who) one (told-each P tells installs prepares more (slot + 1))
+  pub taught-each : (P : Mark → Type 0) → ((slot : ℕ) → P (Teaches slot)) → ((slot : ℕ) → P (Installs slot)) → P (Prepares course.ballot) → (more slot : ℕ) → Each P (taught_from at course slot more who)
+  taught-each P tells installs prepares zero slot = tt
+  taught-each P tells installs prepares (suc more) slot = Each-append P (reported_of at course slot who) (taught_from at course (slot + 1) more who) one (taught-each P tells installs prepares more (slot + 1))
     where
       welcomed_each : Each P (welcome course slot)
       welcomed_each = (installs slot, cond_both course.is_first [] (Prepares course.ballot ∷ []) (Each P) (λ _. tt) (λ _. (prepares, tt)))
@@ -253,15 +253,15 @@ module _ (at : Sets) (course : Course) (who : ℕ) where
           (λ _. cond_both (is_member (members_at at (slot + 1)) who) (welcome course slot) [] (Each P) (λ _. welcomed_each) (λ _. tt)))
 
   -- the one that leads is sent nothing
-  pub told-own : who ≡ course.ballot.node → (more slot : ℕ) → taught_from at course slot more who ≡ []
-  told-own fact zero slot = refl
-  told-own fact (suc more) slot =
+  pub taught-own : who ≡ course.ballot.node → (more slot : ℕ) → taught_from at course slot more who ≡ []
+  taught-own fact zero slot = refl
+  taught-own fact (suc more) slot =
       ap (λ l. l ++ taught_from at course (slot + 1) more who)
       (cond-true (eqb who course.ballot.node) [] (cond (is_member (members_at at slot) who) (Teaches slot ∷ []) (cond (is_member (members_at at (slot + 1)) who) (welcome course slot) [])) (eq-eqb who course.ballot.node fact))
-      ∙ told-own fact more (slot + 1)
+      ∙ taught-own fact more (slot + 1)
 
   -- where a node is that is sent all entries from a slot on, once this one is next: no further than that, a member there, and one that decides an open slot has a replica and promised the ballot
-  pub record IsTold (from slot next : ℕ) (promise : Ballot) : Type 0 where
+  pub record IsTaughtUpTo (from slot next : ℕ) (promise : Ballot) : Type 0 where
     pub low : next ≤ slot
     pub member : is_member (members_at at slot) who ≡ true → next ≡ slot
     pub most : IsAtLeast course.ballot promise
@@ -269,29 +269,29 @@ module _ (at : Sets) (course : Course) (who : ℕ) where
     pub opens : (other : ℕ) → from ≤ other → other < slot + slots_ahead → is_member (at other) who ≡ true → (1 ≤ next) × (promise ≡ course.ballot)
 
   -- what is sent comes in time, and takes it there
-  abbrev IsToldBy : ℕ → ℕ → ℕ → Ballot → List Mark → Type 0
-  IsToldBy from slot next promise marks = AreFit next promise marks × IsTold from slot (reached next marks) (pledged promise marks)
+  abbrev IsTaughtBy : ℕ → ℕ → ℕ → Ballot → List Mark → Type 0
+  IsTaughtBy from slot next promise marks = AreFit next promise marks × IsTaughtUpTo from slot (reached next marks) (pledged promise marks)
 
   module _ (apart : who ≡ course.ballot.node → ⊥) where
     -- a member is sent the entry, one that joins is welcomed, and others are sent nothing
-    pub told-cases : (P : List Mark → Type 0) (slot : ℕ) → (is_member (members_at at slot) who ≡ true → P (Teaches slot ∷ []))
+    pub taught-cases : (P : List Mark → Type 0) (slot : ℕ) → (is_member (members_at at slot) who ≡ true → P (Teaches slot ∷ []))
         → (is_member (members_at at slot) who ≡ false → is_member (members_at at (slot + 1)) who ≡ true → P (welcome course slot))
         → (is_member (members_at at slot) who ≡ false → is_member (members_at at (slot + 1)) who ≡ false → P []) → P (reported_of at course slot who)
-    told-cases P slot one two three =
+    taught-cases P slot one two three =
         subst P
         (sym (cond-false (eqb who course.ballot.node) [] (cond (is_member (members_at at slot) who) (Teaches slot ∷ []) (cond (is_member (members_at at (slot + 1)) who) (welcome course slot) [])) (ne_eqb who course.ballot.node apart)))
         (cond_both (is_member (members_at at slot) who) (Teaches slot ∷ []) (cond (is_member (members_at at (slot + 1)) who) (welcome course slot) []) P one
         (λ f. cond_both (is_member (members_at at (slot + 1)) who) (welcome course slot) [] P (two f) (three f)))
 
     -- one that comes is asked to promise, where the ballot is not the first
-    pub told-prepares : course.is_first ≡ false → (more slot j : ℕ) → j ≤ more → is_member (members_at at (slot + j)) who ≡ true
+    pub taught-prepares : course.is_first ≡ false → (more slot j : ℕ) → j ≤ more → is_member (members_at at (slot + j)) who ≡ true
         → (is_member (members_at at slot) who ≡ true) ⊎ Among (Prepares course.ballot) (taught_from at course slot more who)
-    told-prepares later more slot zero le fact = (let e : slot + zero ≡ slot = omega arith in inl (subst (λ s. is_member (members_at at s) who ≡ true) e fact))
-    told-prepares later zero slot (suc j) le fact = absurd (omega (arith, le))
-    told-prepares later (suc more) slot (suc j) le fact =
+    taught-prepares later more slot zero le fact = (let e : slot + zero ≡ slot = omega arith in inl (subst (λ s. is_member (members_at at s) who ≡ true) e fact))
+    taught-prepares later zero slot (suc j) le fact = absurd (omega (arith, le))
+    taught-prepares later (suc more) slot (suc j) le fact =
         let e : slot + suc j ≡ slot + 1 + j = omega arith in
-        let next = told-prepares later more (slot + 1) j (omega (arith, le)) (subst (λ s. is_member (members_at at s) who ≡ true) e fact) in
-        told-cases (λ l. (is_member (members_at at slot) who ≡ true) ⊎ Among (Prepares course.ballot) (l ++ taught_from at course (slot + 1) more who)) slot
+        let next = taught-prepares later more (slot + 1) j (omega (arith, le)) (subst (λ s. is_member (members_at at s) who ≡ true) e fact) in
+        taught-cases (λ l. (is_member (members_at at slot) who ≡ true) ⊎ Among (Prepares course.ballot) (l ++ taught_from at course (slot + 1) more who)) slot
         (λ t. inl t)
         (λ _ _. inr (among-left (Prepares course.ballot) (welcome course slot) (taught_from at course (slot + 1) more who) (inr (subst (Among (Prepares course.ballot)) (sym (cond-false course.is_first [] (Prepares course.ballot ∷ []) later)) (inl refl)))))
         (λ _ f. elim next [ inl t ↦ absurd (no_both t f) | inr a ↦ inr a ])
@@ -299,8 +299,8 @@ module _ (at : Sets) (course : Course) (who : ℕ) where
         no_both : {b : Bool} → b ≡ true → b ≡ false → ⊥
         no_both t f = cc
 
-    told-one : (from slot next : ℕ) (promise : Ballot) → from ≤ slot → 1 ≤ slot → IsTold from slot next promise → IsToldBy from (slot + 1) next promise (reported_of at course slot who)
-    told-one from slot next promise up some t = told-cases (IsToldBy from (slot + 1) next promise) slot member comes none
+    taught-one : (from slot next : ℕ) (promise : Ballot) → from ≤ slot → 1 ≤ slot → IsTaughtUpTo from slot next promise → IsTaughtBy from (slot + 1) next promise (reported_of at course slot who)
+    taught-one from slot next promise up some t = taught-cases (IsTaughtBy from (slot + 1) next promise) slot member comes none
       where
         low : next ≤ slot
         low = t.low
@@ -309,7 +309,7 @@ module _ (at : Sets) (course : Course) (who : ℕ) where
         opened : (other : ℕ) → other < slot + 1 + slots_ahead → (other < slot + slots_ahead) ⊎ (other ≡ slot + 1 + 3)
         opened other lt = elim (cases_lt other (slot + slots_ahead)) [ inl l ↦ inl l | inr g ↦ inr (omega (arith, lt, g)) ]
 
-        member : is_member (members_at at slot) who ≡ true → IsToldBy from (slot + 1) next promise (Teaches slot ∷ [])
+        member : is_member (members_at at slot) who ≡ true → IsTaughtBy from (slot + 1) next promise (Teaches slot ∷ [])
         member fact =
             let old = t.opens (slot + 3) (omega (arith, up)) (omega arith) fact in (
               ((old.0, sym (t.member fact)), tt),
@@ -322,9 +322,9 @@ module _ (at : Sets) (course : Course) (who : ℕ) where
               },
             )
 
-        comes : is_member (members_at at slot) who ≡ false → is_member (members_at at (slot + 1)) who ≡ true → IsToldBy from (slot + 1) next promise (welcome course slot)
+        comes : is_member (members_at at slot) who ≡ false → is_member (members_at at (slot + 1)) who ≡ true → IsTaughtBy from (slot + 1) next promise (welcome course slot)
         comes out come =
-            cond_both course.is_first [] (Prepares course.ballot ∷ []) (λ l. IsToldBy from (slot + 1) next promise (Installs slot ∷ l))
+            cond_both course.is_first [] (Prepares course.ballot ∷ []) (λ l. IsTaughtBy from (slot + 1) next promise (Installs slot ∷ l))
             (λ first. (
               (low, tt),
               record {
@@ -346,7 +346,7 @@ module _ (at : Sets) (course : Course) (who : ℕ) where
               },
             ))
 
-        none : is_member (members_at at slot) who ≡ false → is_member (members_at at (slot + 1)) who ≡ false → IsToldBy from (slot + 1) next promise []
+        none : is_member (members_at at slot) who ≡ false → is_member (members_at at (slot + 1)) who ≡ false → IsTaughtBy from (slot + 1) next promise []
         none out stays = (
           tt,
           record {
@@ -358,18 +358,18 @@ module _ (at : Sets) (course : Course) (who : ℕ) where
           },
         )
 
-    pub told-all : (from more slot next : ℕ) (promise : Ballot) → from ≤ slot → 1 ≤ slot → IsTold from slot next promise → IsToldBy from (slot + more) next promise (taught_from at course slot more who)
-    told-all from zero slot next promise up some t = (let e : slot ≡ slot + zero = omega arith in (tt, subst (λ s. IsTold from s next promise) e t))
-    told-all from (suc more) slot next promise up some t =
-        let one = told-one from slot next promise up some t in
+    pub taught-all : (from more slot next : ℕ) (promise : Ballot) → from ≤ slot → 1 ≤ slot → IsTaughtUpTo from slot next promise → IsTaughtBy from (slot + more) next promise (taught_from at course slot more who)
+    taught-all from zero slot next promise up some t = (let e : slot ≡ slot + zero = omega arith in (tt, subst (λ s. IsTaughtUpTo from s next promise) e t))
+    taught-all from (suc more) slot next promise up some t =
+        let one = taught-one from slot next promise up some t in
         let first = reported_of at course slot who in
         let then = taught_from at course (slot + 1) more who in
         let e : slot + 1 + more ≡ slot + suc more = omega arith in
-        let rest = told-all from more (slot + 1) (reached next first) (pledged promise first) (omega (arith, up)) (omega (arith, some)) one.1 in (
+        let rest = taught-all from more (slot + 1) (reached next first) (pledged promise first) (omega (arith, up)) (omega (arith, some)) one.1 in (
           fit-append next promise first then one.0 rest.0,
-          subst (λ s. IsTold from s (reached next (first ++ then)) (pledged promise (first ++ then))) e
-              (subst (λ n. IsTold from (slot + 1 + more) n (pledged promise (first ++ then))) (sym (reached-append next first then))
-              (subst (λ p. IsTold from (slot + 1 + more) (reached (reached next first) then) p) (sym (pledged-append promise first then)) rest.1)),
+          subst (λ s. IsTaughtUpTo from s (reached next (first ++ then)) (pledged promise (first ++ then))) e
+              (subst (λ n. IsTaughtUpTo from (slot + 1 + more) n (pledged promise (first ++ then))) (sym (reached-append next first then))
+              (subst (λ p. IsTaughtUpTo from (slot + 1 + more) (reached (reached next first) then) p) (sym (pledged-append promise first then)) rest.1)),
         )
 
 -- what is known stays so where more is offered in a later ballot

@@ -146,9 +146,9 @@ offers_last at course from who newest (Installs slot ∷ marks) e = absurd e.0
 offers_last at course from who newest (Prepares ballot ∷ marks) e = absurd e.0
 offers_last at course from who newest (Promises node ballot ∷ marks) e = absurd e.0
 
-pub last_told : (at : Sets) (course in_course : Course) (from who newest : ℕ) (offers : List Mark) → Each (IsOffer at in_course from who) offers → (more slot : ℕ) → slot + more ≡ newest → AreLearntLast newest (taught_from at course slot more who ++ offers)
-last_told at course in_course from who newest offers e zero slot fact = offers_last at in_course from who newest offers e
-last_told at course in_course from who newest offers e (suc more) slot fact = with_later (last_told at course in_course from who newest offers e more (slot + 1) (omega (arith, fact)))
+pub last_taught : (at : Sets) (course in_course : Course) (from who newest : ℕ) (offers : List Mark) → Each (IsOffer at in_course from who) offers → (more slot : ℕ) → slot + more ≡ newest → AreLearntLast newest (taught_from at course slot more who ++ offers)
+last_taught at course in_course from who newest offers e zero slot fact = offers_last at in_course from who newest offers e
+last_taught at course in_course from who newest offers e (suc more) slot fact = with_later (last_taught at course in_course from who newest offers e more (slot + 1) (omega (arith, fact)))
   where
     rest : List Mark
     rest = taught_from at course (slot + 1) more who ++ offers

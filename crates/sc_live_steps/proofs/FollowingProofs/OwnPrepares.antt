@@ -9,8 +9,8 @@ use Rattle.sc_words.proofs.PaxosProofs.PaxosLemmas.{at_least_below, at_least_fro
 use Rattle.sc_live_steps.specs.following.FollowingDefinitions.{Course, IsNoPrepare, Mark, Asks, Votes, Teaches, Installs, Prepares, Promises, Progress, Sets, IsKnown, IsFollowing, IsOtherPrepare, IsOwnPrepare, IsHome, ArePromisedLast, AreLearntLast, IsOwnFirst, CountsOwn, CountsNone, OwnIsKept, LeadersCountOwn, IsRow, IsIdle, IsCount, answered, Takes, taught_from, Leads, Elects}
 use Rattle.sc_live_steps.proofs.FollowingProofs.ElectionRows.{elects-each}
 use Rattle.sc_live_steps.proofs.FollowingProofs.NodeMarks.{counts_of, each-row, idle_marks}
-use Rattle.sc_live_steps.proofs.FollowingProofs.Marks.{offers-each, told-each, told-own}
-use Rattle.sc_live_steps.proofs.FollowingProofs.OwnMarks.{Behind, IsNoPromise, IsNotLast, all_neither, behind_none, count_none, each_all, last_append, last_counts, last_tail, last_told, no_promised, none_own, not_last, promised_append, promised_left, promised_none}
+use Rattle.sc_live_steps.proofs.FollowingProofs.Marks.{offers-each, taught-each, taught-own}
+use Rattle.sc_live_steps.proofs.FollowingProofs.OwnMarks.{Behind, IsNoPromise, IsNotLast, all_neither, behind_none, count_none, each_all, last_append, last_counts, last_tail, last_taught, no_promised, none_own, not_last, promised_append, promised_left, promised_none}
 
 -- what is at home stays so in a later ballot
 home_later : (old new : Course) → ((b : Ballot) → IsAtLeast old.ballot b → IsAtLeast new.ballot b) → (who : ℕ) (mark : Mark) → IsHome old who mark → IsHome new who mark
@@ -86,11 +86,11 @@ module _ (at : Sets) (now after : Progress) (node : ℕ) (taken : Option Mark) (
     offers_none who = offers-each IsNoPrepare at after.course now.course.bound who (λ ballot s least most. tt) (l.offers who) (l.asks who)
 
     own_none : Each IsNoPrepare (sent lead)
-    own_none = subst (λ n. Each IsNoPrepare (sent n)) l.mine (subst (Each IsNoPrepare) (sym (l.sends node ∙ ap (λ t. t ++ l.offers node) (told-own at now.course node l.mine l.executed now.course.newest))) (offers_none node))
+    own_none = subst (λ n. Each IsNoPrepare (sent n)) l.mine (subst (Each IsNoPrepare) (sym (l.sends node ∙ ap (λ t. t ++ l.offers node) (taught-own at now.course node l.mine l.executed now.course.newest))) (offers_none node))
 
     sent_each : (P : Mark → Type 0) → ((slot : ℕ) → P (Teaches slot)) → ((slot : ℕ) → P (Installs slot)) → P (Prepares now.course.ballot) → ((ballot : Ballot) (slot : ℕ) → P (Asks ballot slot)) → (who : ℕ) → Each P (sent who)
     sent_each P tells installs prepares asks who =
-        subst (Each P) (sym (l.sends who)) (Each-append P (taught_from at now.course now.course.newest l.executed who) (l.offers who) (told-each at now.course who P tells installs prepares l.executed now.course.newest)
+        subst (Each P) (sym (l.sends who)) (Each-append P (taught_from at now.course now.course.newest l.executed who) (l.offers who) (taught-each at now.course who P tells installs prepares l.executed now.course.newest)
         (offers-each P at after.course now.course.bound who (λ ballot s least most. asks ballot s) (l.offers who) (l.asks who)))
 
     behind_sent : (who : ℕ) → (who ≡ lead → ⊥) → (mark : Mark) → IsHome now.course who mark → Behind (sent who) mark
@@ -122,7 +122,7 @@ module _ (at : Sets) (now after : Progress) (node : ℕ) (taken : Option Mark) (
         let up = l.newest in
         let later : now.course.newest < after.course.newest = omega (arith, some, up) in
         let old = not_last now.course.newest after.course.newest (now.next who) (now.promise who) (marks who) (was.fits who) (was.within who) later in
-        let new = subst (AreLearntLast after.course.newest) (sym (l.sends who)) (last_told at now.course after.course now.course.bound who after.course.newest (l.offers who) (l.asks who) l.executed now.course.newest (sym up)) in
+        let new = subst (AreLearntLast after.course.newest) (sym (l.sends who)) (last_taught at now.course after.course now.course.bound who after.course.newest (l.offers who) (l.asks who) l.executed now.course.newest (sym up)) in
         elim (cases_eq who node) [
           | inl fact ↦ subst (λ n. AreLearntLast after.course.newest (marks_after n)) (sym fact) (subst (AreLearntLast after.course.newest) (sym row.own)
               (last_append after.course.newest row.left (sent node) (Each-split (IsNotLast after.course.newest) (listed taken) row.left (subst (Each (IsNotLast after.course.newest)) row.takes (subst (λ n. Each (IsNotLast after.course.newest) (marks n)) fact old))).1

@@ -136,14 +136,14 @@ module _ (command : Command) (r : ReplicaState) (idle : IsIdle r) where
   unfolding entered forgotten
   entered_still = record { acts = idle.acts; backlog = idle.backlog; flights = idle.flights; ready = idle.ready; musts = λ e. (let f : false ≡ true = sym idle.stopped ∙ e in absurd cc); sends = λ name. refl }
 
-  told_still : (o : Option OrderResult) (q : ReplicaState) (mails : List Mail) → IsStill q mails → Still (effect_reported o command (q, mails))
+  reported_still : (o : Option OrderResult) (q : ReplicaState) (mails : List Mail) → IsStill q mails → Still (effect_reported o command (q, mails))
   unfolding effect_reported
-  told_still None q mails s = s
-  told_still (Some result) q mails s = record { acts = s.acts; backlog = s.backlog; flights = s.flights; ready = s.ready; musts = s.musts; sends = λ name. order_none name q.me (order_number command) result mails ∙ s.sends name }
+  reported_still None q mails s = s
+  reported_still (Some result) q mails s = record { acts = s.acts; backlog = s.backlog; flights = s.flights; ready = s.ready; musts = s.musts; sends = λ name. order_none name q.me (order_number command) result mails ∙ s.sends name }
 
   announced_still : (effect : Effect) (q : ReplicaState) (mails : List Mail) → IsStill q mails → Still (announced false effect command (q, mails))
   unfolding announced
-  announced_still effect q mails s = told_still (order_result command effect) q mails s
+  announced_still effect q mails s = reported_still (order_result command effect) q mails s
 
   spoken_still : (effect : Effect) (q : ReplicaState) (mails : List Mail) → IsStill q mails → Still (spoken false (before_of r.group.core) effect command (q, mails))
   unfolding spoken spoken_mails

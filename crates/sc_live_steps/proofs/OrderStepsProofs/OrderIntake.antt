@@ -32,8 +32,8 @@ rests-step now after group taken sent row d s a = (
       | inr ne ↦ other-same now after group taken sent row name ne (d.sends.1 name tt)
     ]
 
-pub told-step : BeginsBy IsTold Begins
-told-step now after group taken sent row d a = (
+pub reported-step : BeginsBy IsTold Begins
+reported-step now after group taken sent row d a = (
   Ordered group d.chief d.order,
   record {
     parties = ((own, tt), λ name none. other-same now after group taken sent row name none.0 (d.sends.1 name tt) ∙ a.parties.1 name tt);

@@ -8,7 +8,7 @@ pub use Rattle.sc_live_steps.proofs.OrderStepsProofs.NamedValues.{among-left, am
 pub use Rattle.sc_live_steps.proofs.OrderStepsProofs.PartyChanges.{closing-errand, errands_of, no-errand, closing-work, no-work, work_of}
 pub use Rattle.sc_live_steps.proofs.OrderStepsProofs.LoneWorkPumps.{pumps-keep as pumps_keep_work}
 pub use Rattle.sc_live_steps.proofs.OrderStepsProofs.QuestionRows.{passes-step, asks-step, files-step}
-pub use Rattle.sc_live_steps.proofs.OrderStepsProofs.OrderIntake.{told-step, rests-step}
+pub use Rattle.sc_live_steps.proofs.OrderStepsProofs.OrderIntake.{reported-step, rests-step}
 pub use Rattle.sc_live_steps.proofs.OrderStepsProofs.Entries.{orders-leave as orders_leave, votes-leave as votes_leave, orders-leave, votes-leave}
 pub use Rattle.sc_live_steps.proofs.OrderStepsProofs.VoteRecords.{records-leave as records_leave, watch-records-leave as watch_records_leave, ends-leave as ends_leave, records-leave, ends-leave, watch-records-leave}
 pub use Rattle.sc_live_steps.proofs.OrderStepsProofs.OrderTables.{tables-order as tables_order, tables-order}

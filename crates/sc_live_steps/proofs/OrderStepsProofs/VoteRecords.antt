@@ -90,23 +90,23 @@ two_results me by host tx part asked outcome ne = (
 
 module _ (me : ℕ) (group : Group) (tx : Draw) (by : ℕ) (outcome : Outcome) where
   -- a decision is sent to the parties
-  told_leaves : (before : Before) (sent_on : List (Draw × List Errand)) (plan : Plan) → ((o : Outcome) → IsOnly [] sent_on (λ name. errands_for name (released_to before.heard me before.succ tx by o [])))
+  reported_leaves : (before : Before) (sent_on : List (Draw × List Errand)) (plan : Plan) → ((o : Outcome) → IsOnly [] sent_on (λ name. errands_for name (released_to before.heard me before.succ tx by o [])))
       → decided_in (committed plan group tx).1 ≡ Some outcome → Leaves Unbound sent_on (RecordWatch tx Cast.Yes by) me before (committed plan group tx)
   unfolding went_on
-  told_leaves before sent_on None only d = absurd cc
-  told_leaves before sent_on (Some plan) only d = record { bond_is = refl; sends = only plan.1 }
+  reported_leaves before sent_on None only d = absurd cc
+  reported_leaves before sent_on (Some plan) only d = record { bond_is = refl; sends = only plan.1 }
 
   released_leaves : (asked : Draw) (turn : Turn) (order : ℕ) (body : Body) (heard : Option Heard) → turn_of group.core body heard ≡ turn → (asked_link group.core body heard).group ≡ asked
       → (turn ≡ Lone → (before_in (Coordinating tx body order heard) group.core).heard ≡ None) → ((part : Draw) (host : ℕ) → turn ≡ Next part host → part ≡ asked → ⊥) → is_watch turn ≡ true
       → (locked : Draw) → decided_in (released body heard group tx).1 ≡ Some outcome → Leaves Unbound (results tx asked turn by) (RecordWatch tx Cast.Yes by) me (before_in (Coordinating locked body order heard) group.core) (released body heard group tx)
   released_leaves asked turn order At.Merge (Some heard) t g lone third w locked d =
-      told_leaves (before_in (Coordinating locked At.Merge order (Some heard)) group.core) (results tx asked turn by) (merge_plan group heard.frozen)
+      reported_leaves (before_in (Coordinating locked At.Merge order (Some heard)) group.core) (results tx asked turn by) (merge_plan group heard.frozen)
       (λ o. subst (λ x. IsOnly [] (results tx asked x by) (λ name. errands_for name (sent me by (TxOutcome tx heard.frozen.succ.group o) (sent me heard.by (TxOutcome tx group.core.succ.group o) [])))) t
       (subst (λ x. IsOnly [] ((group.core.succ.group, Result tx heard.by ∷ []) ∷ (asked, Result tx by ∷ []) ∷ []) (λ name. errands_for name (sent me by (TxOutcome tx x o) (sent me heard.by (TxOutcome tx group.core.succ.group o) [])))) (sym g)
       (two_results me by heard.by tx group.core.succ.group asked o (third group.core.succ.group heard.by (sym t))))) d
   released_leaves asked turn order At.Merge None t g lone third w locked d = absurd cc
   released_leaves asked turn order (At.Split at child) heard t g lone third w locked d =
-      told_leaves (before_in (Coordinating locked (At.Split at child) order heard) group.core) (results tx asked turn by) (split_plan group at child)
+      reported_leaves (before_in (Coordinating locked (At.Split at child) order heard) group.core) (results tx asked turn by) (split_plan group at child)
       (λ o. subst (λ x. IsOnly [] (results tx asked x by) (λ name. errands_for name (released_to (before_in (Coordinating locked (At.Split at child) order heard) group.core).heard me group.core.succ tx by o []))) t
       (subst (λ x. IsOnly [] ((asked, Result tx by ∷ []) ∷ []) (λ name. errands_for name (released_to x me group.core.succ tx by o []))) (sym (lone (sym t)))
       (one-errand me by (TxOutcome tx group.core.succ.group o) asked (Result tx by) (ap (λ x. Some (x, Result tx by)) g)))) d

@@ -26,7 +26,7 @@ pub record HintsFollow : Type 0 where
 
 -- The replica that learns this entry does not lead, and agrees with its group's progress:
 -- whom it takes for the leader, the members after the entry, and, if the entry is the last one, whether the group is gone after it.
-pub record IsTold (at : Sets) (now : Progress) (hints : ℕ → Option ℕ) (slot : ℕ) (command : Command) (r : ReplicaState) : Type 0 where
+pub record IsLearner (at : Sets) (now : Progress) (hints : ℕ → Option ℕ) (slot : ℕ) (command : Command) (r : ReplicaState) : Type 0 where
   pub other : IsOther now.course r.me
   pub hint : r.hint ≡ hints r.me
   pub members_are : members_at at (slot + 1) ≡ members (entered command r)
@@ -43,7 +43,7 @@ pub record IsHeir (now : Progress) (slot : ℕ) (command : Command) (r : Replica
 abbrev pub HeirsElect : Type 0
 HeirsElect =
     (at : Sets) (by : SlotLeaders) (now : Progress) (hints : ℕ → Option ℕ) (marks : ℕ → List Mark) (slot : ℕ) (rest : List Mark) (command : Command) (r : ReplicaState)
-    → IsHeeding at by now hints marks → marks r.me ≡ Teaches slot ∷ rest → IsTold at now hints slot command r → Stays (entered command r) ⊎ IsHeir now slot command r
+    → IsHeeding at by now hints marks → marks r.me ≡ Teaches slot ∷ rest → IsLearner at now hints slot command r → Stays (entered command r) ⊎ IsHeir now slot command r
 
 -- A leader's row in the table satisfies `LeavesLast`, if the leader counted each entry that it executes,
 -- and nobody joins by the entry by which the leader leaves.
