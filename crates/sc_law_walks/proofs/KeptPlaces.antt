@@ -86,7 +86,7 @@ module _ (w : PlaceWalk) where
     );
     turned = λ command answer backlog r mails on e no k. (calls_kept w.facts.me command backlog r on e k.0, w.states.turned command answer backlog r mails k.0.0 on e no k.1);
     offers_value = λ slot set command r mails on at free e k. (offered_kept w.facts.me slot set command r mails on k.0, w.states.offers_value slot set command r mails k.0.0 on (near_kept w.facts.me slot r k.0 at.near) free e k.1);
-    offers_noop = λ slot set r mails on at free k. (offered_kept w.facts.me slot set _ r mails on k.0, w.states.offers_noop slot set r mails k.0.0 on (near_kept w.facts.me slot r k.0 at.near) free k.1);
+    offers_noop = λ slot set r mails on at free gap k. (offered_kept w.facts.me slot set _ r mails on k.0, w.states.offers_noop slot set r mails k.0.0 on (near_kept w.facts.me slot r k.0 at.near) free k.1);
     offers_act = λ slot set act acts r mails on at free e k. (
       offered_kept w.facts.me slot set act (record r { acts = acts }) mails on (acts_kept w.facts.me act acts r on e k.0),
       w.states.offers_act slot set act acts r mails k.0.0 on (near_kept w.facts.me slot r k.0 at.near) free e k.1,

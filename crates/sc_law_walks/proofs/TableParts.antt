@@ -54,7 +54,7 @@ module _ (w : TableWalk) where
   offers_kept = record {
     turned = w.states.turned;
     offers_value = w.states.offers_value;
-    offers_noop = λ slot set r mails on at none gap k. w.states.offers_noop slot set r mails on at none k;
+    offers_noop = w.states.offers_noop;
     offers_act = w.states.offers_act;
     offers_call = w.states.offers_call;
   }

@@ -3,7 +3,7 @@ use Rattle.std.proofs.Common.{◌≡◌, ℕ, ◌-◌, ◌<◌, ◌≤◌, nat_l
 use Rattle.sc_base.specs.Definitions.{Drawer, is_member}
 use Rattle.sc_node_table.specs.Values.{Ballot, Draw, Op, Offer, Watch, Command, Noop, Call, Prepared, RecordVote, GiveUp, Finish, Watched, RecordWatch, Base, Body, Coordinating, Heard, Route, OrderLine, OrderRefusal, Refused, Outcome, Past, Vote, AnswerBody, Mail, MailBody, Request, Prepare, Promise, Accept, Accepted, Nack, Learn, Ask, Install, TxPrepare, TxVote, TxOutcome, TxElsewhere, TxWatch, TxWatched, Chosen, NotYet, Report}
 use Rattle.sc_mail.specs.declared.bodies.AnswerBody.TheVariants as Says
-use Rattle.sc_words.specs.declared.paxos.answers.Must.TheVariants.{Value}
+use Rattle.sc_words.specs.declared.paxos.answers.Must.TheVariants.{Value, Gap}
 use Rattle.sc_group_table.specs.machine.MachineDefinitions.{base_of, child_by}
 use Rattle.sc_words.specs.paxos.PaxosDefinitions.{IsAtLeast, reports_from, after_promise, after_accept, may_promise, may_accept, promise_counted, entry_at, counted, must, below}
 use Rattle.sc_node_table.specs.NodeDefinitions.{jumped, ReplicaState, Place, name_of, next, at_slot, with_slot, set_at, taken_at, flying, queued_number, without_request, has_act, sent, stopped, ended, answered, answer_to, turned_down, refused_at, offered, result_sent, untaken, standing_vote, noted_outcome, voted_to, watched_to, outcome_sent, asked_next, reminders}
@@ -102,7 +102,7 @@ pub record TableStates (f : TableFacts) : Type 0 where
       → f.Late (record r { backlog = backlog }, answered r.me r.group.core.id answer command mails)
   -- what is offered at an open slot: what was reported there, nothing new below what was reported, and the head of either queue
   pub offers_value : (slot : ℕ) (set : List ℕ) (command : Command) (r : ReplicaState) (mails : List Mail) → r.running ≡ true → IsOpenOffer slot set command r → taken_at r slot ≡ None → must slot r.leader ≡ Value command → f.Late (r, mails) → f.Late (offered slot set command (r, mails))
-  pub offers_noop : (slot : ℕ) (set : List ℕ) (r : ReplicaState) (mails : List Mail) → r.running ≡ true → IsOpenOffer slot set Noop r → taken_at r slot ≡ None → f.Late (r, mails) → f.Late (offered slot set Noop (r, mails))
+  pub offers_noop : (slot : ℕ) (set : List ℕ) (r : ReplicaState) (mails : List Mail) → r.running ≡ true → IsOpenOffer slot set Noop r → taken_at r slot ≡ None → must slot r.leader ≡ Gap → f.Late (r, mails) → f.Late (offered slot set Noop (r, mails))
   pub offers_act : (slot : ℕ) (set : List ℕ) (act : Command) (rest : List Command) (r : ReplicaState) (mails : List Mail) → r.running ≡ true → IsOpenOffer slot set act r → taken_at r slot ≡ None → r.acts ≡ act ∷ rest → f.Late (r, mails)
       → f.Late (offered slot set act (record r { acts = rest }, mails))
   pub offers_call : (slot : ℕ) (set : List ℕ) (command : Command) (rest : List Command) (r : ReplicaState) (mails : List Mail) → r.running ≡ true → IsOpenOffer slot set command r → taken_at r slot ≡ None → r.backlog ≡ command ∷ rest → f.Late (r, mails)

@@ -188,7 +188,7 @@ module _ (K : Draw → Type 0) where
       answered_names K r.me r.group.core.id answer command mails f.0.core.id (subst (λ (o : Option AnswerBody). Ans o) no (turned_names K r.group.core command f.0.core)) f.1,
     );
     offers_value = λ slot set command r mails on near free e f. offered_names K slot set command (r, mails) (must_held (CommandNames K) slot r.leader command e (f.0.flights, f.0.reports)) f;
-    offers_noop = λ slot set r mails on near free f. offered_names K slot set Noop (r, mails) tt f;
+    offers_noop = λ slot set r mails on near free gap f. offered_names K slot set Noop (r, mails) tt f;
     offers_act = λ slot set act acts r mails on near free e f. (let cs = subst (λ (cs : List Command). Cmds K cs) e f.0.acts in offered_names K slot set act (record r { acts = acts }, mails) cs.0 (with_acts K r acts cs.1 f.0, f.1));
     offers_call = λ slot set command backlog r mails on near free e f. (let cs = subst (λ (cs : List Command). Cmds K cs) e f.0.backlog in offered_names K slot set command (record r { backlog = backlog }, mails) cs.0 (with_calls K r backlog cs.1 f.0, f.1));
   }

@@ -185,7 +185,7 @@ module _ (ahead : Ahead) (base : Base) (made : Command → Type 0) (heard : Mail
     turned = λ command answer backlog r mails on e no f. answered_one ahead base made heard me older before (record r { backlog = backlog }) mails r.group.core.id answer (named_so r mails f) (turned_dull ahead base made heard me older before some r.group.core command answer no) command
         (with_queues ahead base made heard me older before some r mails r.acts backlog f.replica.acts (split r.backlog backlog command e f.replica.backlog).1 f);
     offers_value = λ slot set command r mails on at free e f. offers slot set r mails command r.acts r.backlog on at free (reported_made ahead base made heard me older before some slot command r mails f on e) f.replica.acts f.replica.backlog f;
-    offers_noop = λ slot set r mails on at free f. offers slot set r mails Noop r.acts r.backlog on at free speaks.noop f.replica.acts f.replica.backlog f;
+    offers_noop = λ slot set r mails on at free gap f. offers slot set r mails Noop r.acts r.backlog on at free speaks.noop f.replica.acts f.replica.backlog f;
     offers_act = λ slot set act acts r mails on at free e f. (let one = split r.acts acts act e f.replica.acts in offers slot set r mails act acts r.backlog on at free one.0 one.1 f.replica.backlog f);
     offers_call = λ slot set command backlog r mails on at free e f. (let one = split r.backlog backlog command e f.replica.backlog in offers slot set r mails command r.acts backlog on at free one.0 f.replica.acts one.1 f);
   }

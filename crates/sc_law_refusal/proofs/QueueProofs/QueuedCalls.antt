@@ -107,7 +107,7 @@ queue_states = record {
   requested_again = λ client seq other op r mails on e g k. one_last (Call client seq op) (without_request r.backlog client) (one_first client seq op (without_request r.backlog client) (none_left client r.backlog (k client)) (one_without client r.backlog k));
   turned = λ command answer backlog r mails on e no k. rest_keeps command backlog r e k;
   offers_value = λ slot set command r mails on near free e k. offered_keeps slot set command r mails k;
-  offers_noop = λ slot set r mails on near free k. offered_keeps slot set _ r mails k;
+  offers_noop = λ slot set r mails on near free gap k. offered_keeps slot set _ r mails k;
   offers_act = λ slot set act acts r mails on near free e k. offered_keeps slot set act (record r { acts = acts }) mails k;
   offers_call = λ slot set command backlog r mails on near free e k. offered_keeps slot set command (record r { backlog = backlog }) mails (rest_keeps command backlog r e k);
 }

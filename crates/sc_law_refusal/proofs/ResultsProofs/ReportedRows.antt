@@ -262,7 +262,7 @@ module _ (ahead : Ahead) (base : Base) (h : Steps) (lawful : IsLawfulHistory (ru
     turned = λ command answer backlog r mails on e no k. (let rest = with_backlog r mails backlog (first_call r command backlog e k.1.1.0).1 k in
         (rest.0, rest.1, one_replied r.me (ReportsOrders rest.0) (none_told rest.0 r.me) r.group.core.id answer command mails rest.2));
     offers_value = λ slot set command r mails on near free e k. offers slot set command r mails (must_held P slot r.leader command e (k.1.1.2, k.1.1.3)) k;
-    offers_noop = λ slot set r mails on near free k. offers slot set Noop r mails (no_order Noop (λ number own. own)) k;
+    offers_noop = λ slot set r mails on near free gap k. offers slot set Noop r mails (no_order Noop (λ number own. own)) k;
     offers_act = λ slot set act acts r mails on near free e k. (let one = first_act r act acts e k.1.1.1 in offers slot set act (record r { acts = acts }) mails one.0 (with_acts r mails acts one.1 k));
     offers_call = λ slot set command backlog r mails on near free e k. (let one = first_call r command backlog e k.1.1.0 in offers slot set command (record r { backlog = backlog }) mails one.0 (with_backlog r mails backlog one.1 k));
   }

@@ -1,17 +1,15 @@
 -- A pump raises no tokens: what is offered was counted while it waited.
-use Rattle.std.proofs.Common.{◌≡◌, ℕ, ◌+◌, ◌≤◌, ◌&&◌, eqb, ltb, Bool, true, false, cond, List, [], ◌∷◌, ◌++◌, sum_by, Option, Some, None, inl, inr, refl, sym, ◌∙◌, ap, subst, arith}
-use Rattle.std.specs.Prelude.{is_some, nat_le}
-use Rattle.std.specs.List.{list_any}
+use Rattle.std.proofs.Common.{◌≡◌, ℕ, ◌+◌, ◌≤◌, eqb, ltb, Bool, true, false, cond, List, [], ◌∷◌, ◌++◌, sum_by, Option, Some, None, inl, inr, refl, sym, ◌∙◌, ap, arith}
+use Rattle.std.specs.Prelude.{nat_le}
 use Rattle.std.proofs.lemmas.Bool.{cond-true, cond-false, cases_eq, eq-eqb, ne_eqb}
 use Rattle.std.proofs.lemmas.List.Sums.{sum_by_push, sum_by-cons}
 use Rattle.sc_base.specs.Definitions.{client_actor}
-use Rattle.sc_node_table.specs.Values.{Draw, Op, Command, Call, Core, AnswerBody, Mail, MailBody, Accept, Answer, Flight}
-use Rattle.sc_words.specs.declared.paxos.answers.Must.TheVariants.{Free as Open}
+use Rattle.sc_node_table.specs.Values.{Draw, Op, Command, Call, AnswerBody, Mail, MailBody, Accept, Answer, Flight}
+use Rattle.sc_words.specs.declared.paxos.answers.Must.TheVariants.{Value, Gap, Free as Open}
 use Rattle.sc_words.specs.paxos.PaxosDefinitions.{must, flight_at, without_flight, with_voters}
-use Rattle.sc_node_table.specs.NodeDefinitions.{sent, sent_all, sent_others, answered, Found, is_act, waits, turned_down, next_queued, from_backlog, from_acts, from_queues, found_for, offered, pumped_from, pumped, queued_number, is_request_of, without_request, ReplicaState, Place, name_of, next, settled, may_offer, taken_at, under_way, is_idle, last_slot, refused_at, queued, requested, request_row, at_slot, with_slot, without_slot}
+use Rattle.sc_node_table.specs.NodeDefinitions.{sent, sent_all, sent_others, answered, offered, pumped, queued_number, is_request_of, without_request, ReplicaState, Place, name_of, next, refused_at, queued, requested, request_row, at_slot, with_slot, without_slot}
+use Rattle.sc_law_walks.proofs.WalkLemmas.{TableOffers, pump_keeps}
 use Rattle.sc_live_answers.specs.AnswerDefinitions.{command_token, body_token, mail_token, flight_tokens, ready_tokens, place_tokens}
-use Rattle.sc_live_steps.proofs.CalmStepsProofs.PumpPotential.{queues_leader, offering_must}
-use Rattle.sc_live_steps.proofs.PumpProofs.Pumping.{open_found as found_is}
 
 -- no report binds the leader from the next slot on
 abbrev pub IsFree : ReplicaState → Type 0
@@ -143,64 +141,11 @@ module _ (c : ℕ) where
           let t = sum_by-cons (command_token c) command (without_request backlog client) in
           omega (arith, le, s, t)
 
-  -- ---- what is found in the queues
-
-  -- of a command, if there is one
-  abbrev option_token : Option Command → ℕ
-  option_token None = 0
-  option_token (Some command) = command_token c command
-
-  abbrev found_tokens : Found → ℕ
-  found_tokens found = option_token found.0 + place_tokens c found.1
-
-  abbrev queue_tokens : Option Command × List Command × List Mail → ℕ
-  queue_tokens found = option_token found.0 + sum_by (command_token c) found.1 + sum_by (mail_token c) found.2
-
   -- a call that is turned down is answered
   turned_tokens : (me : ℕ) (group : Draw) (command : Command) (answer : AnswerBody) (mails : List Mail) → sum_by (mail_token c) (answered me group answer command mails) ≤ sum_by (mail_token c) mails + command_token c command
   unfolding answered
   turned_tokens me group (Call client seq op) answer mails = (let one = sent_token me (client_actor client) (Answer group seq answer) mails in let same = answer_token client group seq answer in omega (arith, one, same))
   turned_tokens me group _ answer mails = omega arith
-
-  next_tokens : (me : ℕ) (idle : Bool) (core : Core) (backlog : List Command) (mails : List Mail) → queue_tokens (next_queued me idle core backlog mails) ≤ sum_by (command_token c) backlog + sum_by (mail_token c) mails
-  unfolding next_queued
-  next_tokens me idle core [] mails = omega arith
-  next_tokens me idle core (command ∷ backlog) mails =
-      by (waits idle core.lock command) (turned_down core command) (λ answer. next_tokens me idle core backlog (answered me core.id answer command mails))
-    where
-      by : (b : Bool) (o : Option AnswerBody) →
-          ((answer : AnswerBody) → queue_tokens (next_queued me idle core backlog (answered me core.id answer command mails)) ≤ sum_by (command_token c) backlog + sum_by (mail_token c) (answered me core.id answer command mails)) →
-          queue_tokens (cond b (None, command ∷ backlog, mails) (elim o [ None ↦ (Some command, backlog, mails) | Some answer ↦ next_queued me idle core backlog (answered me core.id answer command mails) ])) ≤ sum_by (command_token c) (command ∷ backlog) + sum_by (mail_token c) mails
-      by true o more = omega arith
-      by false None more = let s = sum_by-cons (command_token c) command backlog in omega (arith, s)
-      by false (Some answer) more =
-          let rec = more answer in
-          let turned = turned_tokens me core.id command answer mails in
-          let s = sum_by-cons (command_token c) command backlog in
-          omega (arith, rec, turned, s)
-
-  calls_tokens : (r : ReplicaState) (mails : List Mail) → found_tokens (from_backlog (r, mails)) ≤ place_tokens c (r, mails)
-  unfolding from_backlog
-  calls_tokens r mails = let le = next_tokens r.me (is_idle r) r.group.core r.backlog mails in omega (arith, le)
-
-  acts_tokens : (acts : List Command) (r : ReplicaState) (mails : List Mail) → r.acts ≡ acts → found_tokens (from_acts acts (r, mails)) ≤ place_tokens c (r, mails)
-  acts_tokens [] r mails e = calls_tokens r mails
-  acts_tokens (act ∷ acts) r mails e = by (is_idle r)
-    where
-      by : (b : Bool) → found_tokens (cond b (Some act, (record r { acts = acts }, mails)) (None, (r, mails))) ≤ place_tokens c (r, mails)
-      by true =
-          let s = sum_by-cons (command_token c) act acts in
-          let same = ap (sum_by (command_token c)) e in
-          omega (arith, s, same)
-      by false = omega arith
-
-  queues_tokens : (r : ReplicaState) (mails : List Mail) → found_tokens (from_queues (r, mails)) ≤ place_tokens c (r, mails)
-  unfolding from_queues
-  queues_tokens r mails = by (list_any is_act (under_way r)) (acts_tokens r.acts r mails refl)
-    where
-      by : (b : Bool) → found_tokens (from_acts r.acts (r, mails)) ≤ place_tokens c (r, mails) → found_tokens (cond b (None, (r, mails)) (from_acts r.acts (r, mails))) ≤ place_tokens c (r, mails)
-      by true le = omega arith
-      by false le = le
 
   -- ---- what is offered
 
@@ -214,43 +159,41 @@ module _ (c : ℕ) where
 
   -- ---- the pump
 
-  abbrev IsRest : ℕ → List (List ℕ) → Type 0
-  IsRest slot sets = (place : Place) → ((at : ℕ) → slot ≤ at → must at place.0.leader ≡ Open) → place_tokens c (pumped_from slot sets place) ≤ place_tokens c place
+  abbrev Holds : ℕ → Place → Type 0
+  Holds most place = (place_tokens c place ≤ most) × IsFree place.0
 
-  slots_tokens : (slot : ℕ) (sets : List (List ℕ)) (place : Place) → ((at : ℕ) → slot ≤ at → must at place.0.leader ≡ Open) → place_tokens c (pumped_from slot sets place) ≤ place_tokens c place
-  unfolding pumped_from
-  slots_tokens slot [] place unbound = omega arith
-  slots_tokens slot (set ∷ sets) (r, mails) unbound =
-      by (is_some (taken_at r slot)) (may_offer r set)
-      (slots_tokens (slot + 1) sets (r, mails) (λ at le. unbound at (omega (arith, le))))
-      (found (λ p unbound_then. slots_tokens (slot + 1) sets p unbound_then) (from_queues (r, mails)) (found_for slot (r, mails)) (found_is slot r mails (unbound slot (omega arith))) (queues_tokens r mails) (queues_leader r mails))
-    where
-      goes : Found → Place
-      goes f = elim (f.0) [ None ↦ f.1 | Some command ↦ pumped_from (slot + 1) sets (offered slot set command f.1) ]
+  still : (slot : ℕ) (set : List ℕ) (command : Command) (r : ReplicaState) (mails : List Mail) → IsFree r → IsFree (offered slot set command (r, mails)).0
+  unfolding offered
+  still slot set command r mails free = free
 
-      by_option : IsRest (slot + 1) sets → (o : Option Command) (p : Place) → option_token o + place_tokens c p ≤ place_tokens c (r, mails) → p.0.leader ≡ r.leader → place_tokens c (goes (o, p)) ≤ place_tokens c (r, mails)
-      by_option rest None p le same = omega (arith, le)
-      by_option rest (Some command) (q, more) le same =
-          let rec = rest (offered slot set command (q, more)) (λ at from. offering_must slot at set command q more ∙ (ap (must at) same ∙ unbound at (omega (arith, from)))) in
-          let one = offering slot set command q more in
-          omega (arith, rec, one, le)
+  -- one that waited, and waits no more
+  offers_one : (most slot : ℕ) (set : List ℕ) (command : Command) (r : ReplicaState) (mails : List Mail) → place_tokens c (r, mails) + command_token c command ≤ most → IsFree r → Holds most (offered slot set command (r, mails))
+  offers_one most slot set command r mails low free = (let one = offering slot set command r mails in omega (arith, one, low), still slot set command r mails free)
 
-      found : IsRest (slot + 1) sets → (from f : Found) → f ≡ from → found_tokens from ≤ place_tokens c (r, mails) → from.1.0.leader ≡ r.leader → place_tokens c (goes f) ≤ place_tokens c (r, mails)
-      found rest from f fact le same = subst (λ (x : Found). place_tokens c (goes x) ≤ place_tokens c (r, mails)) (sym fact) (by_option rest from.0 from.1 le same)
-
-      by : (b d : Bool) → place_tokens c (pumped_from (slot + 1) sets (r, mails)) ≤ place_tokens c (r, mails) → place_tokens c (goes (found_for slot (r, mails))) ≤ place_tokens c (r, mails) →
-          place_tokens c (cond b (pumped_from (slot + 1) sets (r, mails)) (cond d (goes (found_for slot (r, mails))) (r, mails))) ≤ place_tokens c (r, mails)
-      by true d pass offer = pass
-      by false true pass offer = offer
-      by false false pass offer = omega arith
+  offers_tokens : (most : ℕ) → TableOffers (Holds most)
+  offers_tokens most = record {
+    turned = λ command answer backlog r mails on e no k. (
+        let turned = turned_tokens r.me r.group.core.id command answer mails in
+        let s = sum_by-cons (command_token c) command backlog in
+        let same = ap (sum_by (command_token c)) e in
+        let low = k.0 in
+        (omega (arith, turned, s, same, low), k.1));
+    offers_value = λ slot set command r mails on at free e k. absurd (let bad : Open ≡ Value command = sym (k.1 slot at.low) ∙ e in cc);
+    offers_noop = λ slot set r mails on at free gap k. absurd (let bad : Open ≡ Gap = sym (k.1 slot at.low) ∙ gap in cc);
+    offers_act = λ slot set act acts r mails on at free e k. (
+        let s = sum_by-cons (command_token c) act acts in
+        let same = ap (sum_by (command_token c)) e in
+        let low = k.0 in
+        offers_one most slot set act (record r { acts = acts }) mails (omega (arith, s, same, low)) k.1);
+    offers_call = λ slot set command backlog r mails on at free e k. (
+        let s = sum_by-cons (command_token c) command backlog in
+        let same = ap (sum_by (command_token c)) e in
+        let low = k.0 in
+        offers_one most slot set command (record r { backlog = backlog }) mails (omega (arith, s, same, low)) k.1);
+  }
 
   pub pump_tokens : (place : Place) → IsFree place.0 → place_tokens c (pumped place) ≤ place_tokens c place
-  unfolding pumped
-  pump_tokens place unbound = by (settled place.0 && nat_le (next place.0) last_slot) (slots_tokens (next place.0) place.0.sets place unbound)
-    where
-      by : (b : Bool) → place_tokens c (pumped_from (next place.0) place.0.sets place) ≤ place_tokens c place → place_tokens c (cond b (pumped_from (next place.0) place.0.sets place) place) ≤ place_tokens c place
-      by true le = le
-      by false le = omega arith
+  pump_tokens place free = (pump_keeps (Holds (place_tokens c place)) (offers_tokens (place_tokens c place)) place (omega arith, free)).0.0
 
   -- ---- a request
 

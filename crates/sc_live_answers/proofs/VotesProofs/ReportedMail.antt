@@ -1,16 +1,13 @@
 -- A result that an executed entry reports stays among the mail of its row.
 use Rattle.std.proofs.Common.{◌≡◌, ◌⊎◌, ℕ, ◌+◌, ◌-◌, ◌^◌, eqb, Bool, true, cond, List, [], ◌∷◌, ◌++◌, Option, Some, None, inl, inr, refl, sym, subst}
-use Rattle.std.specs.List.{list_any}
 use Rattle.std.proofs.lemmas.Bool.{cond-true}
-use Rattle.sc_node_table.specs.Values.{Command, Call, Effect, OrderResult, AnswerBody, Mail, Told, Prepare, Accept, Learn, Must, Gap}
-use Rattle.sc_words.specs.declared.paxos.answers.Must.TheVariants.{Value, Free as Open}
-use Rattle.sc_words.specs.paxos.PaxosDefinitions.{must}
+use Rattle.sc_node_table.specs.Values.{Command, Noop, Call, Effect, OrderResult, AnswerBody, Mail, Told, Prepare, Accept, Learn}
 use Rattle.sc_paxos_law.proofs.Lemmas.{Among-left, Among-right}
 use Rattle.sc_group_table.specs.policy.PolicyDefinitions.{is_reported}
 use Rattle.sc_group_table.specs.machine.MachineDefinitions.{Group, applied}
-use Rattle.sc_node_table.specs.NodeDefinitions.{elected, ended, open_nodes, entered, answer_of, answered_or_put_back, order_result, effect_reported, announced, learnt_to, welcomed, landed, left, looked, executed_one, executed, install_to, asked_to_promise, welcomed_all, answered_all, sent_others, order_number, result_sent, order_reported, Found, is_act, from_backlog, from_acts, from_queues, found_by, found_for, offered, pumped, ReplicaState, Place, name_of, next, members, under_way, is_idle, before_of, begun_result, spoken_number, result_reported, begun_reported, spoken_mails, spoken}
+use Rattle.sc_node_table.specs.NodeDefinitions.{elected, ended, open_nodes, entered, answer_of, answered_or_put_back, order_result, effect_reported, announced, learnt_to, welcomed, landed, left, looked, executed_one, executed, install_to, asked_to_promise, welcomed_all, answered_all, sent_others, order_number, result_sent, order_reported, offered, pumped, ReplicaState, Place, name_of, next, members, under_way, before_of, begun_result, spoken_number, result_reported, begun_reported, spoken_mails, spoken}
 use Rattle.sc_node_table.specs.declared.Before.{Before}
-use Rattle.sc_law_walks.proofs.WalkLemmas.{either_way, executed_place, welcomed_place, next_found, Offers, pumped_place, Talk, parties, grows}
+use Rattle.sc_law_walks.proofs.WalkLemmas.{either_way, executed_place, welcomed_place, TableOffers, pump_keeps, Talk, parties, grows}
 use Rattle.sc_law_walks.proofs.Talks.{all_sent, others_sent, client_reported, desk_reported, one_answered, all_answered, all_dismissed, went_said, spoken_said}
 use Rattle.sc_live_steps.proofs.ExecutionParts.{leaving_kept, looking_kept}
 use Rattle.sc_live_answers.specs.AnswerDefinitions.{IsTold}
@@ -46,37 +43,21 @@ module _ (n : ℕ) (result : OrderResult) where
 
   -- ---- the pump
 
-  calls_find : (r : ReplicaState) (mails : List Mail) → Q mails → Q (from_backlog (r, mails)).1.1
-  unfolding from_backlog
-  calls_find r mails m = next_found r.me (is_idle r) r.group.core (λ backlog ms. Q ms) (λ found. Q found.2) (λ backlog ms q. q) (λ command backlog ms q. q) (λ command answer backlog ms wait e q. one_answered r.me Q (talk r.me) r.group.core.id answer command ms q) r.backlog mails m
-
-  acts_find : (acts : List Command) (r : ReplicaState) (mails : List Mail) → Q mails → Q (from_acts acts (r, mails)).1.1
-  acts_find [] r mails m = calls_find r mails m
-  acts_find (act ∷ acts) r mails m = either_way (λ (found : Found). Q found.1.1) (is_idle r) (Some act, (record r { acts = acts }, mails)) (None, (r, mails)) m m
-
-  queues_find : (r : ReplicaState) (mails : List Mail) → Q mails → Q (from_queues (r, mails)).1.1
-  unfolding from_queues
-  queues_find r mails m = either_way (λ (found : Found). Q found.1.1) (list_any is_act (under_way r)) (None, (r, mails)) (from_acts r.acts (r, mails)) m (acts_find r.acts r mails m)
-
-  by_find : (what : Must Command) (r : ReplicaState) (mails : List Mail) → Q mails → Q (found_by what (r, mails)).1.1
-  by_find (Value command) r mails m = m
-  by_find Gap r mails m = m
-  by_find Open r mails m = queues_find r mails m
-
-  slot_finds : (slot : ℕ) (r : ReplicaState) (mails : List Mail) → Q mails → Q (found_for slot (r, mails)).1.1
-  unfolding found_for
-  slot_finds slot r mails m = by_find (must slot r.leader) r mails m
-
   offers : (slot : ℕ) (set : List ℕ) (command : Command) (r : ReplicaState) (mails : List Mail) → Q mails → Q (offered slot set command (r, mails)).1
   unfolding offered
   offers slot set command r mails m = all_sent r.me Q (Accept (name_of r) r.leader.ballot slot command) (λ to ms q. more_said ms _ q) set mails m
 
-  found_offers : (slot : ℕ) (set : List ℕ) (found : Found) → Q found.1.1 → Offers H slot set found
-  found_offers slot set (None, place) m = m
-  found_offers slot set (Some command, (r, mails)) m = offers slot set command r mails m
+  offers_kept : TableOffers H
+  offers_kept = record {
+    turned = λ command answer backlog r mails on e no m. one_answered r.me Q (talk r.me) r.group.core.id answer command mails m;
+    offers_value = λ slot set command r mails on at free e m. offers slot set command r mails m;
+    offers_noop = λ slot set r mails on at free gap m. offers slot set Noop r mails m;
+    offers_act = λ slot set act acts r mails on at free e m. offers slot set act (record r { acts = acts }) mails m;
+    offers_call = λ slot set command backlog r mails on at free e m. offers slot set command (record r { backlog = backlog }) mails m;
+  }
 
   pumps : (place : Place) → H place → H (pumped place)
-  pumps place m = pumped_place H (λ slot set p k. found_offers slot set (found_for slot p) (slot_finds slot p.0 p.1 k)) place m
+  pumps place m = (pump_keeps H offers_kept place m).0
 
   -- ---- leaders
 

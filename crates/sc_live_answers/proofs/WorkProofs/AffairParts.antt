@@ -1,25 +1,23 @@
--- What an order makes of a replica is kept while it offers, is elected, stops, and executes entries.
-use Rattle.std.proofs.Common.{◌≡◌, ◌⊎◌, ℕ, ◌+◌, ◌-◌, ◌^◌, ◌&&◌, not, nat_le, eqb, Bool, true, false, true≢false, cond, List, [], ◌∷◌, ◌++◌, Option, Some, None, inl, inr, refl, sym, ◌∙◌, ap, subst}
+-- What an order makes of a replica is kept while it offers, stops, and executes an entry.
+use Rattle.std.proofs.Common.{◌≡◌, ◌⊎◌, ℕ, ◌+◌, ◌-◌, ◌^◌, ◌&&◌, not, eqb, Bool, true, false, cond, List, [], ◌∷◌, ◌++◌, Option, Some, None, inl, inr, refl, sym, ◌∙◌, ap, subst}
 use Rattle.std.specs.Prelude.{is_some}
 use Rattle.std.specs.Option.{option_map}
 use Rattle.std.specs.List.{filter, list_any}
-use Rattle.std.proofs.lemmas.Bool.{cond_both, and_parts}
 use Rattle.sc_base.specs.Definitions.{Each, is_member}
-use Rattle.sc_node_table.specs.Values.{Ballot, Draw, Command, Call, Base, Effect, OrderResult, AnswerBody, Mail, Prepare, Accept, Learn, Install, Must, Flight, Report}
+use Rattle.sc_node_table.specs.Values.{Draw, Command, Call, Base, Effect, OrderResult, AnswerBody, Mail, Prepare, Accept, Learn, Install, Must, Flight, Report}
 use Rattle.sc_mail.specs.declared.bodies.AnswerBody.TheVariants as Answers
 use Rattle.sc_law_entries.proofs.HistoryProofs.HistoryLemmas.{applied_same}
-use Rattle.sc_group_table.specs.machine.MachineDefinitions.{child_by, Group, base_of, applied}
+use Rattle.sc_group_table.specs.machine.MachineDefinitions.{Group, base_of, applied}
 use Rattle.sc_law_entries.specs.names.NameDefinitions.{Opt}
 use Rattle.sc_law_entries.proofs.NamesProofs.NameLemmas.{opt_find, opt_map, opt_either, opt_slot, slot_without, flight_without}
 use Rattle.sc_paxos_law.proofs.Lemmas.{among-member}
 use Rattle.sc_words.specs.declared.paxos.answers.Must.TheVariants.{Free as Open}
-use Rattle.sc_words.specs.paxos.PaxosDefinitions.{below, LeaderState, must, must_without, flight_at, without_flight_at, names_above, chosen_value}
+use Rattle.sc_words.specs.paxos.PaxosDefinitions.{LeaderState, must, must_without, flight_at, without_flight_at, names_above, chosen_value}
 use Rattle.sc_words.proofs.PaxosProofs.PaxosLemmas.{Each-append}
 use Rattle.sc_words.proofs.PaxosProofs.ListLemmas.{Each-from as each_among}
-use Rattle.sc_node_table.specs.NodeDefinitions.{open_nodes, elected, ended, stopped, saw, entered, answer_of, answered_or_put_back, order_result, effect_reported, announced, learnt_to, welcomed, slot_lost, landed, left, looked, executed_one, child_at, next_child, has_room, next_ready, ending, executed_ready, executed, install_to, asked_to_promise, welcomed_all, sent, answered_all, sent_others, order_number, Found, is_act, next_queued, from_backlog, from_acts, from_queues, found_by, found_for, offered, pumped_from, pumped, ReplicaState, Place, Executed, childless, name_of, next, members, flying, settled, may_offer, first_set, listed, taken_at, taken_from, under_way, is_idle, open_slots, last_slot, forgotten, at_slot, without_slot, before_of, spoken}
+use Rattle.sc_node_table.specs.NodeDefinitions.{ended, stopped, entered, answer_of, answered_or_put_back, order_result, effect_reported, announced, learnt_to, welcomed, slot_lost, landed, install_to, asked_to_promise, welcomed_all, sent, answered_all, sent_others, order_number, Found, is_act, next_queued, from_backlog, from_acts, from_queues, found_by, found_for, offered, pumped_from, ReplicaState, Place, name_of, next, members, flying, may_offer, listed, taken_at, taken_from, under_way, is_idle, open_slots, forgotten, at_slot, without_slot, before_of, spoken}
 use Rattle.sc_node_table.specs.declared.Before.{Before}
-use Rattle.sc_law_walks.proofs.WalkLemmas.{executed_place, either_way}
-use Rattle.sc_live_steps.proofs.ExecutionParts.{leaving_kept, looking_kept}
+use Rattle.sc_law_walks.proofs.WalkLemmas.{entered_place, either_way}
 use Rattle.sc_live_answers.proofs.WorkProofs.Affairs.{Affair, AreGood}
 use Rattle.sc_live_answers.proofs.WorkProofs.WorkMail.{one_sent, all_sent, others_sent, desk_reported, all_answered, none_dismissed, spoken_said}
 
@@ -65,15 +63,7 @@ module _ (a : Affair) (g : Draw) where
   slots_do r [] k = tt
   slots_do r (slot ∷ slots) k = Each-append Does (listed (taken_at r slot)) (taken_from r slots) (listed_does (taken_at r slot) (taken_does r slot k)) (slots_do r slots k)
 
-  -- ---- elections
-
-  pub elected_fine : (place : Place) → Fine place → Fine (elected place)
-  unfolding elected
-  elected_fine (r, mails) f =
-      either_way Fine (eqb r.top.round (2 ^ 32 - 1)) _ _ f (
-        (f.0.0, f.0.1, f.0.2, tt, tt, f.0.5, (λ on. refl)),
-        all_sent a r.me (open_nodes r.sets) (Prepare (name_of r) (record { round = r.top.round + 1; node = r.me }) (next r)) mails tt f.1,
-      )
+  -- ---- one that stops
 
   pub ended_fine : (hint : Option ℕ) (answer : AnswerBody) (place : Place) → Fine place → Fine (ended hint answer place)
   unfolding ended
@@ -85,13 +75,6 @@ module _ (a : Affair) (g : Draw) where
 
   pub stopped_fine : (hint : Option ℕ) (place : Place) → Fine place → Fine (stopped hint place)
   stopped_fine hint place f = ended_fine hint (Answers.NotLeader hint) place f
-
-  pub saw_fine : (ballot : Ballot) (place : Place) → Fine place → Fine (saw ballot place)
-  unfolding saw
-  saw_fine ballot (r, mails) f =
-      let seen : ReplicaState = cond (below r.top ballot) (record r { top = ballot }) r in
-      let k : Held seen = either_way Held (below r.top ballot) (record r { top = ballot }) r f.0 f.0 in
-      either_way Fine (r.running && below r.leader.ballot ballot) (stopped (Some ballot.node) (seen, mails)) (seen, mails) (stopped_fine (Some ballot.node) (seen, mails) (k, f.1)) (k, f.1)
 
   -- ---- the pump, of one that runs
 
@@ -145,14 +128,6 @@ module _ (a : Affair) (g : Draw) where
   from_pumps slot (set ∷ sets) place k =
       either_way Pumps (is_some (taken_at place.0 slot)) _ _ (from_pumps (slot + 1) sets place k)
       (either_way Pumps (may_offer place.0 set) _ _ (pump_by slot set sets (found_for slot place) (slot_finds slot place k) (λ p q. from_pumps (slot + 1) sets p q)) k)
-
-  pub pumped_fine : (place : Place) → Fine place → Fine (pumped place)
-  unfolding pumped
-  pumped_fine place f =
-      cond_both (settled place.0 && nat_le (next place.0) last_slot) (pumped_from (next place.0) place.0.sets place) place Fine
-      (λ t. (from_pumps (next place.0) place.0.sets place (f, f.0.6 (and_parts place.0.running (may_offer place.0 (first_set place.0.sets)) (and_parts (settled place.0) (nat_le (next place.0) last_slot) t).0).0)).0) (λ _. f)
-
-  -- ---- the state is sent
 
   -- ---- an entry: a counted one, or one that is learnt where nothing is in flight
 
@@ -244,79 +219,26 @@ module _ (a : Affair) (g : Draw) where
     f.1,
   )
 
-  pub looked_fine : (place : Place) → Fine place → Fine (looked place)
-  looked_fine place f = looking_kept Fine elected_fine (λ hint r mails k. k) place f
-
   entered_goes : (counted : Bool) (command : Command) (r : ReplicaState) (mails : List Mail) → Does command → (counted ≡ false → r.leader.flights ≡ []) → Fine (r, mails) → Goes counted (applied r.group command).0 (entered command r, mails)
   unfolding entered forgotten
   entered_goes counted command r mails d none f =
       ((((applied_same r.group command).0 ∙ f.0.0, f.0.1, f.0.2, f.0.3, f.0.4, a.entered g r.group command f.0.5 d, f.0.6), f.1), none, refl)
 
-  one_fine : (counted : Bool) (command : Command) (place : Place) → Does command → (counted ≡ false → place.0.leader.flights ≡ []) → Fine place → Fine (executed_one counted command place)
-  unfolding executed_one
-  one_fine counted command (r, mails) d none f =
+  -- the whole entry, with its slot cleared
+  pub entry_fine : (counted : Bool) (command : Command) (r : ReplicaState) (mails : List Mail) → Does command → (counted ≡ false → r.leader.flights ≡ []) → Fine (r, mails) → Fine (entered_place counted command (r, mails))
+  entry_fine counted command r mails d none f =
       let after : Group = (applied r.group command).0 in
       let effect : Effect = (applied r.group command).1 in
       let place0 : Place = (entered command r, mails) in
-      let k0 : Goes counted after place0 = entered_goes counted command r mails d none f in
       let place1 : Place = announced counted effect command place0 in
-      let k1 : Goes counted after place1 = announced_goes counted after effect command place0 d k0 in
+      let k1 : Goes counted after place1 = announced_goes counted after effect command place0 d (entered_goes counted command r mails d none f) in
       let place2 : Place = spoken counted (before_of r.group.core) effect command place1 in
       let k2 : Goes counted after place2 = spoken_goes counted after (before_of r.group.core) effect command place1 d k1 in
       let place3 : Place = learnt_to counted (members r) (next r) command place2 in
       let k3 : Goes counted after place3 = learnt_goes counted after (members r) (next r) command place2 d k2 in
       let place4 : Place = welcomed counted (members r) place3 in
       let k4 : Goes counted after place4 = welcomed_goes counted after (members r) place3 (a.adds g r.group command f.0.5 d) k3 in
-      let place5 : Place = landed counted (next r) command place4 in
-      let f5 : Fine place5 = landed_fine counted (next r) command place4 k4.1 k4.0 in
-      looked_fine (left place5) (leaving_kept Fine ended_fine place5 f5)
-
-  no_flights : {b : Bool} {P : Type 0} → b ≡ true → b ≡ false → P
-  no_flights t f = absurd (true≢false (sym t ∙ f))
-
-  ready_does : (r : ReplicaState) → Held r → Cmd (next_ready r)
-  ready_does r k = either_way Cmd (r.running && has_room r) (at_slot r.ready (next r)) None (opt_slot Does r.ready (next r) k.4) tt
-
-  pub executed_fine : (counted : Bool) (command : Command) (place : Place) → Does command → (counted ≡ false → place.0.leader.flights ≡ []) → Fine place → Fine (executed counted command place).0
-  executed_fine counted command place d none f =
-      executed_place Fine Cmd (λ p q. ready_does p.0 q.0) (λ x p e q. one_fine true x p e (λ bad. no_flights refl bad) q) pumped_fine counted command place (one_fine counted command place d none f)
-
-  -- ---- children
+      landed_fine counted (next r) command place4 k4.1 k4.0
 
   abbrev pub Kids : List Base → Type 0
   Kids made = Each (a.Creates g) made
-
-  kid_at : (me : ℕ) (child : Option Base) → Opt (a.Creates g) child → Kids (child_at me child)
-  kid_at me None c = tt
-  kid_at me (Some child) c = either_way Kids (is_member child.core.members me) (child ∷ []) [] (c, tt) tt
-
-  child_creates : (command : Command) (r : ReplicaState) → Does command → Held r → Opt (a.Creates g) (child_by r.group command)
-  child_creates command r d k = by (child_by r.group command) refl
-    where
-      by : (o : Option Base) → child_by r.group command ≡ o → Opt (a.Creates g) o
-      by None e = tt
-      by (Some child) e = a.creation g r.group command child k.5 d e
-
-  both_kids : (command : Command) (r : ReplicaState) (rest : List Base) → Does command → Held r → Kids rest → Kids (next_child command r ++ rest)
-  both_kids command r rest d k more = Each-append (a.Creates g) (next_child command r) rest (kid_at r.me (child_by r.group command) (child_creates command r d k)) more
-
-  abbrev pub KidsAfter : Executed → Type 0
-  KidsAfter step = Kids step.1
-
-  kids_by : (es : List (ℕ × Command)) (place : Place) (o : Option Command) → Cmd o → Fine place → ((p : Place) → Fine p → Kids (executed_ready es p).1)
-      → KidsAfter (elim o [ None ↦ childless place | Some command ↦ ending (next_child command place.0) (executed_ready es (executed_one true command place)) ])
-  kids_by es place None c f more = tt
-  kids_by es place (Some command) c f more =
-      let after : Place = executed_one true command place in
-      both_kids command place.0 (executed_ready es after).1 c f.0 (more after (one_fine true command place c (λ bad. no_flights refl bad) f))
-
-  ready_kids : (es : List (ℕ × Command)) (place : Place) → Fine place → Kids (executed_ready es place).1
-  unfolding executed_ready
-  ready_kids [] place f = tt
-  ready_kids (e ∷ es) place f = kids_by es place (next_ready place.0) (ready_does place.0 f.0) f (λ p q. ready_kids es p q)
-
-  pub executed_kids : (counted : Bool) (command : Command) (place : Place) → Does command → (counted ≡ false → place.0.leader.flights ≡ []) → Fine place → Kids (executed counted command place).1
-  unfolding executed
-  executed_kids counted command place d none f =
-      let after : Place = executed_one counted command place in
-      both_kids command place.0 (executed_ready after.0.ready after).1 d f.0 (ready_kids after.0.ready after (one_fine counted command place d none f))

@@ -1,18 +1,16 @@
 -- Whatever a leader's row sends, each state of its group among it is from its own node.
-use Rattle.std.proofs.Common.{◌≡◌, ℕ, ◌+◌, ◌-◌, ◌&&◌, not, eqb, Bool, true, false, true≢false, cond, List, [], ◌∷◌, ◌++◌, Option, Some, None, inl, inr, refl, sym, ◌∙◌, ap, subst}
-use Rattle.std.specs.Prelude.{is_some, nat_le}
-use Rattle.std.specs.List.{filter, list_any}
+use Rattle.std.proofs.Common.{◌≡◌, ℕ, ◌+◌, ◌-◌, not, eqb, Bool, true, false, true≢false, cond, List, [], ◌∷◌, ◌++◌, Option, Some, None, inl, inr, refl, sym, ◌∙◌, ap, subst}
+use Rattle.std.specs.List.{filter}
 use Rattle.std.proofs.lemmas.Bool.{cond_both, eq-eqb}
 use Rattle.sc_base.specs.Definitions.{Among, Each, Drawer, IsRoster, is_member}
-use Rattle.sc_node_table.specs.Values.{Ballot, Draw, Command, Base, Core, OrderLine, AnswerBody, Mail, MailBody, Prepare, Promise, Accept, Accepted, Learn, Install, Must, Gap, Report}
+use Rattle.sc_node_table.specs.Values.{Noop, Ballot, Draw, Command, Base, OrderLine, Mail, MailBody, Prepare, Promise, Accept, Accepted, Learn, Install, Report}
 use Rattle.sc_group_table.specs.machine.MachineDefinitions.{base_of, applied}
-use Rattle.sc_words.specs.declared.paxos.answers.Must.TheVariants.{Value, Free as Open}
-use Rattle.sc_words.specs.paxos.PaxosDefinitions.{must, promise_counted, without_flight_at}
+use Rattle.sc_words.specs.paxos.PaxosDefinitions.{promise_counted, without_flight_at}
 use Rattle.sc_words.proofs.PaxosProofs.PaxosLemmas.{Each-append}
 use Rattle.sc_node_table.specs.declared.ReplicaInput.TheVariants as Given
-use Rattle.sc_node_table.specs.NodeDefinitions.{entered, learnt_to, welcomed, landed, left, looked, executed_one, next_child, next_ready, ending, executed_ready, executed, install_to, welcomed_all, sent, sent_all, sent_others, answered, Found, is_act, waits, turned_down, next_queued, from_backlog, from_acts, from_queues, found_by, found_for, offered, pumped_from, pumped, ReplicaState, Place, Executed, childless, listed, name_of, next, members, settled, may_offer, taken_at, under_way, is_idle, last_slot, mailed, stepped, at_slot, without_slot, before_of, spoken, leads, promise_row}
+use Rattle.sc_node_table.specs.NodeDefinitions.{entered, learnt_to, welcomed, landed, left, looked, executed_one, next_child, next_ready, ending, executed_ready, executed, install_to, welcomed_all, sent, sent_all, sent_others, offered, pumped, ReplicaState, Place, Executed, childless, listed, name_of, next, members, mailed, stepped, at_slot, without_slot, before_of, spoken, leads, promise_row}
 use Rattle.sc_law_walks.specs.WalkDefinitions.{IfThere}
-use Rattle.sc_law_walks.proofs.WalkLemmas.{idle_ready}
+use Rattle.sc_law_walks.proofs.WalkLemmas.{idle_ready, TableOffers, pump_keeps}
 use Rattle.sc_live_steps.specs.following.FollowingDefinitions.{Mark, Installs, mark_of, marks_of, Course, Progress, Sets, IsLed, IsNext, AreNext, IsLeadOf, IsAside, DecidesNext, marks_for}
 use Rattle.sc_live_steps.proofs.FollowingProofs.FollowingLemmas.{aside_is, order_is, entered_keeps, landed_taught, ends, entries_lead, with_state, with_both, stays_led, ready_of, among-left, among-right, same_mark, vote_row, turned_kept, spoken_kept, ended_kept, announced_kept}
 use Rattle.sc_live_journals.specs.groups.GroupDefinitions.{IsStateFrom}
@@ -87,70 +85,21 @@ module _ (name : Draw) (own : ℕ) where
 
   -- ---- the pump
 
-  own_calls : (me : ℕ) (idle : Bool) (core : Core) (backlog : List Command) (mails : List Mail) → Own mails → Own (next_queued me idle core backlog mails).2
-  unfolding next_queued
-  own_calls me idle core [] mails f = f
-  own_calls me idle core (command ∷ backlog) mails f = by (waits idle core.lock command) (turned_down core command) (λ answer. own_calls me idle core backlog (answered me core.id answer command mails) (turned_kept name Keeps (λ _ g. g) (λ a b c one other g. other (one g)) keep me core.id command answer mails f))
-    where
-      by : (b : Bool) (o : Option AnswerBody) → ((answer : AnswerBody) → Own (next_queued me idle core backlog (answered me core.id answer command mails)).2)
-          → Own (cond {A = Option Command × List Command × List Mail} b (None, command ∷ backlog, mails) (elim o [ None ↦ (Some command, backlog, mails) | Some answer ↦ next_queued me idle core backlog (answered me core.id answer command mails) ])).2
-      by true o more = f
-      by false None more = f
-      by false (Some answer) more = more answer
-
-  own_found : (slot : ℕ) (r : ReplicaState) (mails : List Mail) → Own mails → Own (found_for slot (r, mails)).1.1
-  unfolding found_for from_queues from_backlog
-  own_found slot r mails f = by (must slot r.leader)
-    where
-      acts : (list : List Command) → Own (from_acts list (r, mails)).1.1
-      acts [] = own_calls r.me (is_idle r) r.group.core r.backlog mails f
-      acts (a ∷ list) = if_idle (is_idle r)
-        where
-          if_idle : (b : Bool) → Own (cond {A = Found} b (Some a, (record r { acts = list }, mails)) (None, (r, mails))).1.1
-          if_idle true = f
-          if_idle false = f
-
-      queues : (b : Bool) → Own (cond {A = Found} b (None, (r, mails)) (from_acts r.acts (r, mails))).1.1
-      queues true = f
-      queues false = acts r.acts
-
-      by : (m : Must Command) → Own (found_by m (r, mails)).1.1
-      by (Value command) = f
-      by Gap = f
-      by Open = queues (list_any is_act (under_way r))
-
   own_offered : (slot : ℕ) (set : List ℕ) (command : Command) (r : ReplicaState) (mails : List Mail) → Own mails → Own (offered slot set command (r, mails)).1
   unfolding offered
   own_offered slot set command r mails f = own_all r.me (Accept (name_of r) r.leader.ballot slot command) (no_offer (name_of r) r.leader.ballot slot command) set mails f
 
-  own_from : (slot : ℕ) (sets : List (List ℕ)) (r : ReplicaState) (mails : List Mail) → Own mails → Own (pumped_from slot sets (r, mails)).1
-  unfolding pumped_from
-  own_from slot [] r mails f = f
-  own_from slot (set ∷ sets) r mails f = by (is_some (taken_at r slot)) (may_offer r set) (λ q more g. own_from (slot + 1) sets q more g)
-    where
-      Rest : Type 0
-      Rest = (q : ReplicaState) (more : List Mail) → Own more → Own (pumped_from (slot + 1) sets (q, more)).1
-
-      outs : Found → Place
-      outs x = elim (x.0) [ None ↦ x.1 | Some command ↦ pumped_from (slot + 1) sets (offered slot set command x.1) ]
-
-      goes : Rest → (x : Found) → Own x.1.1 → Own (outs x).1
-      goes rest (None, q) g = g
-      goes rest (Some command, (q, more)) g = (let after = offered slot set command (q, more) in rest after.0 after.1 (own_offered slot set command q more g))
-
-      by : (b c : Bool) → Rest
-          → Own (cond b (pumped_from (slot + 1) sets (r, mails)) (cond c (outs (found_for slot (r, mails))) (r, mails))).1
-      by true c rest = rest r mails f
-      by false true rest = goes rest (found_for slot (r, mails)) (own_found slot r mails f)
-      by false false rest = f
+  pump_offers : TableOffers (λ (place : Place). Own place.1)
+  pump_offers = record {
+    turned = λ command answer backlog r mails on e no f. turned_kept name Keeps (λ _ g. g) (λ a b c one other g. other (one g)) keep r.me r.group.core.id command answer mails f;
+    offers_value = λ slot set command r mails on at free e f. own_offered slot set command r mails f;
+    offers_noop = λ slot set r mails on at free gap f. own_offered slot set Noop r mails f;
+    offers_act = λ slot set act acts r mails on at free e f. own_offered slot set act (record r { acts = acts }) mails f;
+    offers_call = λ slot set command backlog r mails on at free e f. own_offered slot set command (record r { backlog = backlog }) mails f;
+  }
 
   pub own_pumped : (r : ReplicaState) (mails : List Mail) → Own mails → Own (pumped (r, mails)).1
-  unfolding pumped
-  own_pumped r mails f = by (settled r && nat_le (next r) last_slot)
-    where
-      by : (b : Bool) → Own (cond b (pumped_from (next r) r.sets (r, mails)) (r, mails)).1
-      by true = own_from (next r) r.sets r mails f
-      by false = f
+  own_pumped r mails f = (pump_keeps (λ (place : Place). Own place.1) pump_offers (r, mails) f).0
 
   -- ---- an entry
 

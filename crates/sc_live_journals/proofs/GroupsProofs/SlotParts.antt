@@ -1,21 +1,16 @@
 -- What a replica has in flight and ready stays from its next slot on by the parts of its rows.
-use Rattle.std.proofs.Common.{◌≡◌, ℕ, ◌+◌, ◌-◌, ◌^◌, ◌≤◌, ◌&&◌, nat_le, eqb, Bool, true, false, true≢false, cond, List, [], ◌∷◌, length, Option, Some, None, refl, sym, ◌∙◌, ap, subst, arith}
-use Rattle.std.specs.Prelude.{is_some}
-use Rattle.std.specs.List.{list_any}
-use Rattle.std.proofs.lemmas.Bool.{cond_both, and_parts}
-use Rattle.sc_node_table.specs.Values.{Ballot, Command, Noop, Effect, AnswerBody, Mail, Must, Gap, Flight}
+use Rattle.std.proofs.Common.{◌≡◌, ℕ, ◌+◌, ◌-◌, ◌^◌, ◌≤◌, ◌&&◌, eqb, Bool, true, false, true≢false, cond, List, [], ◌∷◌, length, Option, Some, None, refl, sym, ◌∙◌, ap, subst, arith}
+use Rattle.sc_node_table.specs.Values.{Ballot, Command, Noop, Effect, AnswerBody, Mail, Flight}
 use Rattle.sc_mail.specs.declared.bodies.AnswerBody.TheVariants as Says
 use Rattle.sc_group_table.specs.machine.MachineDefinitions.{applied}
-use Rattle.sc_words.specs.declared.paxos.answers.Must.TheVariants.{Value, Free as Open}
-use Rattle.sc_words.specs.paxos.PaxosDefinitions.{below, must, flight_at, new_leader, without_flight}
-use Rattle.sc_node_table.specs.NodeDefinitions.{elected, ended, stopped, saw, entered, announced, learnt_to, welcomed, landed, left, looked, executed_one, has_room, next_ready, next_child, ending, executed_ready, all_ready, executed, install_to, Found, is_act, from_backlog, from_acts, from_queues, found_by, found_for, offered, pumped_from, pumped, put_back, ReplicaState, Place, Executed, childless, flying, next, members, settled, may_offer, first_set, taken_at, under_way, is_idle, last_slot, forgotten, at_slot, without_slot, before_of, spoken}
-use Rattle.sc_law_walks.proofs.WalkLemmas.{entered_next, landed_place, either_way}
+use Rattle.sc_words.specs.paxos.PaxosDefinitions.{below, flight_at, new_leader, without_flight}
+use Rattle.sc_node_table.specs.NodeDefinitions.{elected, ended, stopped, saw, entered, announced, learnt_to, welcomed, landed, left, looked, executed_one, has_room, next_ready, next_child, ending, executed_ready, all_ready, executed, install_to, offered, pumped, put_back, ReplicaState, Place, Executed, childless, flying, next, members, taken_at, forgotten, at_slot, without_slot, before_of, spoken}
+use Rattle.sc_law_walks.proofs.WalkLemmas.{entered_next, landed_place, either_way, IsOpenOffer, offer_still, TableOffers, pump_keeps}
 use Rattle.sc_live_journals.specs.groups.GroupDefinitions.{HasFrom, IsSlotKept}
 use Rattle.sc_live_journals.proofs.GroupsProofs.SlotLists.{fly_past, fly_pushed, wait_past}
 use Rattle.sc_live_journals.proofs.GroupsProofs.LeadersAtRest.{none_mapped, none_first}
 use Rattle.sc_node_table.proofs.Lemmas.{one-shorter}
 use Rattle.sc_live_steps.proofs.ExecutionParts.{entry_reported, leaving_kept, looking_kept}
-use Rattle.sc_live_steps.proofs.FollowingProofs.FollowingLemmas.{none_there as none_is}
 use Rattle.std.proofs.lemmas.List.{nil_from_length}
 
 -- what is ready is not executed where nothing runs, or nothing is ready
@@ -69,71 +64,30 @@ module _ (n m : ℕ) (d : Bool) where
 -- ---- the pump
 
 module _ (n : ℕ) (d : Bool) where
-  -- one that runs
-  abbrev Runs : Place → Type 0
-  Runs place = W n n d place × (place.0.running ≡ true)
-
-  module _ (slot : ℕ) where
-    -- a replica that runs, with nothing in flight or ready at a slot
-    abbrev Open_ : Place → Type 0
-    Open_ place = Runs place × (taken_at place.0 slot ≡ None)
-
-    abbrev FoundRuns : Found → Type 0
-    FoundRuns found = Open_ found.1
-
-    calls_well : (place : Place) → Open_ place → FoundRuns (from_backlog place)
-    unfolding from_backlog
-    calls_well (r, mails) k = k
-
-    acts_well : (acts : List Command) (place : Place) → Open_ place → FoundRuns (from_acts acts place)
-    acts_well [] place k = calls_well place k
-    acts_well (act ∷ acts) (r, mails) k = either_way FoundRuns (is_idle r) (Some act, (record r { acts = acts }, mails)) (None, (r, mails)) k k
-
-    queues_well : (place : Place) → Open_ place → FoundRuns (from_queues place)
-    unfolding from_queues
-    queues_well (r, mails) k = either_way FoundRuns (list_any is_act (under_way r)) (None, (r, mails)) (from_acts r.acts (r, mails)) k (acts_well r.acts (r, mails) k)
-
-    found_by_well : (what : Must Command) (place : Place) → Open_ place → FoundRuns (found_by what place)
-    found_by_well (Value command) place k = k
-    found_by_well Gap place k = k
-    found_by_well Open place k = queues_well place k
-
-    found_well : (place : Place) → Open_ place → FoundRuns (found_for slot place)
-    unfolding found_for
-    found_well (r, mails) k = found_by_well (must slot r.leader) (r, mails) k
-
-    offered_well : (set : List ℕ) (command : Command) (place : Place) → n ≤ slot → Open_ place → Runs (offered slot set command place)
-    unfolding offered
-    offered_well set command (r, mails) from k = (
-      (
-        (
-          fly_pushed n (record { slot = slot; value = command; voters = None }) r.leader.flights from (none_mapped (λ (flight : Flight Command). flight.value) (flight_at slot r.leader.flights) (none_first (flying r slot) (at_slot r.ready slot) k.1)) k.0.0.0.0,
-          k.0.0.0.1,
-          λ off. absurd (true≢false (sym k.0.1 ∙ off)),
-        ),
-        k.0.0.1,
-        k.0.0.2,
-      ),
+  offered_well : (slot : ℕ) (set : List ℕ) (command : Command) (r : ReplicaState) (mails : List Mail) → r.running ≡ true → IsOpenOffer slot set command r → taken_at r slot ≡ None → W n n d (r, mails) → W n n d (offered slot set command (r, mails))
+  unfolding offered
+  offered_well slot set command r mails on at free k = (
+    (
+      fly_pushed n (record { slot = slot; value = command; voters = None }) r.leader.flights (let low = at.low in let fact = k.1 in omega (arith, low, fact))
+          (none_mapped (λ (flight : Flight Command). flight.value) (flight_at slot r.leader.flights) (none_first (flying r slot) (at_slot r.ready slot) free)) k.0.0,
       k.0.1,
-    )
+      λ off. absurd (true≢false (sym on ∙ off)),
+    ),
+    k.1,
+    k.2,
+  )
 
-    pump_by : (set : List ℕ) (sets : List (List ℕ)) (found : Found) → n ≤ slot → FoundRuns found → ((place : Place) → Runs place → Runs (pumped_from (slot + 1) sets place))
-        → Runs (elim (found.0) [ None ↦ found.1 | Some command ↦ pumped_from (slot + 1) sets (offered slot set command found.1) ])
-    pump_by set sets (None, place) from k more = k.0
-    pump_by set sets (Some command, place) from k more = more (offered slot set command place) (offered_well set command place from k)
-
-  from_well : (slot : ℕ) (sets : List (List ℕ)) (place : Place) → n ≤ slot → Runs place → Runs (pumped_from slot sets place)
-  unfolding pumped_from
-  from_well slot [] place from k = k
-  from_well slot (set ∷ sets) place from k =
-      cond_both (is_some (taken_at place.0 slot)) _ _ Runs (λ _. from_well (slot + 1) sets place (omega (arith, from)) k)
-      (λ none. either_way Runs (may_offer place.0 set) _ _ (pump_by slot set sets (found_for slot place) from (found_well slot place (k, none_is (taken_at place.0 slot) none)) (λ p q. from_well (slot + 1) sets p (omega (arith, from)) q)) k)
+  offers_well : TableOffers (W n n d)
+  offers_well = record {
+    turned = λ command answer backlog r mails on e no k. k;
+    offers_value = λ slot set command r mails on at free e k. offered_well slot set command r mails on at free k;
+    offers_noop = λ slot set r mails on at free gap k. offered_well slot set Noop r mails on at free k;
+    offers_act = λ slot set act acts r mails on at free e k. offered_well slot set act (record r { acts = acts }) mails on (offer_still slot set act r acts r.backlog at) free k;
+    offers_call = λ slot set command backlog r mails on at free e k. offered_well slot set command (record r { backlog = backlog }) mails on (offer_still slot set command r r.acts backlog at) free k;
+  }
 
   pub pumped_well : (place : Place) → W n n d place → W n n d (pumped place)
-  unfolding pumped
-  pumped_well place k =
-      cond_both (settled place.0 && nat_le (next place.0) last_slot) (pumped_from (next place.0) place.0.sets place) place (W n n d)
-      (λ t. (from_well (next place.0) place.0.sets place (let fact = k.1 in omega (arith, fact)) (k, (and_parts place.0.running (may_offer place.0 (first_set place.0.sets)) (and_parts (settled place.0) (nat_le (next place.0) last_slot) t).0).0)).0) (λ _. k)
+  pumped_well place k = (pump_keeps (W n n d) offers_well place k).0
 
 -- ---- an entry
 

@@ -141,7 +141,7 @@ module _ (IsSaid : Mail → Type 0) (name : Draw) (says : (me to : ℕ) (body : 
       requested_again = λ client seq other op r mails on e g k. k;
       turned = λ command answer backlog r mails on e no k. (k.0, one_answered r.me (Each IsSaid) (own_talk r.me) r.group.core.id answer command mails k.1);
       offers_value = λ slot set command r mails on near free e k. offered_keeps slot set command r mails k;
-      offers_noop = λ slot set r mails on near free k. offered_keeps slot set _ r mails k;
+      offers_noop = λ slot set r mails on near free gap k. offered_keeps slot set _ r mails k;
       offers_act = λ slot set act acts r mails on near free e k. offered_keeps slot set act (record r { acts = acts }) mails k;
       offers_call = λ slot set command backlog r mails on near free e k. offered_keeps slot set command (record r { backlog = backlog }) mails k;
     }

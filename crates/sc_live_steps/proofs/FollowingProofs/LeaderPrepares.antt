@@ -1,17 +1,15 @@
 -- Whatever a leader's row sends, it asks to promise right behind a state alone, from the slot after it on.
-use Rattle.std.proofs.Common.{◌≡◌, ℕ, ◌+◌, ◌-◌, ◌&&◌, not, eqb, Bool, true, false, cond, List, [], ◌∷◌, ◌++◌, Option, Some, None, inl, inr, refl, sym, ◌∙◌, ap, subst, arith}
-use Rattle.std.specs.Prelude.{is_some, nat_le}
-use Rattle.std.specs.List.{filter, list_any}
+use Rattle.std.proofs.Common.{◌≡◌, ℕ, ◌+◌, ◌-◌, not, eqb, Bool, true, false, cond, List, [], ◌∷◌, ◌++◌, Option, Some, None, inl, inr, refl, sym, ◌∙◌, ap, subst, arith}
+use Rattle.std.specs.List.{filter}
 use Rattle.std.specs.Option.{option_map}
 use Rattle.std.proofs.lemmas.Bool.{cond_both}
 use Rattle.sc_base.specs.Definitions.{same_draw, is_member}
-use Rattle.sc_node_table.specs.Values.{Ballot, Draw, Command, Core, AnswerBody, Mail, MailBody, Prepare, Accept, Learn, Install, Must, Gap, Report}
+use Rattle.sc_node_table.specs.Values.{Noop, Ballot, Draw, Command, Mail, MailBody, Prepare, Accept, Learn, Install, Report}
 use Rattle.sc_group_table.specs.machine.MachineDefinitions.{base_of, applied}
-use Rattle.sc_words.specs.declared.paxos.answers.Must.TheVariants.{Value, Free as Open}
-use Rattle.sc_words.specs.paxos.PaxosDefinitions.{must, promise_counted, without_flight_at}
-use Rattle.sc_node_table.specs.NodeDefinitions.{entered, learnt_to, welcomed, landed, left, looked, executed_one, next_child, next_ready, ending, executed_ready, executed, install_to, welcomed_all, sent, sent_all, sent_others, answered, Found, is_act, waits, turned_down, next_queued, from_backlog, from_acts, from_queues, found_by, found_for, offered, pumped_from, pumped, ReplicaState, Place, Executed, childless, listed, name_of, next, members, settled, may_offer, taken_at, under_way, is_idle, last_slot, mailed, at_slot, without_slot, before_of, spoken, leads, promise_row}
+use Rattle.sc_words.specs.paxos.PaxosDefinitions.{promise_counted, without_flight_at}
+use Rattle.sc_node_table.specs.NodeDefinitions.{entered, learnt_to, welcomed, landed, left, looked, executed_one, next_child, next_ready, ending, executed_ready, executed, install_to, welcomed_all, sent, sent_all, sent_others, offered, pumped, ReplicaState, Place, Executed, childless, listed, name_of, next, members, mailed, at_slot, without_slot, before_of, spoken, leads, promise_row}
 use Rattle.sc_law_walks.specs.WalkDefinitions.{IfThere}
-use Rattle.sc_law_walks.proofs.WalkLemmas.{idle_ready}
+use Rattle.sc_law_walks.proofs.WalkLemmas.{idle_ready, TableOffers, pump_keeps}
 use Rattle.sc_live_steps.specs.following.FollowingDefinitions.{Dated, marks_in, from_slot_of, dated_of, dated_for, AreLow, IsNoPrepare, AsksLow, RowsAskNext, Mark, Asks, Teaches, Installs, Prepares, mark_of, reached, Course, Sets, IsLed, IsNext, AreNext, marks_for}
 use Rattle.sc_live_steps.proofs.FollowingProofs.QueueingRows.{aside_is, order_is}
 use Rattle.sc_live_steps.proofs.FollowingProofs.CountedEntries.{entered_keeps, landed_taught, ends, entries_lead}
@@ -119,70 +117,21 @@ module _ (name : Draw) where
 
   -- ---- the pump
 
-  low_calls : (me : ℕ) (idle : Bool) (core : Core) (backlog : List Command) (mails : List Mail) → Low mails → Low (next_queued me idle core backlog mails).2
-  unfolding next_queued
-  low_calls me idle core [] mails f = f
-  low_calls me idle core (command ∷ backlog) mails f = by (waits idle core.lock command) (turned_down core command) (λ answer. low_calls me idle core backlog (answered me core.id answer command mails) (turned_kept name Keeps (λ _ g. g) (λ a b c one other g. other (one g)) keep me core.id command answer mails f))
-    where
-      by : (b : Bool) (o : Option AnswerBody) → ((answer : AnswerBody) → Low (next_queued me idle core backlog (answered me core.id answer command mails)).2)
-          → Low (cond {A = Option Command × List Command × List Mail} b (None, command ∷ backlog, mails) (elim o [ None ↦ (Some command, backlog, mails) | Some answer ↦ next_queued me idle core backlog (answered me core.id answer command mails) ])).2
-      by true o more = f
-      by false None more = f
-      by false (Some answer) more = more answer
-
-  low_found : (slot : ℕ) (r : ReplicaState) (mails : List Mail) → Low mails → Low (found_for slot (r, mails)).1.1
-  unfolding found_for from_queues from_backlog
-  low_found slot r mails f = by (must slot r.leader)
-    where
-      acts : (list : List Command) → Low (from_acts list (r, mails)).1.1
-      acts [] = low_calls r.me (is_idle r) r.group.core r.backlog mails f
-      acts (a ∷ list) = if_idle (is_idle r)
-        where
-          if_idle : (b : Bool) → Low (cond {A = Found} b (Some a, (record r { acts = list }, mails)) (None, (r, mails))).1.1
-          if_idle true = f
-          if_idle false = f
-
-      queues : (b : Bool) → Low (cond {A = Found} b (None, (r, mails)) (from_acts r.acts (r, mails))).1.1
-      queues true = f
-      queues false = acts r.acts
-
-      by : (m : Must Command) → Low (found_by m (r, mails)).1.1
-      by (Value command) = f
-      by Gap = f
-      by Open = queues (list_any is_act (under_way r))
-
   low_offered : (slot : ℕ) (set : List ℕ) (command : Command) (r : ReplicaState) (mails : List Mail) → Low mails → Low (offered slot set command (r, mails)).1
   unfolding offered
   low_offered slot set command r mails f = low_all r.me (Accept (name_of r) r.leader.ballot slot command) (named_unasked (name_of r) (Asks r.leader.ballot slot) tt) set mails f
 
-  low_from : (slot : ℕ) (sets : List (List ℕ)) (r : ReplicaState) (mails : List Mail) → Low mails → Low (pumped_from slot sets (r, mails)).1
-  unfolding pumped_from
-  low_from slot [] r mails f = f
-  low_from slot (set ∷ sets) r mails f = by (is_some (taken_at r slot)) (may_offer r set) (λ q more g. low_from (slot + 1) sets q more g)
-    where
-      Rest : Type 0
-      Rest = (q : ReplicaState) (more : List Mail) → Low more → Low (pumped_from (slot + 1) sets (q, more)).1
-
-      outs : Found → Place
-      outs x = elim (x.0) [ None ↦ x.1 | Some command ↦ pumped_from (slot + 1) sets (offered slot set command x.1) ]
-
-      goes : Rest → (x : Found) → Low x.1.1 → Low (outs x).1
-      goes rest (None, q) g = g
-      goes rest (Some command, (q, more)) g = (let after = offered slot set command (q, more) in rest after.0 after.1 (low_offered slot set command q more g))
-
-      by : (b c : Bool) → Rest
-          → Low (cond b (pumped_from (slot + 1) sets (r, mails)) (cond c (outs (found_for slot (r, mails))) (r, mails))).1
-      by true c rest = rest r mails f
-      by false true rest = goes rest (found_for slot (r, mails)) (low_found slot r mails f)
-      by false false rest = f
+  low_offers : TableOffers (λ (place : Place). Low place.1)
+  low_offers = record {
+    turned = λ command answer backlog r mails on e no f. turned_kept name Keeps (λ _ g. g) (λ a b c one other g. other (one g)) keep r.me r.group.core.id command answer mails f;
+    offers_value = λ slot set command r mails on at free e f. low_offered slot set command r mails f;
+    offers_noop = λ slot set r mails on at free gap f. low_offered slot set Noop r mails f;
+    offers_act = λ slot set act acts r mails on at free e f. low_offered slot set act (record r { acts = acts }) mails f;
+    offers_call = λ slot set command backlog r mails on at free e f. low_offered slot set command (record r { backlog = backlog }) mails f;
+  }
 
   pub low_pumped : (r : ReplicaState) (mails : List Mail) → Low mails → Low (pumped (r, mails)).1
-  unfolding pumped
-  low_pumped r mails f = by (settled r && nat_le (next r) last_slot)
-    where
-      by : (b : Bool) → Low (cond b (pumped_from (next r) r.sets (r, mails)) (r, mails)).1
-      by true = low_from (next r) r.sets r mails f
-      by false = f
+  low_pumped r mails f = (pump_keeps (λ (place : Place). Low place.1) low_offers (r, mails) f).0
 
   -- ---- an entry
 

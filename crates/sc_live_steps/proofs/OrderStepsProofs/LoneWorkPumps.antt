@@ -1,17 +1,15 @@
 -- A pump leaves a lone work of an order where it is: it waits, is in flight or is ready.
-use Rattle.std.proofs.Common.{◌≡◌, ℕ, ◌+◌, ◌≤◌, ◌&&◌, Bool, true, false, cond, List, [], ◌∷◌, ◌++◌, Option, Some, None, refl, sym, ◌∙◌, ap, subst, arith, append-nil}
-use Rattle.std.specs.Prelude.{is_some, nat_le}
-use Rattle.std.specs.List.{list_any}
+use Rattle.std.proofs.Common.{◌≡◌, ℕ, ◌+◌, List, [], ◌∷◌, ◌++◌, Option, Some, None, refl, sym, ◌∙◌, ap, append-nil}
 use Rattle.std.proofs.lemmas.List.{append_assoc}
 use Rattle.sc_base.specs.Definitions.{client_actor}
 use Rattle.sc_node_table.specs.Values.{Draw, Command, Noop, Call, Core, AnswerBody, Mail, Accept, Answer, Flight}
-use Rattle.sc_words.specs.declared.paxos.answers.Must.TheVariants.{Free as Open}
+use Rattle.sc_words.specs.declared.paxos.answers.Must.TheVariants.{Value, Gap, Free as Open}
 use Rattle.sc_words.specs.paxos.PaxosDefinitions.{must}
-use Rattle.sc_node_table.specs.NodeDefinitions.{answered, Found, is_act, waits, turned_down, next_queued, from_backlog, from_acts, from_queues, found_for, offered, pumped_from, pumped, ReplicaState, Place, name_of, next, settled, may_offer, taken_at, under_way, is_idle, last_slot, listed}
+use Rattle.sc_node_table.specs.NodeDefinitions.{answered, turned_down, offered, pumped, ReplicaState, Place, name_of, listed}
+use Rattle.sc_law_walks.proofs.WalkLemmas.{TableOffers, pump_keeps}
 use Rattle.sc_live_steps.specs.orders.OrderDefinitions.{Work, work_by, works_in, works_flying, works_ready, works, errands_for, IsUnbound, PumpsKeepWork}
 use Rattle.sc_live_steps.proofs.OrderStepsProofs.NamedValues.{single}
 use Rattle.sc_live_steps.proofs.OrderStepsProofs.Errands.{errands-none, errands-all}
-use Rattle.sc_live_steps.proofs.PumpProofs.Pumping.{open_found as found_is}
 
 -- ---- a lone element may stand anywhere in a list
 
@@ -34,11 +32,7 @@ flying_more : (flights : List (Flight Command)) (flight : Flight Command) → wo
 flying_more [] flight = append-nil (listed (work_by flight.value))
 flying_more (first ∷ flights) flight = ap (λ l. listed (work_by first.value) ++ l) (flying_more flights flight) ∙ sym (append_assoc (listed (work_by first.value)) (works_flying flights) (listed (work_by flight.value)))
 
--- ---- what is found in the queues
-
-abbrev work_found : Option Command → List Work
-work_found None = []
-work_found (Some command) = listed (work_by command)
+-- ---- a request that gets no slot
 
 turned_work : (core : Core) (command : Command) (answer : AnswerBody) → turned_down core command ≡ Some answer → work_by command ≡ None
 turned_work core (Call client seq op) answer e = refl
@@ -49,29 +43,6 @@ turned_errands : (name : Draw) (me : ℕ) (group : Draw) (command : Command) (an
 unfolding answered
 turned_errands name me group (Call client seq op) answer mails = errands-none name me (client_actor client) (Answer group seq answer) mails refl
 turned_errands name me group _ answer mails = refl
-
--- what is found, what is left, and the mail
-abbrev Walk : Type 0
-Walk = Option Command × List Command × List Mail
-
-record Walks (backlog : List Command) (mails : List Mail) (after : Walk) : Type 0 where
-  pub work : work_found after.0 ++ works_in after.1 ≡ works_in backlog
-  pub errands : (name : Draw) → errands_for name after.2 ≡ errands_for name mails
-
-next_walks : (me : ℕ) (idle : Bool) (core : Core) (backlog : List Command) (mails : List Mail) → Walks backlog mails (next_queued me idle core backlog mails)
-unfolding next_queued
-next_walks me idle core [] mails = record { work = refl; errands = λ name. refl }
-next_walks me idle core (command ∷ backlog) mails =
-    by (waits idle core.lock command) (turned_down core command) refl (λ answer. next_walks me idle core backlog (answered me core.id answer command mails))
-  where
-    by : (b : Bool) (o : Option AnswerBody) → turned_down core command ≡ o → ((answer : AnswerBody) → Walks backlog (answered me core.id answer command mails) (next_queued me idle core backlog (answered me core.id answer command mails)))
-        → Walks (command ∷ backlog) mails (cond b (None, command ∷ backlog, mails) (elim o [ None ↦ (Some command, backlog, mails) | Some answer ↦ next_queued me idle core backlog (answered me core.id answer command mails) ]))
-    by true o e more = record { work = refl; errands = λ name. refl }
-    by false None e more = record { work = refl; errands = λ name. refl }
-    by false (Some answer) e more = (let w = more answer in record {
-      work = w.work ∙ ap (λ x. listed x ++ works_in backlog) (sym (turned_work core command answer e));
-      errands = λ name. w.errands name ∙ turned_errands name me core.id command answer mails;
-    })
 
 -- ---- places of a pump: the state, who runs, and what must be proposed stay, and so do the lone work and the errands
 
@@ -86,93 +57,61 @@ module _ (r0 : ReplicaState) (mails0 : List Mail) (o : Option Work) where
   abbrev pub IsPumped : Place → Type 0
   IsPumped place = Stays place.0 place.1 × (works place.0 ≡ listed o)
 
-  -- with what is found
-  abbrev IsFound : Found → Type 0
-  IsFound found = Stays found.1.0 found.1.1 × (work_found found.0 ++ works found.1.0 ≡ listed o)
-
-  calls_found : (r : ReplicaState) (mails : List Mail) → IsPumped (r, mails) → IsFound (from_backlog (r, mails))
-  unfolding from_backlog
-  calls_found r mails p = (let w = next_walks r.me (is_idle r) r.group.core r.backlog mails in let found = next_queued r.me (is_idle r) r.group.core r.backlog mails in
-      (record { group = p.0.group; me = p.0.me; running = p.0.running; musts = p.0.musts; errands = λ name. w.errands name ∙ p.0.errands name }, by found.0 found.1 w.work))
-    where
-      by : (f : Option Command) (backlog : List Command) → work_found f ++ works_in backlog ≡ works_in r.backlog → work_found f ++ (works_in r.acts ++ (works_in backlog ++ (works_flying r.leader.flights ++ works_ready r.ready))) ≡ listed o
-      by None backlog e = ap (λ l. works_in r.acts ++ (l ++ (works_flying r.leader.flights ++ works_ready r.ready))) e ∙ p.1
-      by (Some command) backlog e = to-head (work_by command) (works_in r.acts) (works_in backlog ++ (works_flying r.leader.flights ++ works_ready r.ready)) o
-          (ap (λ l. works_in r.acts ++ l) (sym (append_assoc (listed (work_by command)) (works_in backlog) (works_flying r.leader.flights ++ works_ready r.ready)))
-          ∙ (ap (λ l. works_in r.acts ++ (l ++ (works_flying r.leader.flights ++ works_ready r.ready))) e ∙ p.1))
-
-  acts_found : (acts : List Command) (r : ReplicaState) (mails : List Mail) → r.acts ≡ acts → IsPumped (r, mails) → IsFound (from_acts acts (r, mails))
-  acts_found [] r mails e p = calls_found r mails p
-  acts_found (act ∷ acts) r mails e p = by (is_idle r)
-    where
-      by : (b : Bool) → IsFound (cond b (Some act, (record r { acts = acts }, mails)) (None, (r, mails)))
-      by true = (
-        record { group = p.0.group; me = p.0.me; running = p.0.running; musts = p.0.musts; errands = p.0.errands },
-        sym (append_assoc (listed (work_by act)) (works_in acts) (works_in r.backlog ++ (works_flying r.leader.flights ++ works_ready r.ready)))
-            ∙ (ap (λ l. works_in l ++ (works_in r.backlog ++ (works_flying r.leader.flights ++ works_ready r.ready))) (sym e) ∙ p.1),
-      )
-      by false = p
-
-  queues_found : (r : ReplicaState) (mails : List Mail) → IsPumped (r, mails) → IsFound (from_queues (r, mails))
-  unfolding from_queues
-  queues_found r mails p = by (list_any is_act (under_way r)) (acts_found r.acts r mails refl p)
-    where
-      by : (b : Bool) → IsFound (from_acts r.acts (r, mails)) → IsFound (cond b (None, (r, mails)) (from_acts r.acts (r, mails)))
-      by true f = p
-      by false f = f
-
-  offered_pumps : (slot : ℕ) (set : List ℕ) (command : Command) (r : ReplicaState) (mails : List Mail) → IsFound (Some command, (r, mails)) → IsPumped (offered slot set command (r, mails))
+  offered_pumps : (slot : ℕ) (set : List ℕ) (command : Command) (r : ReplicaState) (mails : List Mail) → Stays r mails → listed (work_by command) ++ works r ≡ listed o → IsPumped (offered slot set command (r, mails))
   unfolding offered
-  offered_pumps slot set command r mails f = (
+  offered_pumps slot set command r mails s e = (
     record {
-      group = f.0.group;
-      me = f.0.me;
-      running = f.0.running;
-      musts = f.0.musts;
-      errands = λ name. errands-all name r.me set (Accept (name_of r) r.leader.ballot slot command) mails (λ to. refl) ∙ f.0.errands name;
+      group = s.group;
+      me = s.me;
+      running = s.running;
+      musts = s.musts;
+      errands = λ name. errands-all name r.me set (Accept (name_of r) r.leader.ballot slot command) mails (λ to. refl) ∙ s.errands name;
     },
     ap (λ l. works_in r.acts ++ (works_in r.backlog ++ (l ++ works_ready r.ready))) (flying_more r.leader.flights (record { slot = slot; value = command; voters = None }))
         ∙ (ap (λ l. works_in r.acts ++ (works_in r.backlog ++ l)) (append_assoc (works_flying r.leader.flights) (listed (work_by command)) (works_ready r.ready))
         ∙ (sym (assoc (listed (work_by command) ++ works_ready r.ready)) ∙ from-head (work_by command) (works_in r.acts ++ (works_in r.backlog ++ works_flying r.leader.flights)) (works_ready r.ready) o
-        (ap (λ l. listed (work_by command) ++ l) (assoc (works_ready r.ready)) ∙ f.1))),
+        (ap (λ l. listed (work_by command) ++ l) (assoc (works_ready r.ready)) ∙ e))),
   )
     where
       assoc : (l : List Work) → (works_in r.acts ++ (works_in r.backlog ++ works_flying r.leader.flights)) ++ l ≡ works_in r.acts ++ (works_in r.backlog ++ (works_flying r.leader.flights ++ l))
       assoc l = append_assoc (works_in r.acts) (works_in r.backlog ++ works_flying r.leader.flights) l ∙ ap (λ x. works_in r.acts ++ x) (append_assoc (works_in r.backlog) (works_flying r.leader.flights) l)
 
-  slots_pump : (slot : ℕ) (sets : List (List ℕ)) (place : Place) → ((at : ℕ) → slot ≤ at → must at r0.leader ≡ Open) → IsPumped place → IsPumped (pumped_from slot sets place)
-  unfolding pumped_from
-  slots_pump slot [] place unbound p = p
-  slots_pump slot (set ∷ sets) (r, mails) unbound p =
-      by (is_some (taken_at r slot)) (may_offer r set) (slots_pump (slot + 1) sets (r, mails) later p)
-      (subst (λ f. IsPumped (goes f)) (sym (found_is slot r mails (p.0.musts slot ∙ unbound slot (omega arith)))) (goes_by (λ q i. slots_pump (slot + 1) sets q later i) (from_queues (r, mails)) (queues_found r mails p)))
-    where
-      later : (at : ℕ) → slot + 1 ≤ at → must at r0.leader ≡ Open
-      later at le = unbound at (omega (arith, le))
+  -- what waits is nothing to what stays
+  requeued : (acts backlog : List Command) (r : ReplicaState) (mails : List Mail) → Stays r mails → Stays (record r { acts = acts; backlog = backlog }) mails
+  requeued acts backlog r mails s = record { group = s.group; me = s.me; running = s.running; musts = s.musts; errands = s.errands }
 
-      goes : Found → Place
-      goes f = elim (f.0) [ None ↦ f.1 | Some command ↦ pumped_from (slot + 1) sets (offered slot set command f.1) ]
+  abbrev Late : Place → Type 0
+  Late place = IsPumped place × IsUnbound place.0
 
-      goes_by : ((q : Place) → IsPumped q → IsPumped (pumped_from (slot + 1) sets q)) → (f : Found) → IsFound f → IsPumped (goes f)
-      goes_by rest (None, q) i = i
-      goes_by rest (Some command, (q, more)) i = rest (offered slot set command (q, more)) (offered_pumps slot set command q more i)
+  unbound_still : (slot : ℕ) (set : List ℕ) (command : Command) (r : ReplicaState) (mails : List Mail) → IsUnbound r → IsUnbound (offered slot set command (r, mails)).0
+  unfolding offered
+  unbound_still slot set command r mails unbound = unbound
 
-      by : (b c : Bool) → IsPumped (pumped_from (slot + 1) sets (r, mails)) → IsPumped (goes (found_for slot (r, mails)))
-          → IsPumped (cond b (pumped_from (slot + 1) sets (r, mails)) (cond c (goes (found_for slot (r, mails))) (r, mails)))
-      by true c pass offer = pass
-      by false true pass offer = offer
-      by false false pass offer = p
+  offers_late : (slot : ℕ) (set : List ℕ) (command : Command) (r : ReplicaState) (mails : List Mail) → Stays r mails → listed (work_by command) ++ works r ≡ listed o → IsUnbound r → Late (offered slot set command (r, mails))
+  offers_late slot set command r mails s e unbound = (offered_pumps slot set command r mails s e, unbound_still slot set command r mails unbound)
+
+  offers_stay : TableOffers Late
+  offers_stay = record {
+    turned = λ command answer backlog r mails on e no k. (
+      (
+        record { group = k.0.0.group; me = k.0.0.me; running = k.0.0.running; musts = k.0.0.musts; errands = λ name. turned_errands name r.me r.group.core.id command answer mails ∙ k.0.0.errands name },
+        ap (λ l. works_in r.acts ++ (l ++ (works_flying r.leader.flights ++ works_ready r.ready))) (ap (λ w. listed w ++ works_in backlog) (sym (turned_work r.group.core command answer no)) ∙ ap works_in (sym e)) ∙ k.0.1,
+      ),
+      k.1,
+    );
+    offers_value = λ slot set command r mails on at free e k. absurd (let bad : Open ≡ Value command = sym (k.1 slot at.low) ∙ e in cc);
+    offers_noop = λ slot set r mails on at free gap k. absurd (let bad : Open ≡ Gap = sym (k.1 slot at.low) ∙ gap in cc);
+    offers_act = λ slot set act acts r mails on at free e k. offers_late slot set act (record r { acts = acts }) mails (requeued acts r.backlog r mails k.0.0)
+        (sym (append_assoc (listed (work_by act)) (works_in acts) (works_in r.backlog ++ (works_flying r.leader.flights ++ works_ready r.ready)))
+        ∙ (ap (λ l. works_in l ++ (works_in r.backlog ++ (works_flying r.leader.flights ++ works_ready r.ready))) (sym e) ∙ k.0.1)) k.1;
+    offers_call = λ slot set command backlog r mails on at free e k. offers_late slot set command (record r { backlog = backlog }) mails (requeued r.acts backlog r mails k.0.0)
+        (to-head (work_by command) (works_in r.acts) (works_in backlog ++ (works_flying r.leader.flights ++ works_ready r.ready)) o
+        (ap (λ l. works_in r.acts ++ l) (sym (append_assoc (listed (work_by command)) (works_in backlog) (works_flying r.leader.flights ++ works_ready r.ready)))
+        ∙ (ap (λ l. works_in r.acts ++ (l ++ (works_flying r.leader.flights ++ works_ready r.ready))) (ap works_in (sym e)) ∙ k.0.1))) k.1;
+  }
 
   pub pump-stays : IsUnbound r0 → works r0 ≡ listed o → IsPumped (pumped (r0, mails0))
-  unfolding pumped
-  pump-stays unbound e = by (settled r0 && nat_le (next r0) last_slot) (slots_pump (next r0) r0.sets (r0, mails0) unbound start)
-    where
-      start : IsPumped (r0, mails0)
-      start = (record { group = refl; me = refl; running = refl; musts = λ slot. refl; errands = λ name. refl }, e)
-
-      by : (b : Bool) → IsPumped (pumped_from (next r0) r0.sets (r0, mails0)) → IsPumped (cond b (pumped_from (next r0) r0.sets (r0, mails0)) (r0, mails0))
-      by true p = p
-      by false p = start
+  pump-stays unbound e = (pump_keeps Late offers_stay (r0, mails0) ((record { group = refl; me = refl; running = refl; musts = λ slot. refl; errands = λ name. refl }, e), unbound)).0.0
 
 -- A pump leaves the one work of an order that a leader has where it is: it waits, is in flight or is ready; and it sends no mail of a transaction.
 pub pumps-keep : PumpsKeepWork

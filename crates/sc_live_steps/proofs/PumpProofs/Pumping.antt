@@ -151,8 +151,3 @@ pumps_leave (r, mails) some = by (settled r && nat_le (next r) last_slot) refl
     by : (b : Bool) → (settled r && nat_le (next r) last_slot) ≡ b → HasNoneWaiting (cond b (pumped_from (next r) r.sets (r, mails)) (r, mails)).0
     by true t s n f e = done_none (pumped_from (next r) r.sets (r, mails)).0 (sets_done r mails r.sets some (and_parts r.running (may_offer r (first_set r.sets)) (and_parts (settled r) (nat_le (next r) last_slot) t).0).1) f e
     by false t s n f e = absurd (true≢false (sym (ap (λ b. b && nat_le (next r) last_slot) s ∙ n) ∙ t))
-
--- at a slot where nothing must be offered the queues are asked
-pub open_found : (slot : ℕ) (r : ReplicaState) (mails : List Mail) → must slot r.leader ≡ Open → found_for slot (r, mails) ≡ from_queues (r, mails)
-unfolding found_for
-open_found slot r mails e = ap (λ (m : Must Command). found_by m (r, mails)) e
