@@ -248,10 +248,7 @@ module _ {T E : Type 0} (entries : T → List (E × ℕ)) where
 
   carrier_is_one : (s : St) (r : Rule s) (i j : ℕ) (v d : View E) → get_elem? s.views i ≡ some v → get_elem? s.views j ≡ some d → v.live ≡ true → d.live ≡ true → v.who ≡ d.who → j ≡ i
   carrier_is_one s r i j v d at there live alive same =
-      let a : r.status v.who ≡ carried i = ((r.each i v at).number live).carries in
-      let b : r.status d.who ≡ carried j = ((r.each j d there).number alive).carries in
-      let c : carried i ≡ carried j = sym a ∙ (ap r.status same ∙ b) in
-      cc
+      let c : carried i ≡ carried j = sym ((r.each i v at).number live).carries ∙ (ap r.status same ∙ ((r.each j d there).number alive).carries) in cc
 
   -- a new seat of the number who comes
   pub splits : (id : ℕ) (v : View E) (who : ℕ) → v.live ≡ true → v.who ≡ 0 → who ≢ 0 → ¬ Contains v.given who → Splits Rule id v (with_given v who) (newcomer who v.seen)
