@@ -11,15 +11,11 @@ mod hostile_tests;
 #[cfg(test)]
 mod journal_tests;
 #[cfg(test)]
-mod ordinary_tests;
-#[cfg(test)]
 mod replay_tests;
 #[cfg(test)]
 mod run_tests;
 #[cfg(test)]
 mod scan_tests;
-#[cfg(test)]
-mod storm_tests;
 #[cfg(test)]
 mod thread_tests;
 #[cfg(test)]

@@ -8,7 +8,6 @@ ghost use Rattle.sc_meaning.specs.sound.Soundness.{IsSoundThroughout};
 use crate::decided_tests::{ExpectedGroup, has_groups};
 use crate::gates::Open;
 use crate::run_tests::{ACCEPT_THRICE, CUT_SHORT, CUT_SHORT_REPORT, FIRST, TWO_LEADERS};
-use crate::storm_tests::{has_cover, has_legal};
 use sc_actor::{Event, Journal, Played, Row, are_few};
 use sc_base::{Draw, Op, Sequence};
 use sc_mail::Mail;
@@ -373,8 +372,6 @@ pub enum Question<'a> {
     Left([u32; 3]),
     /// The groups, and the number of requests that took effect.
     Groups(&'a [ExpectedGroup], usize),
-    /// The ring covers, and the history is legal.
-    Sound,
 }
 
 fn is_answer(
@@ -389,7 +386,6 @@ fn is_answer(
         Question::History(numbers) => has_entries(rt, alloc, scenario, world, numbers),
         Question::Left(counts) => left_of(world.parties()) == counts,
         Question::Groups(expected, count) => has_groups(rt, alloc, world, expected, count),
-        Question::Sound => has_cover(rt, alloc, world) && has_legal(rt, alloc, world),
     }
 }
 

@@ -1,6 +1,5 @@
 use crate::gates::Open;
 use crate::replay_tests::named;
-use crate::storm_tests::is_sound;
 use sc_actor::{Gate, Parcel, Row};
 use sc_mail::Mail;
 use sc_run::{Done, run};
@@ -138,8 +137,6 @@ pub enum Wanted<'a> {
     Exactly(u8, bool, &'a [u8]),
     /// It ends settled, its report begins with this, and its journal is lawful.
     Lawful(&'a [u8]),
-    /// It ends settled, its report ends with this, and its journal is sound.
-    Sound(&'a [u8]),
     /// Its rows count these numbers of bytes.
     Counts(&'a [u64]),
 }
@@ -147,13 +144,6 @@ pub enum Wanted<'a> {
 fn has_lawful(rt: &impl Abort, alloc: Global, input: &[u8], done: &Done) -> bool {
     match &done.journal {
         Some(journal) => named(rt, alloc, input, journal) == 0,
-        None => false,
-    }
-}
-
-fn has_sound(rt: &impl Abort, alloc: Global, input: &[u8], done: &Done) -> bool {
-    match &done.journal {
-        Some(journal) => is_sound(rt, alloc, input, journal),
         None => false,
     }
 }
@@ -179,9 +169,6 @@ fn is_wanted(
         }
         Wanted::Lawful(begin) => {
             done.status == 0 && held.starts_with(begin) && has_lawful(rt, alloc, input, done)
-        }
-        Wanted::Sound(end) => {
-            done.status == 0 && held.ends_with(end) && has_sound(rt, alloc, input, done)
         }
         Wanted::Counts(bytes) => counts(done, bytes),
     }

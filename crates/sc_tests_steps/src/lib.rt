@@ -22,3 +22,5 @@ mod samples;
 mod starts;
 #[cfg(test)]
 mod transaction_tests;
+#[cfg(test)]
+mod wish_tests;

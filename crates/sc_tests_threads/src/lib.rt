@@ -1,5 +1,5 @@
 //! Tests of what threads share and work with: turns, ledgers, ports, shells, lent work, rounds, the
-//! pool, schedules, storms, the check of rows, and the orders that policies make.
+//! pool, schedules, storms, and the check of rows.
 #![tactic(auto)]
 
 #[cfg(test)]
@@ -32,5 +32,3 @@ mod storm_tests;
 mod turn_tests;
 #[cfg(test)]
 mod watches;
-#[cfg(test)]
-mod wish_tests;

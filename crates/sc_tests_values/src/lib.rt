@@ -1,9 +1,8 @@
-//! Tests of values and of the parts of step machines (`values`), of lists of entries (`entries`),
-//! and calls of the functions that carry laws (`laws`).
+//! Tests of values and of the parts of step machines (`values`), and of lists of entries and rows
+//! (`entries`).
 #![tactic(auto)]
 
 pub mod entries;
-pub mod laws;
 pub mod values;
 
 pub use values::{REFUSED, Refused};
