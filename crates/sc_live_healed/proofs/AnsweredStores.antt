@@ -14,7 +14,7 @@ use Rattle.sc_node_table.specs.NodeDefinitions.{NodeState, ReplicaState}
 use Rattle.sc_scenario.specs.declared.scenario.scenarios.Scenario.{Scenario}
 use Rattle.sc_scenario.specs.declared.scenario.scenarios.Asks.{Asks as Requests}
 use Rattle.sc_scenario.specs.declared.scenario.scenarios.SchedLine.{SchedLine}
-use Rattle.sc_scenario.specs.declared.scenario.scenarios.SchedLine.TheVariants.{Go, Deliver, Drop, Again, Tick, Crash, Told, Settle, Free, Storm}
+use Rattle.sc_scenario.specs.declared.scenario.scenarios.SchedLine.TheVariants.{Crash, Settle}
 use Rattle.sc_scenario.specs.scenario.Definitions.{IsValid, IsBounded, IsBoundedLine, IsBoundedClient}
 use Rattle.sc_scenario.proofs.ScenarioProofs.Lemmas.{valid_scenarios_are_bounded}
 use Rattle.sc_meaning.specs.sound.SoundDefinitions.{Lawful, Whole, Player, as_nodes, births, line_of, player_table, schedule, system_of}

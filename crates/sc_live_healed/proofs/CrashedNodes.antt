@@ -13,7 +13,7 @@ use Rattle.sc_actor.specs.Definitions.{System, Task, Once, IsLawful, IsWhole, is
 use Rattle.sc_actor.proofs.Lemmas.{Stands, Stands-begin}
 use Rattle.sc_words.proofs.PaxosProofs.PaxosLemmas.{find_found}
 use Rattle.sc_scenario.specs.declared.scenario.scenarios.SchedLine.{SchedLine}
-use Rattle.sc_scenario.specs.declared.scenario.scenarios.SchedLine.TheVariants.{Go, Deliver, Drop, Again, Tick, Crash, Told, Settle, Free, Storm}
+use Rattle.sc_scenario.specs.declared.scenario.scenarios.SchedLine.TheVariants.{Crash}
 use Rattle.sc_live_orderly.specs.OrderlyDefinitions.{Kick, Ticks, Starts}
 use Rattle.sc_live_orderly.proofs.PassedTasks.{flat_append, more_rows, next_row, reach}
 use Rattle.sc_live_healed.specs.HealedDefinitions.{crashes, ClientTurn, client_line, client_lines}

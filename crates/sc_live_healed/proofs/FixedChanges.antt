@@ -8,7 +8,7 @@ use Rattle.sc_node_table.specs.Values.{Ballot, Draw, Command, Noop, Call, Base, 
 use Rattle.sc_mail.specs.declared.bodies.AnswerBody.TheVariants as Says
 use Rattle.sc_group_table.specs.machine.MachineDefinitions.{applied}
 use Rattle.sc_words.specs.paxos.PaxosDefinitions.{IsAtLeast, AcceptorState, LeaderState, below, promise_counted, counted, with_flight_at, without_flight, flight_at}
-use Rattle.sc_node_table.specs.NodeDefinitions.{ended, stopped, entered, forgotten, floor_of, jumped, offered, put_back, request_before, queued_number, answered, answered_all, dismissed, dismissed_all, sent, sent_all, under_way, without_slot, hinted, name_of, next, rest_of, ReplicaState, Place, answer_of, waits_in, open_nodes, flying, slots_ahead, with_entry}
+use Rattle.sc_node_table.specs.NodeDefinitions.{ended, stopped, entered, forgotten, floor_of, jumped, offered, put_back, request_before, queued_number, answered_all, dismissed, dismissed_all, sent, sent_all, under_way, without_slot, hinted, name_of, next, rest_of, ReplicaState, Place, answer_of, waits_in, open_nodes, flying, slots_ahead, with_entry}
 use Rattle.sc_law_entries.proofs.NamesProofs.EachFound.{Each-drop, slot_without, flight_without}
 use Rattle.sc_law_walks.proofs.WalkLemmas.{either_way, elected_place, TableEntry, entry_holds, entered_place}
 use Rattle.sc_law_walks.specs.WalkDefinitions.{GoesOn}

@@ -8,7 +8,7 @@ use Rattle.sc_node_table.specs.Values.{OrderLine}
 use Rattle.sc_actor.specs.declared.schedules.Line.TheVariants.{Settle as SettleLine}
 use Rattle.sc_scenario.specs.declared.scenario.scenarios.Scenario.{Scenario}
 use Rattle.sc_scenario.specs.declared.scenario.scenarios.SchedLine.{SchedLine}
-use Rattle.sc_scenario.specs.declared.scenario.scenarios.SchedLine.TheVariants.{Go, Deliver, Drop, Again, Tick, Crash, Told, Settle, Free, Storm}
+use Rattle.sc_scenario.specs.declared.scenario.scenarios.SchedLine.TheVariants.{Tick, Crash, Told, Settle}
 use Rattle.sc_meaning.specs.sound.SoundDefinitions.{line_of, schedule}
 use Rattle.sc_live_orderly.specs.OrderlyDefinitions.{Kick, Ticks, Starts, Turn, kick_line, turn_lines}
 use Rattle.sc_live_orderly.proofs.PassedTasks.{flat_append}

@@ -8,7 +8,7 @@ use Rattle.sc_group_table.specs.machine.MachineDefinitions.{base_of}
 use Rattle.sc_words.specs.declared.paxos.answers.PrepareAnswer.TheVariants as Prepared
 use Rattle.sc_mail.specs.declared.bodies.AnswerBody.TheVariants as Says
 use Rattle.sc_words.specs.paxos.PaxosDefinitions.{AcceptorState, below, may_promise, prepared, after_promise, reports_from, promise_counted}
-use Rattle.sc_node_table.specs.NodeDefinitions.{ended, stopped, saw, install_to, install_row, took_over, sent, promise_to, promised, prepare_row, promise_row, nack_row, pumped, leads, hinted, last_slot, name_of, next, under_way, answered, answered_all, dismissed, dismissed_all, order_reported, result_sent, group_of_mail, queued, requested, request_row, refused_at, queued_number, without_request, ReplicaState, Place}
+use Rattle.sc_node_table.specs.NodeDefinitions.{ended, stopped, saw, install_to, install_row, took_over, sent, promise_to, promised, prepare_row, promise_row, nack_row, pumped, leads, hinted, last_slot, name_of, next, under_way, answered_all, dismissed_all, order_reported, result_sent, group_of_mail, queued, requested, request_row, refused_at, queued_number, without_request, ReplicaState, Place}
 use Rattle.sc_group_table.specs.policy.PolicyDefinitions.{is_reported}
 use Rattle.sc_law_walks.proofs.WalkLemmas.{either_way}
 use Rattle.sc_law_walks.proofs.EndedRequests.{all_end, all_queued_end}

@@ -3,7 +3,7 @@ use Rattle.std.proofs.Common.{◌≡◌, ℕ, ◌+◌, ◌<◌, ◌≤◌, ◌&&
 use Rattle.std.specs.Option.{option_map}
 use Rattle.std.proofs.lemmas.Bool.{cond_both, cond-true, cond-false, ltb-true, ltb-false, eqb-true, eq-eqb, and_parts, and_from}
 use Rattle.sc_base.specs.Definitions.{Among, Each, client_actor}
-use Rattle.sc_node_table.specs.Values.{Draw, Op, Command, Noop, Call, Join, Leave, Split, Begin, Prepared, RecordVote, GiveUp, Finish, Watched, RecordWatch, AnswerBody, Mail, Answer, Flight}
+use Rattle.sc_node_table.specs.Values.{Draw, Op, Command, Noop, Call, Join, Leave, Split, Begin, AnswerBody, Mail, Answer, Flight}
 use Rattle.sc_words.specs.paxos.PaxosDefinitions.{flight_at}
 use Rattle.sc_words.proofs.PaxosProofs.PaxosLemmas.{Each-among}
 use Rattle.sc_node_table.specs.NodeDefinitions.{ReplicaState, next, taken_at, taken_from, open_slots, under_way, at_slot, either, listed, answered, answered_all, dismissed, dismissed_all, queued_number, without_request, is_request_of, put_back, request_before}

@@ -1,7 +1,7 @@
 -- What holds of each command that a replica has queued, in flight, ready or reported is kept by the parts of its state.
 use Rattle.std.proofs.Common.{◌≡◌, ℕ, ◌&&◌, not, nat_lt, eqb, Bool, List, [], ◌∷◌, ◌++◌, Option, Some, None, subst}
 use Rattle.sc_base.specs.Definitions.{Each, same_ballot, is_member, is_majority}
-use Rattle.sc_node_table.specs.Values.{Ballot, Command, Noop, Call, Join, Leave, Split, Begin, Prepared, RecordVote, GiveUp, Finish, Watched, RecordWatch, Counted, Chosen, NotYet, Flight, Report, Must, Gap}
+use Rattle.sc_node_table.specs.Values.{Ballot, Command, Noop, Call, Join, Leave, Split, Begin, Counted, Chosen, NotYet, Flight, Report, Must, Gap}
 use Rattle.sc_words.specs.declared.paxos.answers.Must.TheVariants.{Value, Free as Open}
 use Rattle.sc_words.proofs.PaxosProofs.PaxosLemmas.{Each-append}
 use Rattle.sc_words.specs.paxos.PaxosDefinitions.{LeaderState, flight_at, promise_counted, kept_voters, voters_after, tallied, vote_at, counted, choice, chosen_value, names_above, must, must_without}

@@ -1,7 +1,7 @@
 -- What is sent names nothing new: answers, results for the desk, and what the parties of a transaction say to each other.
-use Rattle.std.proofs.Common.{ℕ, nat_le, nat_lt, eqb, Bool, cond, List, [], ◌∷◌, length, Option, Some, None}
+use Rattle.std.proofs.Common.{ℕ, nat_le, nat_lt, Bool, List, [], ◌∷◌, length, Option, Some, None}
 use Rattle.sc_base.specs.Definitions.{Each, least_of, united}
-use Rattle.sc_node_table.specs.Values.{Draw, Body, Offer, Watch, Command, Call, Join, Leave, Split, Begin, Prepared, RecordVote, GiveUp, Watched, RecordWatch, Core, Lock, Free, Coordinating, Promised, Watching, Effect, Link, OrderResult, Heard, Outcome, Past, Vote, AnswerBody, Mail, MailBody, Answer, TxPrepare, TxVote, TxOutcome, TxWatched, Told}
+use Rattle.sc_node_table.specs.Values.{Draw, Body, Offer, Watch, Command, Split, Begin, Prepared, RecordVote, GiveUp, Watched, RecordWatch, Core, Lock, Free, Coordinating, Promised, Watching, Effect, Link, OrderResult, Heard, Outcome, Past, Vote, AnswerBody, Mail, MailBody, Answer, TxPrepare, TxVote, TxOutcome, TxWatched, Told}
 use Rattle.sc_words.specs.declared.commands.bodies.Body.TheVariants as At
 use Rattle.sc_words.specs.declared.commands.effects.Effect.TheVariants as Was
 use Rattle.sc_words.specs.declared.commands.orders.OrderRefusal.TheVariants as Why
@@ -13,7 +13,7 @@ use Rattle.sc_words.specs.commands.CommandDefinitions.{refused_result, result_of
 use Rattle.sc_group_table.specs.machine.MachineDefinitions.{Group, can_split, frozen_of, merged_link, right_link}
 use Rattle.sc_words.proofs.PaxosProofs.PaxosLemmas.{Each-append}
 use Rattle.sc_node_table.specs.declared.Before.{Before}
-use Rattle.sc_node_table.specs.NodeDefinitions.{sent, sent_all, sent_others, answered, answered_all, order_reported, dismissed, dismissed_all, offer_of, heard_question, question, asked_first, voted_to, watched_to, outcome_sent, heard_from, before_in, before_of, outcome_result, decided_result, begun_result, spoken_number, result_reported, begun_reported, asked_on, begun_asks, vote_sent, watch_sent, aborted_to, aborted_watcher, given_up_by, vote_answered, released_to, watch_answered_by, went_on, spoken_mails}
+use Rattle.sc_node_table.specs.NodeDefinitions.{sent, sent_all, answered, answered_all, order_reported, dismissed_all, offer_of, heard_question, question, asked_first, voted_to, watched_to, outcome_sent, heard_from, before_in, before_of, outcome_result, decided_result, begun_result, spoken_number, result_reported, begun_reported, asked_on, begun_asks, vote_sent, watch_sent, aborted_to, aborted_watcher, given_up_by, vote_answered, released_to, watch_answered_by, went_on, spoken_mails}
 use Rattle.sc_law_entries.specs.names.NameDefinitions.{Opt, BodyNames, OfferNames, WatchNames, PastNames, OutcomeNames, HeardNames, LockNames, CoreNames, CommandNames, EffectNames, ResultNames, AnswerNames, BodiesNames, MailNames}
 use Rattle.sc_law_walks.proofs.WalkLemmas.{either_way}
 use Rattle.sc_law_walks.proofs.EndedRequests.{any_ends, all_end, all_queued_end}

@@ -2,14 +2,14 @@
 use Rattle.std.proofs.Common.{◌≡◌, ℕ, ◌&&◌, ◌||◌, not, nat_le, nat_lt, true, false, cond, eqb, List, [], ◌∷◌, ◌++◌, Option, Some, inl, inr, refl, sym, ◌∙◌, ap, subst, append-nil, arith}
 use Rattle.std.specs.List.{flat_map, list_any}
 use Rattle.std.proofs.lemmas.Bool.{eq-eqb, leb-false, and_parts, and_from, cond-true, cond_both}
-use Rattle.sc_node_table.specs.Values.{Ballot, Draw, Command, Call, Base, AnswerBody, Mail, MailBody, Request, Answer, Promise, Accepted as AcceptedMail, Nack, Ask, Install, Told, TxElsewhere, OrderResult, Refused, Report, PrepareAnswer, AcceptAnswer}
+use Rattle.sc_node_table.specs.Values.{Ballot, Draw, Command, Base, AnswerBody, Mail, MailBody, Request, Answer, Promise, Accepted as AcceptedMail, Nack, Ask, Install, Told, TxElsewhere, OrderResult, Refused, Report, PrepareAnswer, AcceptAnswer}
 use Rattle.sc_base.specs.Definitions.{same_draw, same_ballot, Among, Each}
 use Rattle.sc_words.specs.declared.commands.orders.OrderRefusal.TheVariants.{NotLeader}
 use Rattle.sc_words.specs.paxos.PaxosDefinitions.{AcceptorState, may_promise, may_accept, after_promise, after_accept, reports_from, below}
 use Rattle.sc_words.proofs.PaxosProofs.PaxosLemmas.{Each-weaker, Each-append}
 use Rattle.sc_paxos_law.specs.PaxosLawDefinitions.{Step, Prepared, Promised, Offered, Accepted, state_of, IsLawfulStep, IsLawfulHistory}
 use Rattle.sc_paxos_law.proofs.Lemmas.{Among-right, Among-either}
-use Rattle.sc_node_table.specs.NodeDefinitions.{answer_to, sent, answered, answered_all, order_number, order_reported, dismissed, dismissed_all, install_to, ended, saw, ReplicaState, Place, name_of, hinted, promise_to, promised, prepare_row, accepted_to, took, accept_row}
+use Rattle.sc_node_table.specs.NodeDefinitions.{answer_to, sent, order_reported, install_to, ended, saw, ReplicaState, Place, name_of, hinted, promise_to, promised, prepare_row, accepted_to, took, accept_row}
 use Rattle.sc_meaning.specs.sound.SoundDefinitions.{is_accepted, Ahead}
 use Rattle.sc_law_walks.proofs.EndedRequests.{all_end, all_queued_end}
 use Rattle.sc_law_groups.specs.group.GroupDefinitions.{asked_in, promised_by}

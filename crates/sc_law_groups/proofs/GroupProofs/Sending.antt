@@ -2,7 +2,7 @@
 use Rattle.std.proofs.Common.{◌≡◌, ℕ, ◌+◌, ◌≤◌, ◌-◌, true, cond, nat_lt, List, [], ◌∷◌, ◌++◌, length, Option, Some, inl, refl, ◌∙◌, ap, subst, arith}
 use Rattle.std.proofs.lemmas.Bool.{cond-true, cond_both}
 use Rattle.sc_base.specs.Definitions.{client_actor, same_draw, Among}
-use Rattle.sc_node_table.specs.Values.{Ballot, Draw, Command, Call, Base, OrderResult, Refused, AnswerBody, Mail, MailBody, Answer, Prepare, Accept, Learn, Install, Told}
+use Rattle.sc_node_table.specs.Values.{Ballot, Draw, Command, Base, OrderResult, Refused, AnswerBody, Mail, MailBody, Answer, Prepare, Accept, Learn, Install, Told}
 use Rattle.sc_words.specs.declared.commands.orders.OrderRefusal.TheVariants.{NotLeader}
 use Rattle.sc_mail.specs.declared.bodies.AnswerBody.TheVariants as Says
 use Rattle.sc_group_table.specs.machine.MachineDefinitions.{Group, base_of}
@@ -12,7 +12,7 @@ use Rattle.sc_law_walks.proofs.PlaceWalks.{elected_replica as elected, ended_rep
 use Rattle.sc_law_walks.proofs.Talks.{all_sent}
 use Rattle.sc_law_walks.proofs.EndedRequests.{any_ends, all_end, all_queued_end}
 use Rattle.sc_paxos_law.specs.PaxosLawDefinitions.{Step, Prepared, Offered}
-use Rattle.sc_node_table.specs.NodeDefinitions.{ended, stopped, open_nodes, sent, answered, answered_all, order_number, order_reported, dismissed, dismissed_all, ReplicaState, Place, name_of, next, under_way}
+use Rattle.sc_node_table.specs.NodeDefinitions.{ended, stopped, open_nodes, sent, answered, answered_all, order_reported, ReplicaState, Place, name_of, next, under_way}
 use Rattle.sc_meaning.specs.sound.SoundDefinitions.{Ahead}
 use Rattle.sc_group_table.proofs.MachineProofs.Lemmas.{group_again}
 use Rattle.sc_law_entries.proofs.HistoryProofs.HistoryLemmas.{state_same}

@@ -1,13 +1,12 @@
 -- Each child that a node makes by a mail is a group of the journal, as it began.
 use Rattle.std.proofs.Common.{◌≡◌, ℕ, ◌≤◌, eqb, true, List, [], ◌∷◌, ◌++◌, length, map, drop, Option, Some, None, inl, inr, refl, sym, ◌∙◌, ap, subst, arith}
-use Rattle.sc_base.specs.Definitions.{Among, Each, same_draw, is_member}
-use Rattle.sc_node_table.specs.Values.{Draw, Command, Base, Route, Mail, MailBody, Accepted as AcceptedMail, Learn, Node, Seat}
-use Rattle.sc_base.proofs.Lemmas.{same_name, draw_is}
+use Rattle.sc_base.specs.Definitions.{Among, same_draw, is_member}
+use Rattle.sc_node_table.specs.Values.{Draw, Command, Base, Route, Mail, MailBody, Node, Seat}
+use Rattle.sc_base.proofs.Lemmas.{draw_is}
 use Rattle.sc_actor.specs.Definitions.{mails, numbered, value}
 use Rattle.sc_group_table.specs.machine.MachineDefinitions.{group_of, state_after}
 use Rattle.sc_meaning.proofs.EntriesProofs.EntryLemmas.{births_are_children}
 use Rattle.sc_words.proofs.PaxosProofs.PaxosLemmas.{Each-among, Each-weaker, find_found}
-use Rattle.sc_paxos_law.specs.PaxosLawDefinitions.{IsLawfulHistory}
 use Rattle.sc_paxos_law.proofs.Lemmas.{Among-either, from_map}
 use Rattle.sc_scenario.specs.declared.scenario.scenarios.Scenario.{Scenario}
 use Rattle.sc_node_table.specs.NodeDefinitions.{NodeState, replica_of, group_of_mail, ReplicaState, name_of, mailed, numbers_from}

@@ -1,7 +1,7 @@
 -- What is sent while an order is under way, whatever it is put behind.
-use Rattle.std.proofs.Common.{◌≡◌, ◌⊎◌, ℕ, eqb, Bool, cond, List, [], ◌∷◌, Option, Some, None, inl, inr, refl, sym, subst}
+use Rattle.std.proofs.Common.{◌≡◌, ◌⊎◌, ℕ, Bool, List, [], ◌∷◌, Option, Some, None, inl, inr, refl, sym, subst}
 use Rattle.sc_base.specs.Definitions.{Each, same_draw, least_of}
-use Rattle.sc_node_table.specs.Values.{Draw, Body, Offer, Watch, Command, Call, Split, Begin, Prepared, RecordVote, GiveUp, Watched, RecordWatch, Core, Lock, Free, Coordinating, Promised, Watching, Effect, Link, OrderResult, Heard, Outcome, Past, Vote, AnswerBody, Mail, MailBody, TxPrepare, TxVote, TxOutcome, TxWatched, Told}
+use Rattle.sc_node_table.specs.Values.{Draw, Body, Offer, Watch, Command, Split, Begin, Prepared, RecordVote, GiveUp, Watched, RecordWatch, Core, Lock, Free, Coordinating, Promised, Watching, Effect, Link, OrderResult, Heard, Outcome, Past, Vote, AnswerBody, Mail, MailBody, TxPrepare, TxVote, TxOutcome, TxWatched, Told}
 use Rattle.sc_words.specs.declared.commands.bodies.Body.TheVariants as At
 use Rattle.sc_words.specs.declared.commands.votes.Outcome.TheVariants as Is
 use Rattle.sc_words.specs.declared.commands.votes.Past.TheVariants as Cast
@@ -11,7 +11,7 @@ use Rattle.sc_group_table.specs.machine.MachineDefinitions.{Group, frozen_of}
 use Rattle.sc_words.proofs.PaxosProofs.PaxosLemmas.{Each-append}
 use Rattle.sc_group_table.specs.policy.PolicyDefinitions.{is_reported}
 use Rattle.sc_node_table.specs.declared.Before.{Before}
-use Rattle.sc_node_table.specs.NodeDefinitions.{sent, sent_all, sent_others, answered, answered_all, result_sent, order_reported, dismissed_all, offer_of, heard_question, question, asked_first, asked_link, voted_to, watched_to, outcome_sent, next_asked, asked_next, begun_result, spoken_number, result_reported, begun_reported, asked_on, begun_asks, vote_sent, watch_sent, aborted_to, aborted_watcher, given_up_by, vote_answered, released_to, watch_answered_by, went_on, spoken_mails}
+use Rattle.sc_node_table.specs.NodeDefinitions.{sent, sent_all, sent_others, answered_all, result_sent, order_reported, dismissed_all, offer_of, heard_question, question, asked_first, asked_link, voted_to, watched_to, outcome_sent, next_asked, asked_next, begun_result, spoken_number, result_reported, begun_reported, asked_on, begun_asks, vote_sent, watch_sent, aborted_to, aborted_watcher, given_up_by, vote_answered, released_to, watch_answered_by, went_on, spoken_mails}
 use Rattle.sc_law_walks.proofs.WalkLemmas.{either_way}
 use Rattle.sc_law_walks.proofs.EndedRequests.{requests_end}
 use Rattle.sc_law_walks.proofs.Talks.{all_sent as sent_each, others_sent as sent_rest}
