@@ -93,8 +93,7 @@ pub(crate) fn three_next<A: FromJson + Drop, B: FromJson + Drop, C: FromJson + D
         (member second.now (B.json_of p.1)
         (member third.now (C.json_of p.2) (members_view members.new)))) }
 {
-    let a = next_of(alloc, members, first)?;
-    let b = next_of(alloc, members, second)?;
+    let (a, b) = two_next(alloc, members, first, second)?;
     let c = next_of(alloc, members, third)?;
     Ok((a, b, c))
 }
