@@ -1,3 +1,5 @@
+mod MadeSteps
+mod MadeTexts
 mod Plays
 mod Readings
 mod ReportedOrders

@@ -12,6 +12,7 @@ ghost use Rattle.sc_run.specs.Refusals.{IsErrorText};
 use crate::auditing::audit;
 use crate::done::Text;
 use crate::explaining::explain_stored;
+use crate::making::made_scenario;
 use crate::reporting::{report, store};
 use crate::showing::show;
 use crate::texts::line_text;
@@ -21,7 +22,6 @@ use sc_cli::{
     InputError, Said, Sight, Subcommand, error_text, file_in, scenario_in, subcommand_by, text_in,
 };
 use sc_live_plain::made_scenarios_are_at_budget;
-use sc_scenario_make::made_scenario;
 use sc_texts::Source;
 use sc_thread_workers::Way;
 use std::alloc::Global;
