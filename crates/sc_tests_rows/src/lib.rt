@@ -9,6 +9,8 @@ mod file_tests;
 #[cfg(test)]
 mod hand_tests;
 #[cfg(test)]
+mod known_tests;
+#[cfg(test)]
 mod ring_tests;
 #[cfg(test)]
 mod row_tests;

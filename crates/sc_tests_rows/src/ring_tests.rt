@@ -39,7 +39,8 @@ fn four(rt: &impl Abort) -> Members {
     members
 }
 
-fn parent(rt: &impl Abort, alloc: Global) -> Base {
+/// Returns the birth record of the parent.
+pub fn parent(rt: &impl Abort, alloc: Global) -> Base {
     let members = four(rt);
     Base {
         core: Core {
