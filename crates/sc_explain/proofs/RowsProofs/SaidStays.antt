@@ -1,5 +1,5 @@
 -- What is said of a group of the ring stays with an entry of another group, unless another group may have decided something of it.
-use Rattle.std.proofs.Common.{◌≡◌, ◌⊎◌, ℕ, ◌+◌, ◌<◌, false, true, List, [], ◌∷◌, ◌++◌, length, get_or, map, take, Option, Some, None, inl, inr, refl, sym, ◌∙◌, ap, subst}
+use Rattle.std.proofs.Common.{◌≡◌, ◌⊎◌, ℕ, ◌+◌, ◌<◌, Bool, false, true, cond, List, [], ◌∷◌, ◌++◌, length, get_or, map, take, Option, Some, None, inl, inr, refl, sym, ◌∙◌, ap, subst}
 use Rattle.std.specs.List.{flat_map, list_any}
 use Rattle.std.specs.Option.{option_map, option_or, option_to_list}
 use Rattle.std.proofs.lemmas.Bool.{cases_Bool, cond-true, cond-false, both_ways, or_parts}
@@ -23,7 +23,7 @@ use Rattle.sc_world_entries.proofs.DecidedProofs.Pools.{each_at}
 use Rattle.sc_explain.specs.facts.Facts.{ring_group_of}
 use Rattle.sc_explain.specs.declared.facts.facts.RingGroup.{RingGroup}
 use Rattle.sc_explain.specs.rows.Explained.{ring_group_in, ring_groups_in}
-use Rattle.sc_explain.specs.rows.Said.{AreByLog, IsByLog}
+use Rattle.sc_explain.specs.rows.Said.{AreByLog, IsByLog, is_bound, bound_names}
 
 -- ---- what was said
 
@@ -119,3 +119,15 @@ pub groups_more : (world : StoreWorld) (ring : List Cut) (i : ℕ) (cut : Cut) �
 groups_more world ring i cut within is =
     flat_map_more (ring_group_in world) [] (take i ring) cut
     ∙ ap (flat_map (ring_group_in world)) (ap (λ (c : Cut). take i ring ++ c ∷ []) is ∙ sym (take_more ring i cut within))
+
+-- one more group adds its name where another group may have decided something of it
+pub names_more : (groups : List Group) (last : Group) → bound_names (groups ++ last ∷ []) ≡ cond (is_bound last.core.lock) (bound_names groups ++ last.core.id ∷ []) (bound_names groups)
+names_more [] last = refl
+names_more (group ∷ groups) last = by (is_bound group.core.lock) (is_bound last.core.lock) (names_more groups last)
+  where
+    by : (a b : Bool) → bound_names (groups ++ last ∷ []) ≡ cond b (bound_names groups ++ last.core.id ∷ []) (bound_names groups)
+        → cond a (group.core.id ∷ bound_names (groups ++ last ∷ [])) (bound_names (groups ++ last ∷ [])) ≡ cond b (cond a (group.core.id ∷ bound_names groups) (bound_names groups) ++ last.core.id ∷ []) (cond a (group.core.id ∷ bound_names groups) (bound_names groups))
+    by true true e = ap (λ ns. group.core.id ∷ ns) e
+    by true false e = ap (λ ns. group.core.id ∷ ns) e
+    by false true e = e
+    by false false e = e

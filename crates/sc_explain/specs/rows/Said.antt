@@ -1,9 +1,10 @@
 -- What was said last of a world, and what becomes of a world by the entries of a row.
-use Rattle.std.specs.Prelude.{◌≡◌, ℕ, false, List, [], ◌∷◌, ◌++◌, length, Some}
+use Rattle.std.specs.Prelude.{◌≡◌, ℕ, Bool, true, false, cond, List, [], ◌∷◌, ◌++◌, length, Some}
 use Rattle.std.specs.List.{list_any}
 use Rattle.sc_base.specs.Definitions.{same_draw}
 use Rattle.sc_base.specs.declared.names.Draw.{Draw}
 use Rattle.sc_words.specs.declared.commands.cores.Lock.{Lock}
+use Rattle.sc_words.specs.declared.commands.cores.Lock.TheVariants.{Free, Coordinating, Promised, Watching}
 use Rattle.sc_group_table.specs.machine.MachineDefinitions.{Group}
 use Rattle.sc_world_entries.specs.declared.decided.deciding.DecidingRow.{DecidingRow}
 use Rattle.sc_explain.specs.declared.facts.facts.RingGroup.{RingGroup}
@@ -34,6 +35,18 @@ IsByLog lock = (transactions : List Transaction) (group : Group) → effective_b
 -- each group that is found by its name is so, but those with one of these names
 abbrev pub AreByLog : List Group → List Draw → Type 0
 AreByLog groups bound = (name : Draw) (group : Group) → named_group name groups ≡ Some group → list_any (same_draw name) bound ≡ false → IsByLog group.core.lock
+
+-- another group may have decided something of a group with this lock: it has promised, or watches
+abbrev pub is_bound : Lock → Bool
+is_bound Free = false
+is_bound (Coordinating tx body order heard) = false
+is_bound (Promised tx offer) = true
+is_bound (Watching tx watch) = true
+
+-- the names of the groups of which another group may have decided something
+abbrev pub bound_names : List Group → List Draw
+bound_names [] = []
+bound_names (group ∷ groups) = cond (is_bound group.core.lock) (group.core.id ∷ bound_names groups) (bound_names groups)
 
 -- each cut of the ring is an arc after each prefix of the entries
 abbrev pub HaveArcsThroughout : StoreWorld → List LogEntry → Type 0

@@ -1,6 +1,6 @@
 //! What is said of the groups of the ring, brought up to one entry more: what was said before is
 //! kept, of each group that the entry leaves as it was.
-ghost use Rattle.std.specs.Prelude.{◌≡◌, ◌++◌, ◌∷◌, [], false, true, List, Some, IfOk, IfSome, OnOk};
+ghost use Rattle.std.specs.Prelude.{◌≡◌, ◌++◌, ◌∷◌, [], false, true, cond, List, Some, IfOk, IfSome, OnOk};
 ghost use Rattle.std.specs.List.{list_any};
 ghost use Rattle.std.specs.Option.{option_map, option_to_list};
 ghost use Rattle.sc_base.specs.Definitions.{same_draw};
@@ -10,7 +10,7 @@ ghost use Rattle.sc_meaning.specs.entries.EntryDefinitions.{StoreWorld, effectiv
 ghost use Rattle.sc_world_groups.specs.Effects.{effect_in};
 ghost use Rattle.sc_explain.specs.facts.Facts.{ring_group_of};
 ghost use Rattle.sc_explain.specs.rows.Explained.{ring_groups_in};
-ghost use Rattle.sc_explain.specs.rows.Said.{AreByLog};
+ghost use Rattle.sc_explain.specs.rows.Said.{AreByLog, bound_names, is_bound};
 
 use crate::facts::RingGroup;
 use crate::rows::counts::recount;
@@ -25,8 +25,11 @@ use std::alloc::Global;
 
 // Adds the name of a group, if another group may have decided something of it.
 fn add_bound(bound: &mut Vec<Draw>, group: &Machine) -> Result<(), OutOfMemory>
-    ensures { OnOk result ((groups : List Group) → AreByLog groups bound.old.items →
+    ensures kept { OnOk result ((groups : List Group) → AreByLog groups bound.old.items →
         AreByLog (groups ++ group.now ∷ []) bound.new.items) }
+    ensures exact { OnOk result
+        (bound.new.items ≡ cond (is_bound group.now.core.lock)
+        (bound.old.items ++ group.now.core.id ∷ []) bound.old.items) }
 {
     let core = group.core();
     if is_by_log(&core.lock) {
@@ -38,7 +41,8 @@ fn add_bound(bound: &mut Vec<Draw>, group: &Machine) -> Result<(), OutOfMemory>
 
 // Returns the names of the groups of which another group may have decided something.
 fn bound_in(alloc: Global, world: &StoreWorld) -> Result<Vec<Draw>, OutOfMemory>
-    ensures { IfOk result (λ bound. AreByLog world.now.groups bound.items) }
+    ensures kept { IfOk result (λ bound. AreByLog world.now.groups bound.items) }
+    ensures exact { IfOk result (λ bound. bound.items ≡ bound_names world.now.groups) }
 {
     let mut bound = Vec::new(alloc);
     let groups = world.groups();
@@ -57,8 +61,10 @@ fn has_name(names: &[Draw], name: Draw) -> bool
 // Returns whether a group is neither the one that an entry changed nor one of which another group
 // may have decided something.
 fn stays(name: Draw, changed: Draw, bound: &[Draw]) -> bool
-    ensures { result ≡ true →
+    ensures kept { result ≡ true →
         (same_draw name changed ≡ false) × (list_any (same_draw name) bound.now ≡ false) }
+    ensures all { same_draw name changed ≡ false → list_any (same_draw name) bound.now ≡ false →
+        result ≡ true }
 {
     if same_draw(name, changed) {
         return false;

@@ -1,12 +1,12 @@
 //! What is said of the groups of a world, all of them by their own logs, and those of the ring by
 //! their effective records.
-ghost use Rattle.std.specs.Prelude.{◌≡◌, ◌++◌, true, IfOk, OnOk};
+ghost use Rattle.std.specs.Prelude.{◌≡◌, ◌++◌, true, not, IfOk, OnOk};
 ghost use Rattle.std.specs.Option.{option_map, option_to_list};
 ghost use Rattle.sc_explain.specs.facts.Facts.{ring_group_of};
 ghost use Rattle.sc_meaning.specs.entries.Effective.{effective};
 ghost use Rattle.sc_group_table.specs.machine.Group.{Group, base_of};
 ghost use Rattle.sc_explain.specs.rows.Explained.{records_in, ring_groups_in};
-ghost use Rattle.sc_explain.specs.rows.Said.{IsByLog};
+ghost use Rattle.sc_explain.specs.rows.Said.{IsByLog, is_bound};
 
 use crate::facts::{GroupRecord, RingGroup, record_of};
 use sc_base::{Draw, OutOfMemory};
@@ -57,7 +57,8 @@ fn said_by_log(name: Draw, group: &Machine) -> Result<RingGroup, OutOfMemory>
 
 /// Returns whether the effective record of a group with this lock is what its own log makes of it.
 pub(crate) fn is_by_log(lock: &Lock) -> bool
-    ensures { result ≡ true → IsByLog lock.now }
+    ensures kept { result ≡ true → IsByLog lock.now }
+    ensures exact { result ≡ not (is_bound lock.now) }
 {
     match lock {
         Lock::Free | Lock::Coordinating { .. } => true,
