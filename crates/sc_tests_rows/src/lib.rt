@@ -1,7 +1,7 @@
-//! Tests of rows, and of lists of entries: which texts are rows and files, which rows of ticks, and of
-//! nodes and clients that are stepped by hand, are lawful; what entries make of all groups, and how
-//! arcs, pairs and pages of a scan are cut. They are in a crate of their own, since a crate with
-//! tests is proved twice.
+//! Tests of rows, and of lists of entries: which texts are rows and files, which rows of ticks, and
+//! of nodes and clients that are stepped by hand, are lawful; what entries make of all groups, what
+//! is known of a group of which no row says anything, and how arcs, pairs and pages of a scan are
+//! cut. They are in a crate of their own, since a crate with tests is proved twice.
 #![tactic(auto)]
 
 #[cfg(test)]

@@ -1,5 +1,5 @@
-//! Tests of values and of the parts of step machines, by public calls alone: values, commands, mail,
-//! scenarios, reports; members, sources and sinks, histories, actors, stores, client tables,
+//! Tests of values and of the parts of step machines, by public calls alone: values, commands,
+//! mail, scenarios, reports; members, sources and sinks, histories, actors, stores, client tables,
 //! acceptors, leaders, logs, the types of Paxos, routes, clients, the refusals of orders and the
 //! plans of splits. They are in a crate of their own, since a crate with tests is proved twice.
 #![tactic(auto)]
