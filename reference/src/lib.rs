@@ -22,6 +22,7 @@ pub mod report;
 pub mod scenario;
 pub mod settled;
 pub mod sound;
+pub mod streams;
 pub mod text;
 pub mod values;
 pub mod weights;

@@ -1,6 +1,7 @@
 //! The program: reads its subcommand, and prints what the library answers.
 
 use reference::program::{self, Done};
+use reference::streams::{self, ClientStream, NodeStream};
 use reference::text::MOST_STORED;
 use reference::values::{read_number, Dials};
 use reference::{batch, budget, calm, orders, plain, random, recover, settled};
@@ -10,7 +11,7 @@ use std::io::{Read, Write};
 fn stdin(most: u64) -> Vec<u8> {
     let mut input = Vec::new();
     if std::io::stdin().take(most).read_to_end(&mut input).is_err() {
-        println!("read fault");
+        println!("{}", program::READ_FAULT);
         std::process::exit(4);
     }
     input
@@ -25,6 +26,17 @@ fn read_and_answer(word: &str, most: u64, dials: &Dials) -> Done {
 fn serve(dials: &Dials) -> Done {
     let served = batch::serve(std::io::stdin().lock(), std::io::stdout().lock(), dials);
     Done { status: if served.is_ok() { 0 } else { 5 }, output: Vec::new() }
+}
+
+/// Runs an actor of this number over standard input.
+fn streamed<A: streams::Answers>(number: &str, most: u64) -> Done {
+    match read_number(number.as_bytes(), most) {
+        Some(n) if n >= 1 => {
+            let status = streams::run::<A>(n as u16, std::io::stdin(), std::io::stdout());
+            Done { status, output: Vec::new() }
+        }
+        _ => Done::usage(),
+    }
 }
 
 /// Reads four numbers, each at least 1.
@@ -64,6 +76,8 @@ fn answer(words: &[&str], dials: &Dials) -> Done {
         ["make", n, s] => program::make(n, s, dials),
         [word @ ("run" | "journal" | "sound")] => read_and_answer(word, program::SCENARIO_BYTES, dials),
         [word @ ("audit" | "explain")] => read_and_answer(word, MOST_STORED as u64 + 1, dials),
+        ["node", n] => streamed::<NodeStream>(n, 32),
+        ["client", c] => streamed::<ClientStream>(c, 64),
         ["batch"] => serve(dials),
         ["gen", seed] => match read_number(seed.as_bytes(), u64::MAX) {
             Some(seed) => Done { status: 0, output: random::generate(seed, dials).into_bytes() },

@@ -8,8 +8,10 @@ use crate::{audit, explain, report, sound, text};
 /// The line that is printed where the subcommand is none.
 pub const USAGE: &str =
     "usage: reference [--dials UNIT PATIENCE CROWD HEAP] run | journal | make N S | audit \
-    | explain | sound | batch | gen SEED | fuzz SEED COUNT | budget SEED COUNT | plain SEED COUNT | calm SEED COUNT \
+    | explain | sound | node N | client C | batch | gen SEED | fuzz SEED COUNT | budget SEED COUNT | plain SEED COUNT | calm SEED COUNT \
     | recover SEED COUNT | settled SEED COUNT | orders SEED COUNT";
+/// The line that is printed where reading failed.
+pub const READ_FAULT: &str = "read fault";
 /// The most bytes of a scenario that are read: one more than it may have.
 pub const SCENARIO_BYTES: u64 = 16_777_217;
 

@@ -9,7 +9,7 @@ mod words;
 
 pub use faults::*;
 pub use made::made_scenario;
-pub use parser::read_scenario;
+pub use parser::{read_scenario, MOST_BYTES};
 pub use text::*;
 
 use crate::values::*;

@@ -5,8 +5,9 @@ use super::words::*;
 use super::*;
 use std::collections::BTreeSet;
 
-/// The most bytes of an input; the most lines.
-const MOST_BYTES: usize = 16_777_216;
+/// The most bytes of an input.
+pub const MOST_BYTES: usize = 16_777_216;
+/// The most lines of an input.
 const MOST_LINES: usize = 20_000;
 
 /// A line of the text: its bytes without line feed and without the ignored carriage return, and whether it holds

@@ -151,7 +151,8 @@ impl Coded for RingArc {
         (self.lo, self.len).to_json()
     }
     fn from_json(j: &Json) -> Option<Self> {
-        <(u32, u64)>::from_json(j).map(|(lo, len)| RingArc { lo, len })
+        let (lo, len) = <(u32, u64)>::from_json(j)?;
+        (1..=SPACE).contains(&len).then_some(RingArc { lo, len })
     }
 }
 
@@ -182,7 +183,8 @@ impl Coded for Members {
         Json::List(self.iter().map(|n| n.to_json()).collect())
     }
     fn from_json(j: &Json) -> Option<Self> {
-        items(j)?.iter().map(u16::from_json).collect()
+        let members: Members = items(j)?.iter().map(u16::from_json).collect::<Option<_>>()?;
+        (1..=MOST_MEMBERS).contains(&members.len()).then_some(members)
     }
 }
 

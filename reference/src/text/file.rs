@@ -1,6 +1,6 @@
 //! The file that stores a journal: the scenario, the line `journal`, and a line for each row.
 
-use super::{parse::parse, Coded};
+use super::{parse, Coded};
 use crate::mail::Row;
 use crate::scenario::{read_scenario, Bad, Scenario};
 
@@ -66,14 +66,14 @@ pub fn read_file(text: &[u8]) -> Result<Stored, Unstored> {
     let mut rows = Vec::new();
     for line in lines {
         count += 1;
-        let row = line.split_last().filter(|(end, _)| **end == b'\n').and_then(|(_, row)| read_row(row));
+        let row = line.split_last().filter(|(end, _)| **end == b'\n').and_then(|(_, row)| read::<Row>(row));
         rows.push(row.ok_or(Unstored { line: count, why: "bad row" })?);
     }
     Ok(Stored { scenario, rows })
 }
 
-/// Reads a row. A row has one text, so any other spelling is refused.
-fn read_row(text: &[u8]) -> Option<Row> {
-    let row = Row::from_json(&parse(text)?)?;
-    (row_text(&row).as_bytes() == text).then_some(row)
+/// Reads a value. It has one text, so any other spelling is refused.
+pub fn read<T: Coded>(text: &[u8]) -> Option<T> {
+    let value = T::from_json(&parse(text)?)?;
+    (value.to_json().text().as_bytes() == text).then_some(value)
 }

@@ -7,6 +7,7 @@ use std::collections::BTreeMap;
 #[derive(Clone, PartialEq, Eq, Debug)]
 pub enum Json {
     Null,
+    Bool(bool),
     Num(u64),
     Text(String),
     List(Vec<Json>),
@@ -30,6 +31,7 @@ impl Json {
     pub fn write(&self, out: &mut String) {
         match self {
             Json::Null => out.push_str("null"),
+            Json::Bool(truth) => out.push_str(if *truth { "true" } else { "false" }),
             Json::Num(n) => out.push_str(&n.to_string()),
             Json::Text(t) => write_text(t, out),
             Json::List(all) => {

@@ -9,3 +9,4 @@ mod records;
 pub use coded::Coded;
 pub use file::*;
 pub use json::*;
+pub use parse::parse;

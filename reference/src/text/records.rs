@@ -106,6 +106,7 @@ coded_enum! {
 coded_record! { Mail { from, to, body } }
 coded_enum! { Event { Deliver(mail), Tick, Go, Told(order), Crash, Drop(mail), Again(mail), } }
 coded_record! { Row { who, event, sent } }
+coded_enum! { Input { Got(mail), Tick, Go, Told(order), } }
 
 coded_enum! {
     Effect {

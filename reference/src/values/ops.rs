@@ -24,6 +24,10 @@ impl Op {
             | Op::Cas { key, .. } => key,
         }
     }
+    /// Returns whether the operation came with the second version of scenarios.
+    pub fn is_later(&self) -> bool {
+        matches!(self, Op::Add { .. } | Op::Cas { .. })
+    }
     /// Returns the word of the operation in a scenario.
     pub fn word(&self) -> &'static str {
         match self {
