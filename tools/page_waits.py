@@ -3,11 +3,12 @@
 import freeing
 import schedules
 import waits
+from program import answering
 
 
 def program_of(journal):
     """The program that is asked of a journal, looked for once."""
-    journal.program = schedules.answering(journal.program)
+    journal.program = answering(journal.program)
     return journal.program
 
 

@@ -7,12 +7,10 @@ makes one of the given rows, as docs/JOURNALS.md says.
 """
 
 import bisect
-import os
 import re
 import subprocess
 
 import journals
-from checks import HERE
 
 PARTS = ("scatter", "nodes", "group", "policy", "client", "end", "get", "put", "del", "add", "cas")
 ROWS = re.compile(r"^rows (\d+)$", re.MULTILINE)
@@ -52,16 +50,6 @@ def actors(scenario):
 def actor_number(word):
     """The number of an actor of a scenario's line."""
     return int(word[1:]) + (journals.NODES if word[0] == "c" else 0)
-
-
-def answering(program=None):
-    """The program that was named, or else the one that ./scatter calls, by which many runs are faster."""
-    script = os.path.join(HERE, "scatter")
-    if program not in (None, script):
-        return program
-    said = subprocess.run([script, "--version"], capture_output=True, text=True, check=False)
-    found = re.search(r"(?:and answers|without a proof): (/.*)$", said.stdout, re.MULTILINE)
-    return found[1] if found else script
 
 
 def run(program, word, text, seconds=60):
