@@ -1,5 +1,5 @@
 -- Which lists of events are a history.
-use Rattle.std.specs.Prelude.{◌<◌, ℕ, ◌==◌, List, [], ◌∷◌, ◌++◌, AllPairs, fold, Option, Some, None, if◌then◌else◌}
+use Rattle.std.specs.Prelude.{◌≡◌, ◌<◌, ℕ, ◌==◌, Bool, true, false, List, [], ◌∷◌, ◌++◌, AllPairs, fold, Option, Some, None, if◌then◌else◌}
 use Rattle.sc_base.specs.declared.ops.Op.{Op}
 use Rattle.sc_base.specs.declared.ops.Op.TheVariants.{Get, Put, Del, Add, Cas}
 use Rattle.sc_history.specs.declared.events.Act.{Act}
@@ -8,20 +8,20 @@ use Rattle.sc_history.specs.declared.events.End.TheVariants.{Absent, Value, Done
 use Rattle.sc_history.specs.declared.events.End as end
 use Rattle.sc_history.specs.declared.events.Event.{Event}
 
--- an operation writes only under a condition
-abbrev pub IsConditional : Op → Type 0
-IsConditional (Get key) = ⊥
-IsConditional (Put key value) = ⊥
-IsConditional (Del key) = ⊥
-IsConditional (Add key value) = Unit {0}
-IsConditional (Cas key expect value) = Unit {0}
+-- whether an operation writes only under a condition
+abbrev pub is_conditional : Op → Bool
+is_conditional (Get key) = false
+is_conditional (Put key value) = false
+is_conditional (Del key) = false
+is_conditional (Add key value) = true
+is_conditional (Cas key expect value) = true
 
 -- a request can end so: `no` is for conditional writes alone
 abbrev pub CanEnd : Op → end.End → Type 0
 CanEnd op Absent = Unit {0}
 CanEnd op (Value value) = Unit {0}
 CanEnd op Done = Unit {0}
-CanEnd op No = IsConditional op
+CanEnd op No = is_conditional op ≡ true
 CanEnd op Fail = Unit {0}
 CanEnd op Lost = Unit {0}
 
