@@ -11,8 +11,10 @@ import re
 import sys
 
 import explained
+from program import Unplayed, answering, run
 
 RING = 2**32  # positions on the ring
+BAD_SCENARIO = 3  # the program's status
 NODES = 32  # actors above are clients, and 0 is the desk, which gets what orders came to
 
 
@@ -63,15 +65,47 @@ class Journal:
 
 
 def read(name, program=None):
-    """Reads a file, or standard input where the name is `-`. A program may be named to explain it."""
+    """Reads a stored journal, or a scenario, which is played first. The name `-` is standard input,
+    and a program may be named to play and explain it."""
+    data = data_of(name)
+    called = "standard input" if name == "-" else name
+    if not data.strip():
+        raise BadJournal(f"{called} is empty")
+    if b"\njournal\n" not in data + b"\n":
+        data = played(called, data, program)
+    return parsed(called, data, program)
+
+
+def data_of(name):
+    """What stands in a file, or comes on standard input."""
     try:
-        if name == "-":
-            text = sys.stdin.buffer.read()
-        else:
+        if name != "-":
             with open(name, "rb") as file:
-                text = file.read()
+                return file.read()
+        if sys.stdin.isatty():
+            print("reading standard input, until ctrl and D", file=sys.stderr)
+        return sys.stdin.buffer.read()
     except OSError as fault:
         raise BadJournal(f"{name}: {fault.strerror}") from None
+
+
+def played(name, data, program):
+    """The journal of a scenario."""
+    try:
+        status, said = run(answering(program), "journal", data)
+    except Unplayed as fault:
+        raise BadJournal(f"{name}: {fault}") from None
+    if status in (0, 6):
+        return said
+    why = said.decode("latin-1").strip() or f"status {status}"
+    if status != BAD_SCENARIO:
+        raise BadJournal(f"{name}: {why}")
+    what = "no scenario" if data.startswith(b"scatter ") else "no stored journal, nor a scenario"
+    raise BadJournal(f"{name} is {what}: {why}")
+
+
+def parsed(name, text, program=None):
+    """A stored journal's text."""
     lines = text.decode("latin-1").split("\n")
     if lines[-1] == "":
         lines.pop()

@@ -6,24 +6,18 @@ number.
 
 import collections
 import concurrent.futures
-import signal
 import threading
 
+import calls
+import ending
+
 AHEAD = 64  # cases that are under way or wait for their turn, for each thread
-
-
-class Stopped(Exception):
-    """Says that the tool was asked to stop."""
-
-
-def stop(*_):
-    raise Stopped
+Stopped = ending.Stopped
 
 
 def in_order(numbers, jobs, made, one):
     """Gives the results of `one(made, number)` by number; each thread has its own `made()`."""
-    signal.signal(signal.SIGTERM, stop)
-    signal.signal(signal.SIGINT, stop)
+    ending.catch_signals()
     own = threading.local()
 
     def case(number):
@@ -31,7 +25,7 @@ def in_order(numbers, jobs, made, one):
             own.made = made()
         return one(own.made, number)
 
-    waiting = collections.deque()
+    waiting, is_whole = collections.deque(), False
     with concurrent.futures.ThreadPoolExecutor(jobs) as pool:
         try:
             for number in numbers:
@@ -40,6 +34,9 @@ def in_order(numbers, jobs, made, one):
                     yield waiting.popleft().result()
             while waiting:
                 yield waiting.popleft().result()
+            is_whole = True
         finally:
             for future in waiting:
                 future.cancel()
+            if not is_whole:
+                calls.ALL.end_all()

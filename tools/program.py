@@ -42,6 +42,28 @@ def answering(named=None):
     return path
 
 
+class Unplayed(Exception):
+    """Why a program gives no answer."""
+
+
+def run(path, word, given, seconds=60):
+    """Status and output of a program's subcommand."""
+    try:
+        ran = subprocess.run(
+            [path, word],
+            input=given,
+            stdout=subprocess.PIPE,
+            stderr=subprocess.DEVNULL,
+            timeout=seconds,
+            check=False,
+        )
+    except subprocess.TimeoutExpired:
+        raise Unplayed(f"a run took more than {seconds} seconds") from None
+    except OSError as fault:
+        raise Unplayed(f"{path}: {fault.strerror}") from None
+    return ran.returncode, ran.stdout
+
+
 def command(named, *words):
     """The words of a command: those that were named, or that program's with these behind it."""
     if named:

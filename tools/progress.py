@@ -1,7 +1,7 @@
 """Says on standard error how far many runs are: a bar on a terminal, and else plain lines.
 
 Both have how many runs a second there are, and how long the rest takes at that rate. A plain line
-comes each half minute and at the end, so a stored log stays short.
+comes at the beginning, each half minute, and at the end, so a stored log stays short.
 """
 
 import shutil
@@ -38,6 +38,8 @@ class Progress:
         self.done, self.began = 0, clock()
         self.said, self.is_shown = self.began, False
         self.is_terminal = self.out.isatty()
+        if count:
+            self.show("")
 
     def words(self):
         """How far they are."""
@@ -57,11 +59,14 @@ class Progress:
         if not is_last and now - self.said < (BETWEEN if self.is_terminal else PLAIN):
             return
         self.said = now
-        words = self.words() + (f", {more}" if more else "")
+        self.show(f", {more}" if more else "", "\n" if is_last else "")
+
+    def show(self, more, end=""):
+        """Draws the bar, or prints a plain line."""
         if self.is_terminal:
-            self.draw(words, "\n" if is_last else "")
+            self.draw(self.words() + more, end)
         else:
-            self.write(f"{self.tool}: {words}\n")
+            self.write(f"{self.tool}: {self.words()}{more}\n")
 
     def draw(self, words, end):
         columns = shutil.get_terminal_size().columns

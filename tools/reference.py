@@ -12,6 +12,8 @@ import subprocess
 import sys
 import time
 
+import calls
+
 HERE = os.path.dirname(os.path.dirname(os.path.abspath(__file__)))
 FOLDER = os.path.join(HERE, "reference")
 SECONDS = 60  # how long an answer may take
@@ -50,18 +52,7 @@ class Calls:
 
     def ask(self, word, text, seconds=SECONDS):
         """Returns status and output of a subcommand; None for the status of one that took too long."""
-        try:
-            done = subprocess.run(
-                [*self.words, *word.split()],
-                input=text,
-                stdout=subprocess.PIPE,
-                stderr=subprocess.DEVNULL,
-                timeout=seconds,
-                check=False,
-            )
-        except subprocess.TimeoutExpired:
-            return None, b""
-        return done.returncode, done.stdout
+        return calls.call([*self.words, *word.split()], text, seconds)
 
 
 class Batch:
@@ -72,17 +63,14 @@ class Batch:
 
     def start(self):
         self.held = b""
-        self.process = subprocess.Popen(
-            [self.program, "batch"],
-            stdin=subprocess.PIPE,
-            stdout=subprocess.PIPE,
-            stderr=subprocess.DEVNULL,
-        )
+        self.process = calls.ALL.begin([self.program, "batch"])
 
     def ask(self, word, text, seconds=SECONDS):
         """Returns status and output of a subcommand; None for the status of one that took too long."""
         if self.process is None:
             self.start()
+        if self.process is None:
+            return None, b""
         self.process.stdin.write(b"%s %d\n" % (word.encode(), len(text)) + text)
         self.process.stdin.flush()
         until = time.monotonic() + seconds
@@ -110,10 +98,7 @@ class Batch:
         self.held += part
 
     def end(self):
-        self.process.kill()
-        self.process.wait()
-        self.process.stdin.close()
-        self.process.stdout.close()
+        calls.ALL.end(self.process)
         self.process = None
 
 

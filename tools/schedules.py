@@ -8,16 +8,15 @@ makes one of the given rows, as docs/JOURNALS.md says.
 
 import bisect
 import re
-import subprocess
 
 import journals
+import program
+from program import Unplayed
 
 PARTS = ("scatter", "nodes", "group", "policy", "client", "end", "get", "put", "del", "add", "cas")
+WRITTEN = ("storm", "free")  # lines that `written_out` puts other lines in place of
+MOST_LINES = 20000
 ROWS = re.compile(r"^rows (\d+)$", re.MULTILINE)
-
-
-class Unplayed(Exception):
-    """Why it is not known what a line did."""
 
 
 def is_read(number, line):
@@ -52,22 +51,10 @@ def actor_number(word):
     return int(word[1:]) + (journals.NODES if word[0] == "c" else 0)
 
 
-def run(program, word, text, seconds=60):
-    """Status and output of a program's word."""
-    try:
-        ran = subprocess.run(
-            [program, word],
-            input=text.encode("latin-1"),
-            stdout=subprocess.PIPE,
-            stderr=subprocess.DEVNULL,
-            timeout=seconds,
-            check=False,
-        )
-    except subprocess.TimeoutExpired:
-        raise Unplayed(f"a run took more than {seconds} seconds") from None
-    except OSError as fault:
-        raise Unplayed(f"{program}: {fault.strerror}") from None
-    return ran.returncode, ran.stdout.decode("latin-1")
+def run(path, word, text, seconds=60):
+    """Status and output of a program's subcommand, as texts."""
+    status, said = program.run(path, word, text.encode("latin-1"), seconds)
+    return status, said.decode("latin-1")
 
 
 class Pending:
@@ -141,8 +128,8 @@ class Played:
 class Walk:
     """All lines of a journal's schedule, each with its rows, as far as there are rows."""
 
-    def __init__(self, journal, program=None):
-        self.journal, self.program = journal, program
+    def __init__(self, journal, asked=None):
+        self.journal, self.program = journal, asked
         self.pending, self.place, self.lines = Pending(journal), 0, []
         self.head, schedule = parts_of(journal.scenario)
         for number, line in schedule:
@@ -281,3 +268,44 @@ def lines_of(journal, count):
             lines.append(line)
         pending.take(row)
     return [*lines, f"settle {settled}"] if settled else lines
+
+
+# ---- storms as lines
+
+
+def rows_of(said):
+    """The rows of a stored journal, as they are spelled."""
+    return said.partition(b"\njournal\n")[2]
+
+
+def written_out(journal, asked, mark="# "):
+    """A journal's scenario in which each storm and `free` line is the lines of what it did. That
+    the program makes the same rows of it is tried."""
+    text = "\n".join([*lines_written_out(journal, asked, mark), ""])
+    _, said = program.run(asked, "journal", text.encode("latin-1"))
+    if rows_of(said) != rows_of(journal.text):
+        raise Unplayed("the lines that are written out do not make the same rows")
+    return text
+
+
+def lines_written_out(journal, asked, mark):
+    """The lines of a journal's scenario, with those of the rows in place of each storm and `free`
+    line, which stands above them behind a mark."""
+    found, place, pending = [], 0, Pending(journal)
+    by_number = {played.number: played for played in Walk(journal, asked).lines}
+    for number, line in enumerate(journal.scenario, 1):
+        played = by_number.get(number)
+        if played is None or line.split()[0] not in WRITTEN:
+            found.append(line)
+        elif mark:
+            found.append(f"{mark}{played.line}: {played.rows()}")
+        if played is None:
+            continue
+        for row in journal.rows[place : played.last]:
+            if line.split()[0] in WRITTEN:
+                found.append(line_of(journal, pending, row))
+            pending.take(row)
+        place = max(place, played.last)
+    if len(found) > MOST_LINES:
+        raise Unplayed(f"that is {len(found)} lines, and a scenario has at most {MOST_LINES}")
+    return found

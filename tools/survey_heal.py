@@ -83,6 +83,16 @@ class Open:
             f" {self.orders} of {self.told} orders, in {many(self.order_runs, 'run')}{unknown}"
         )
 
+    def counts(self):
+        """What is open, of how much."""
+        return {
+            "requests": self.requests,
+            "of_requests": self.asked,
+            "orders": self.orders,
+            "of_orders": self.told,
+            "without_report": self.unknown,
+        }
+
     def request_share(self):
         return self.requests / self.asked if self.asked else None
 
@@ -99,6 +109,12 @@ class Healed:
         opened = [Open(self.cast, column) for column in zip(*runs)]
         self.after, self.before = opened[:2] if opened else (Open(self.cast, []),) * 2
         self.over = opened[2:]
+
+    def counts(self):
+        """The same for a program."""
+        over = {str(ticks): opened.counts() for ticks, opened in enumerate(self.over)}
+        both = {"before": self.before.counts(), "after": self.after.counts()}
+        return {"ticks": self.ticks, **both, "after_ticks": over}
 
     def tell(self):
         """Prints what was open, and what the sweeps healed."""

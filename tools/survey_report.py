@@ -1,9 +1,12 @@
 """Prints what the runs of a survey came to, for `survey`."""
 
 import collections
+import json
 import statistics
 
 from survey_runs import SPREAD, STORM, Outcome
+
+MOST_FAILED = 20  # failed runs that are named one by one
 
 
 def counted(words):
@@ -56,15 +59,51 @@ def tell_each(ended):
         print(f"order {number}: " + counted(said))
 
 
+def report_failed(text, outcomes):
+    """Prints the runs that came to no report."""
+    failed = [outcome for outcome in outcomes if outcome.has_failed()]
+    for outcome in failed[:MOST_FAILED]:
+        why = "too slow" if outcome.status is None else f"status {outcome.status}"
+        print(f"failed: run {outcome.number}, {why}, {seeds(text, outcome.number)}")
+    if failed[MOST_FAILED:]:
+        print(f"failed: runs {ranges(outcome.number for outcome in failed[MOST_FAILED:])}")
+
+
 def report_worst(text, ended, worst):
-    """Prints the runs that answered the fewest requests."""
+    """Prints the runs that answered the fewest requests, of those that left something open."""
     for outcome in sorted(ended, key=Outcome.rank)[:worst]:
+        if outcome.is_well():
+            return
         said = f"answered {outcome.answered} of {len(outcome.requests)}"
         more = f", {outcome.open} orders open" if outcome.open else ""
         print(
             f"worst: run {outcome.number}, {said}{more}, rows {outcome.counts['rows']},"
             f" {seeds(text, outcome.number)}"
         )
+
+
+def print_json(one):
+    """Prints a line of JSON for each run of a file, and one with its counts."""
+    storms = len(STORM.findall(one.text))
+    for outcome in one.outcomes:
+        said = {
+            "file": one.file,
+            "run": outcome.number,
+            "storms": [outcome.number * SPREAD + 1, outcome.number * SPREAD + storms],
+            "status": outcome.status,
+            "answered": outcome.answered,
+            "requests": outcome.requests,
+            "orders": outcome.orders,
+            **outcome.counts,
+        }
+        if outcome.took:
+            said["rows_of_requests"] = outcome.took
+        print(json.dumps(said, sort_keys=True))
+    statuses = collections.Counter(str(outcome.status) for outcome in one.outcomes)
+    said = {"file": one.file, "runs": len(one.outcomes), "not_run": one.lost, "statuses": statuses}
+    if one.healed:
+        said["sweep"] = one.healed.counts()
+    print(json.dumps(said, sort_keys=True))
 
 
 def report(file, text, outcomes, lost):

@@ -5,8 +5,11 @@ it, so that a worker on another machine can be handed it as it is (`survey_on.py
 """
 
 import collections
-import concurrent.futures
+import contextlib
 import json
+import multiprocessing
+import multiprocessing.connection
+import os
 import re
 import signal
 import subprocess
@@ -119,6 +122,14 @@ class Outcome:
     def share(self):
         return self.answered / len(self.requests) if self.requests else 1.0
 
+    def has_failed(self):
+        """Whether it came to no report."""
+        return self.status not in (0, 6)
+
+    def is_well(self):
+        """Whether all requests are answered, and no order is open."""
+        return not self.has_failed() and self.answered == len(self.requests) and not self.open
+
     def rank(self):
         """The worst runs have the least."""
         return self.answered, -self.open, -self.counts.get("rows", 0), self.number
@@ -133,17 +144,66 @@ def outcomes_of(number, ends, took):
 # ---- all runs on this machine
 
 
-def here(program, plan, numbers, jobs):
-    """All runs, each as soon as it has ended: the number, and what it came to."""
-    quiet = (signal.SIGINT, signal.SIG_IGN)  # this process alone ends at Ctrl-C, and them with it
-    with concurrent.futures.ProcessPoolExecutor(
-        jobs, initializer=signal.signal, initargs=quiet
-    ) as pool:
-        futures = {pool.submit(played, program, plan, number): number for number in numbers}
+def work(end, parent, program, plan):
+    """Runs each number that comes, in a process group of its own, as long as somebody waits."""
+    os.setsid()  # so that ctrl-C does not end it, and that it ends with what it runs
+    signal.signal(signal.SIGTERM, signal.SIG_DFL)
+    while True:
+        while not end.poll(1):
+            if os.getppid() != parent:
+                return
+        number = end.recv()
         try:
-            for future in concurrent.futures.as_completed(futures):
-                yield futures[future], future.result()
-        except BaseException:
-            for future in futures:
-                future.cancel()
-            raise
+            end.send((number, played(program, plan, number), None))
+        except Refused as fault:
+            end.send((number, None, fault))
+
+
+class Worker:
+    """A process that runs one number after another."""
+
+    def __init__(self, program, plan):
+        self.end, other = multiprocessing.Pipe()
+        words = (other, os.getpid(), program, plan)
+        self.process = multiprocessing.Process(target=work, args=words, daemon=True)
+        self.process.start()
+        other.close()
+
+    def ended(self):
+        """The number that it has run, and what that came to."""
+        try:
+            number, found, fault = self.end.recv()
+        except EOFError:
+            raise Refused("a worker was ended from elsewhere") from None
+        if fault:
+            raise fault
+        return number, found
+
+    def stop(self):
+        """Ends it with what it runs."""
+        with contextlib.suppress(ProcessLookupError, PermissionError):
+            os.killpg(self.process.pid, signal.SIGKILL)
+        self.process.kill()
+        self.process.join()
+
+
+def here(program, plan, numbers, jobs):
+    """All runs, each as soon as it has ended: the number, and what it came to. Where not all are
+    taken, those that go on are ended."""
+    numbers = collections.deque(numbers)
+    workers = {}
+    try:
+        for _ in range(min(jobs, len(numbers))):
+            worker = Worker(program, plan)
+            workers[worker.end] = worker
+            worker.end.send(numbers.popleft())
+        while workers:
+            for end in multiprocessing.connection.wait(list(workers)):
+                yield workers[end].ended()
+                if numbers:
+                    end.send(numbers.popleft())
+                else:
+                    workers.pop(end).stop()
+    finally:
+        for worker in workers.values():
+            worker.stop()

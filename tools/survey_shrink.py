@@ -1,9 +1,11 @@
-"""Makes the schedule of a run as short as it may be while the run still has a wished outcome.
+"""Makes a scenario as short as it may be while its run still has a wished outcome.
 
-Lines are left out, in halves first and one by one at last, and storms are made shorter, until none
-of these steps leaves the outcome. Candidates are tried in a fixed order, several at a time, and the
-first in that order that holds is taken, so the result is the same each time, unless `free` lines
-make it otherwise.
+Lines of the schedule are left out, in halves first and one by one at last, and storms are made
+shorter. Then what storms and `free` lines did is written out as lines of their own, of which some
+can be left out again; and groups, clients, nodes and requests go that are not needed. All this is
+repeated until none of these steps leaves the outcome. Candidates are tried in a fixed order,
+several at a time, and the first in that order that holds is taken, so the result is the same each
+time, unless `free` lines make it otherwise.
 """
 
 import concurrent.futures
@@ -11,7 +13,14 @@ import re
 import sys
 import time
 
+import calls
+import ending
+import journals
+import progress
+import schedules
+import survey_parts
 import survey_runs
+import survey_wishes
 from schedules import PARTS, is_read
 from survey_runs import Refused
 
@@ -19,44 +28,22 @@ PLAIN = 30.0  # seconds between two plain lines of progress
 LENGTH = re.compile(r"^(\s*storm\s+\d+\s+)(\d+)(.*)$")
 
 
-# ---- wishes
-
-
-def wish(words):
-    """What a report and a status have to have, as a test of both."""
-    parts = words.split()
-    if parts[:1] == ["status"] and len(parts) == 2 and parts[1].isdigit():
-        return lambda status, report: status == int(parts[1])
-    if parts[:1] in (["unanswered"], ["open"]) and all(one.isdigit() for one in parts[1:]):
-        return open_wish(parts)
-    return lambda status, report: status is not None and words in report
-
-
-def open_wish(parts):
-    """That a request, or an order, is open although no mail is pending."""
-    if parts[0] == "unanswered":
-        start = " ".join([*parts, ""])
-        found = re.compile(rf"^{re.escape(start)}", re.MULTILINE)
-    else:
-        number = parts[1] if parts[1:] else r"\d+"
-        found = re.compile(rf"^order {number} open$", re.MULTILINE)
-    return lambda status, report: (
-        status in (0, 6) and bool(found.search(report)) and "\nquiet yes\n" in report
-    )
+# ---- runs
 
 
 class Wishes:
     """All wishes of a survey, each of which has to hold, and how runs are tried."""
 
-    def __init__(self, program, asked):
+    def __init__(self, program, asked, text):
         self.program, self.asked = program, asked
-        self.tests = [wish(words) for words in asked.shrink]
+        self.tests = [survey_wishes.wish(words, text) for words in asked.shrink]
         self.runs = 0
 
     def holds(self, text):
         """Whether a scenario has what is wished."""
-        status, report = survey_runs.run(self.program, "run", text, self.asked.seconds)
-        return all(test(status, report) for test in self.tests)
+        words, given = [self.program, "run"], text.encode("latin-1")
+        status, report = calls.call(words, given, self.asked.seconds)
+        return all(test(status, report.decode("latin-1")) for test in self.tests)
 
     def first(self, pool, candidates):
         """The first of some candidates that holds, each with its text; None where none does."""
@@ -78,6 +65,10 @@ class Schedule:
 
     def __init__(self, head, lines):
         self.head, self.lines = head, lines
+
+    def size(self):
+        """What gets less at each step: nothing is left out twice."""
+        return len(self.head), sum(len(line) for line in self.head), len(self.lines), self.steps()
 
     def text(self):
         return "\n".join([*self.head, *self.lines, ""])
@@ -118,10 +109,7 @@ class Shown:
 
     def step(self, now, runs):
         """Says what is left."""
-        words = (
-            f"{len(now.lines)} of {len(self.whole.lines)} lines and {now.steps()} of"
-            f" {self.whole.steps()} steps of storms are left, {runs} runs"
-        )
+        words = f"{left(now, self.whole)}, {runs} runs"
         if self.is_terminal:
             sys.stderr.write(f"\r\033[K{words}")
             sys.stderr.flush()
@@ -135,42 +123,84 @@ class Shown:
             sys.stderr.flush()
 
 
-def least(wishes, whole):
-    """The least schedule that still has what is wished, by these steps."""
-    shown, now = Shown(whole), whole
-    with concurrent.futures.ThreadPoolExecutor(wishes.asked.jobs) as pool:
-        while True:
-            before = (len(now.lines), now.steps())
-            now = fewer_lines(wishes, pool, now, shown)
-            now = shorter_storms(wishes, pool, now, shown)
-            if (len(now.lines), now.steps()) == before:
-                shown.clear()
-                return now
+def left(now, whole):
+    """How much is left of a scenario, in a few words."""
+    steps = f"{now.steps()} of {whole.steps()} steps of storms"
+    if whole.steps() and not now.steps():
+        steps = "storms written out"
+    return f"{len(now.lines)} lines of a schedule of {len(whole.lines)}, {steps}"
 
 
-def fewer_lines(wishes, pool, now, shown):
-    """Leaves out lines, in parts that are halved."""
-    size = max(len(now.lines) // 2, 1)
-    while True:
-        starts = range(0, len(now.lines), size)
-        other = wishes.first(pool, (now.without(start, size) for start in starts))
+class Shrinking:
+    """A scenario that gets shorter; `now` is the shortest so far that has what is wished."""
+
+    def __init__(self, wishes, source):
+        self.wishes, self.whole = wishes, parted(source)
+        self.now, self.shown = self.whole, Shown(self.whole)
+
+    def is_shorter(self, pool, candidates):
+        """Takes the first candidate that holds, if there is one."""
+        other = self.wishes.first(pool, candidates)
         if other is not None:
-            now = other
-        elif size == 1:
-            return now
-        else:
-            size //= 2
-        shown.step(now, wishes.runs)
+            self.now = other
+        self.shown.step(self.now, self.wishes.runs)
+        return other is not None
+
+    def all(self):
+        """Leaves out all that can be left out."""
+        with concurrent.futures.ThreadPoolExecutor(self.wishes.asked.jobs) as pool:
+            try:
+                self.as_it_is(pool, has_parts=False)
+                self.writes_out(pool)
+                self.as_it_is(pool, has_parts=True)
+            except BaseException:
+                calls.ALL.end_all()
+                raise
+            finally:
+                self.shown.clear()
+
+    def as_it_is(self, pool, has_parts):
+        """Leaves out lines, steps of storms, and parts if asked, until nothing more can go."""
+        before = None
+        while self.now.size() != before:
+            before = self.now.size()
+            self.fewer_lines(pool)
+            while self.is_shorter(pool, self.now.shorter()):
+                pass
+            while has_parts and self.is_shorter(pool, fewer_parts(self.now)):
+                pass
+
+    def fewer_lines(self, pool):
+        """Leaves out lines, in parts that are halved."""
+        size = max(len(self.now.lines) // 2, 1)
+        while True:
+            now = self.now
+            starts = range(0, len(now.lines), size)
+            if not self.is_shorter(pool, (now.without(start, size) for start in starts)):
+                if size == 1:
+                    return
+                size //= 2
+
+    def writes_out(self, pool):
+        """Writes out storms and `free` lines, where there are any and it can be done."""
+        if not any(line.split()[0] in schedules.WRITTEN for line in self.now.lines):
+            return
+        try:
+            asked = self.wishes.program
+            data = self.now.text().encode("latin-1")
+            journal = journals.parsed("the run", journals.played("the run", data, asked), asked)
+            text = schedules.written_out(journal, asked, mark="")
+        except (schedules.Unplayed, journals.BadJournal) as fault:
+            self.shown.clear()
+            print(f"survey: nothing is written out: {fault}", file=sys.stderr)
+            return
+        self.is_shorter(pool, [parted(text)])
 
 
-def shorter_storms(wishes, pool, now, shown):
-    """Makes storms shorter, as long as one may be."""
-    while True:
-        other = wishes.first(pool, now.shorter())
-        if other is None:
-            return now
-        now = other
-        shown.step(now, wishes.runs)
+def fewer_parts(now):
+    """The scenarios with a group, a client, a node or a request less."""
+    for one in survey_parts.Parts(now.head, now.lines).fewer():
+        yield Schedule(*one.texts())
 
 
 # ---- a survey
@@ -179,25 +209,41 @@ def shorter_storms(wishes, pool, now, shown):
 def found_run(wishes, text, asked):
     """The first run with what is wished: its number and its scenario."""
     plan = survey_runs.Plan(text, [""], asked.seconds, False)
-    for number in range(asked.first, asked.first + asked.count):
-        source = survey_runs.source(plan, number, "")
-        wishes.runs += 1
-        if wishes.holds(source):
-            return number, source
+    numbers = range(asked.first, asked.first + asked.count)
+    shown = progress.Progress("survey", asked.count, "runs looked at")
+    with concurrent.futures.ThreadPoolExecutor(asked.jobs) as pool:
+        try:
+            for start in range(0, len(numbers), asked.jobs):
+                some = numbers[start : start + asked.jobs]
+                sources = [survey_runs.source(plan, number, "") for number in some]
+                wishes.runs += len(some)
+                for number, source, holds in zip(some, sources, pool.map(wishes.holds, sources)):
+                    if holds:
+                        shown.clear()
+                        return number, source
+                    shown.step()
+        except BaseException:
+            shown.clear()
+            calls.ALL.end_all()
+            said = "looked at, and none has what is wished"
+            print(f"survey: {shown.done} of {asked.count} runs {said}", file=sys.stderr)
+            raise
     raise Refused(f"none of {asked.count} runs has what is wished: {' and '.join(asked.shrink)}")
 
 
 def shrink(program, file, text, asked):
-    """Finds a run, makes its schedule short, and says what is left; the text."""
-    wishes = Wishes(program, asked)
+    """Finds a run, and makes its scenario short: the text, and whether nothing more can go."""
+    wishes, is_whole = Wishes(program, asked, text), True
     number, source = found_run(wishes, text, asked)
-    whole = parted(source)
-    now = least(wishes, whole)
-    told = (
-        f"# {file}, run {number}, with: {' and '.join(asked.shrink)}",
-        f"# {len(now.lines)} of {len(whole.lines)} lines of the schedule and {now.steps()} of"
-        f" {whole.steps()} steps of storms are left",
-    )
-    head = now.head[:1] + list(told) + now.head[1:]
-    print(f"survey: {told[1][2:]}, after {wishes.runs} runs", file=sys.stderr)
-    return Schedule(head, now.lines).text()
+    shrinking = Shrinking(wishes, source)
+    try:
+        shrinking.all()
+    except ending.Stopped:
+        is_whole = False
+    now = shrinking.now
+    more = "" if is_whole else "; stopped, so more may be left out"
+    said = f"{left(now, shrinking.whole)}, after {wishes.runs} runs{more}"
+    told = [f"# {file}, run {number}, with: {' and '.join(asked.shrink)}", f"# {said}"]
+    head = now.head[:1] + told + now.head[1:]
+    print(f"survey: {said}", file=sys.stderr)
+    return Schedule(head, now.lines).text(), is_whole
