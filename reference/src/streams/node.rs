@@ -19,10 +19,10 @@ fn group_state(r: &Replica) -> Json {
     let core = &r.base.core;
     text::fields([
         ("arc", core.arc.to_json()),
-        ("ballot", r.acceptor.promised.to_json()),
         ("executed", (r.next - 1).to_json()),
         ("gone", core.gone.as_ref().map(|into| into.group).to_json()),
         ("group", core.id.to_json()),
+        ("leader", r.hint.to_json()),
         ("leads", Json::Bool(r.settled())),
         ("members", core.members.to_json()),
         ("pairs", (r.base.pairs.len() as u64).to_json()),
