@@ -8,4 +8,5 @@ pub mod StartLaws
 pub mod Texts
 pub mod TwoGroups
 pub mod Valid
+pub mod WellFormed
 pub mod WholeDefinitions

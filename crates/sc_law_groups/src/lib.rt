@@ -11,5 +11,5 @@ pub use whole::{
     a_join_is_sound, a_journal_of_two_groups, a_journal_with_a_split, an_election_is_sound,
     lawful_journals_are_sound, lawful_journals_decide_in_turn, lawful_journals_hold_beside,
     members_stay_rosters, valid_entries_are_logs, valid_journals_are_sound,
-    valid_scenarios_begin_well,
+    valid_scenarios_begin_well, well_formed_journals_are_sound,
 };

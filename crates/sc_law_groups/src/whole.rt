@@ -19,6 +19,7 @@ ghost use Rattle.sc_law_groups.specs.whole.SplitExample.{lone_call, kid, pair, p
 ghost use Rattle.sc_law_groups.specs.whole.Texts.{election_text, join_text, split_text, two_text};
 ghost use Rattle.sc_law_groups.specs.whole.TwoGroups.{lower_group, put_it_call, two_example, two_scenario, upper_group};
 ghost use Rattle.sc_law_groups.specs.whole.Valid.{ValidEntriesAreLogs, ValidJournalsAreSound};
+ghost use Rattle.sc_law_groups.specs.whole.WellFormed.{BoundedScenariosAreWellFormed, WellFormedJournalsAreSound};
 
 use crate::group::{a_journal_with_a_join, a_journal_with_an_election};
 pub use starting::valid_scenarios_begin_well;
@@ -51,6 +52,14 @@ pub fn lawful_journals_hold_beside()
 /// scenario begins well with groups that hold nothing, and what its orders queue is allowed.
 pub fn lawful_journals_are_sound()
     ensures { LawfulJournalsAreSound }
+{}
+
+/// Shows that each prefix of a lawful journal of a well formed scenario is sound, as that of a valid
+/// one is (`valid_journals_are_sound`), and that each scenario within its bounds is well formed. A
+/// well formed scenario may have any number of requests and of lines.
+pub fn well_formed_journals_are_sound()
+    ensures formed { BoundedScenariosAreWellFormed }
+    ensures sound { WellFormedJournalsAreSound }
 {}
 
 /// Shows that each prefix of a lawful journal of a valid scenario is sound, whatever its orders

@@ -1,4 +1,4 @@
--- The orders of a lawful journal of a valid scenario are at positions of the ring, so what nodes queue for them, and for what policies order, is allowed by the owners of names.
+-- The orders of a lawful journal of a well formed scenario are at positions of the ring, so what nodes queue for them, and for what policies order, is allowed by the owners of names.
 use Rattle.std.proofs.Common.{ℕ, List, [], ◌∷◌, ◌++◌, map, inl, refl, sym, subst}
 use Rattle.sc_base.specs.Definitions.{Each, next_name}
 use Rattle.sc_node_table.specs.Values.{Order, OrderLine, Mail, Row}
@@ -7,8 +7,7 @@ use Rattle.sc_node_table.specs.NodeDefinitions.{group_of_order, names_after_tick
 use Rattle.sc_words.proofs.PaxosProofs.PaxosLemmas.{Each-among, Each-append, Each-from_All}
 use Rattle.sc_paxos_law.proofs.Lemmas.{Among-right}
 use Rattle.sc_meaning.specs.sound.SoundDefinitions.{Ahead, Lawful, line_of, schedule, system_of}
-use Rattle.sc_scenario.specs.scenario.Definitions.{IsBounded, IsBoundedLine, IsBoundedOrder}
-use Rattle.sc_scenario.specs.declared.scenario.scenarios.Asks.{Asks}
+use Rattle.sc_scenario.specs.scenario.Definitions.{IsBounded, IsBoundedOrder}
 use Rattle.sc_scenario.specs.declared.scenario.scenarios.Scenario.{Scenario}
 use Rattle.sc_scenario.specs.declared.scenario.scenarios.SchedLine.{SchedLine}
 use Rattle.sc_scenario.specs.declared.scenario.scenarios.SchedLine.TheVariants as scheduled
@@ -16,7 +15,8 @@ use Rattle.sc_law_entries.specs.ring.RingDefinitions.{IsAllowed}
 use Rattle.sc_law_entries.specs.names.NameDefinitions.{IsAtPosition, TakesOrder, TakenOrdersAreAllowed, TakesWish, TakenWishesAreAllowed, WishesAreAtPositions, owner_in}
 use Rattle.sc_law_groups.proofs.GroupProofs.GroupLemmas.{GivesAllowedOrder, OrdersOnly, told_induction}
 use Rattle.sc_law_entries.specs.logs.LogDefinitions.{Rows}
-use Rattle.sc_law_groups.specs.whole.WholeDefinitions.{section_op, QueuedOrdersAreAllowed, WishedAreAllowed, OrdersAreAllowed}
+use Rattle.sc_law_groups.proofs.WholeProofs.StartValid.{bounded_is_formed}
+use Rattle.sc_law_groups.specs.whole.WholeDefinitions.{IsWellFormed, GivesBoundedOrder, section_op, QueuedOrdersAreAllowed, WishedAreAllowed, OrdersAreAllowed}
 
 -- ---- the schedule
 
@@ -29,17 +29,17 @@ at_position nodes _ bounded = tt
 abbrev IsPlaced : ℕ → OrderLine → Type 0
 IsPlaced who line = IsAtPosition line.order
 
-placed_line : (nodes : ℕ) (clients : List Asks) (line : SchedLine) → IsBoundedLine nodes clients line → OrdersOnly IsPlaced (line_of line)
-placed_line nodes clients (scheduled.Told node line) bounded = at_position nodes line.order bounded.1
-placed_line nodes clients _ bounded = tt
+placed_line : (nodes : ℕ) (line : SchedLine) → GivesBoundedOrder nodes line → OrdersOnly IsPlaced (line_of line)
+placed_line nodes (scheduled.Told node line) bounded = at_position nodes line.order bounded.1
+placed_line nodes _ bounded = tt
 
-placed_lines : (nodes : ℕ) (clients : List Asks) (lines : List SchedLine) → Each (IsBoundedLine nodes clients) lines → Each (OrdersOnly IsPlaced) (map line_of lines)
-placed_lines nodes clients [] bounded = tt
-placed_lines nodes clients (line ∷ lines) bounded = (placed_line nodes clients line bounded.0, placed_lines nodes clients lines bounded.1)
+placed_lines : (nodes : ℕ) (lines : List SchedLine) → Each (GivesBoundedOrder nodes) lines → Each (OrdersOnly IsPlaced) (map line_of lines)
+placed_lines nodes [] bounded = tt
+placed_lines nodes (line ∷ lines) bounded = (placed_line nodes line bounded.0, placed_lines nodes lines bounded.1)
 
 -- ---- its rows
 
-module _ (ahead : Ahead) (words : ℕ → ℕ → ℕ × ℕ) (scenario : Scenario) (bounded : IsBounded scenario) where
+module _ (ahead : Ahead) (words : ℕ → ℕ → ℕ × ℕ) (scenario : Scenario) (formed : IsWellFormed scenario) where
   -- a row that brings no order but at a position
   abbrev IsPlacedRow : Row Mail OrderLine → Type 0
   IsPlacedRow row = GivesAllowedOrder IsPlaced row.who row.event
@@ -47,7 +47,7 @@ module _ (ahead : Ahead) (words : ℕ → ℕ → ℕ × ℕ) (scenario : Scenar
   placed_rows : (rows : Rows) → Lawful ahead words scenario rows → Each IsPlacedRow rows
   placed_rows rows lawful =
       told_induction IsPlaced (system_of ahead words scenario) (Each IsPlacedRow) (λ before row p told step. Each-append IsPlacedRow before (row ∷ []) p (told, tt)) (schedule scenario) rows
-      (placed_lines scenario.nodes scenario.clients scenario.lines (Each-from_All (IsBoundedLine scenario.nodes scenario.clients) scenario.lines bounded.lines)) tt lawful
+      (placed_lines scenario.nodes scenario.lines (Each-from_All (GivesBoundedOrder scenario.nodes) scenario.lines formed.orders)) tt lawful
 
   -- what is queued for an order of the schedule is allowed by the owners of the whole journal
   told_allowed : TakenOrdersAreAllowed → (rows : Rows) → Lawful ahead words scenario rows → QueuedOrdersAreAllowed (record { owner = owner_in ahead scenario rows; request = section_op scenario }) ahead scenario rows
@@ -68,5 +68,10 @@ module _ (ahead : Ahead) (words : ℕ → ℕ → ℕ × ℕ) (scenario : Scenar
       (law ahead scenario before row later line node older newer r takes placed (section_op scenario) stories)
 
   -- both
-  pub orders_allowed : TakenOrdersAreAllowed → TakenWishesAreAllowed → WishesAreAtPositions → (rows : Rows) → Lawful ahead words scenario rows → OrdersAreAllowed (record { owner = owner_in ahead scenario rows; request = section_op scenario }) ahead scenario rows
-  orders_allowed told wished positions rows lawful = record { told = told_allowed told rows lawful; wished = wished_allowed wished positions rows }
+  pub formed_orders_allowed : TakenOrdersAreAllowed → TakenWishesAreAllowed → WishesAreAtPositions → (rows : Rows) → Lawful ahead words scenario rows → OrdersAreAllowed (record { owner = owner_in ahead scenario rows; request = section_op scenario }) ahead scenario rows
+  formed_orders_allowed told wished positions rows lawful = record { told = told_allowed told rows lawful; wished = wished_allowed wished positions rows }
+
+-- so it is in a scenario within its bounds
+pub orders_allowed : (ahead : Ahead) (words : ℕ → ℕ → ℕ × ℕ) (scenario : Scenario) → IsBounded scenario → TakenOrdersAreAllowed → TakenWishesAreAllowed → WishesAreAtPositions
+    → (rows : Rows) → Lawful ahead words scenario rows → OrdersAreAllowed (record { owner = owner_in ahead scenario rows; request = section_op scenario }) ahead scenario rows
+orders_allowed ahead words scenario bounded = formed_orders_allowed ahead words scenario (bounded_is_formed scenario bounded)

@@ -3,13 +3,16 @@ use Rattle.std.proofs.Common.{◌≡◌, ℕ, zero, suc, ◌+◌, ◌<◌, ◌�
 use Rattle.std.specs.List.{All, AllPairs, list_any}
 use Rattle.std.proofs.lemmas.Bool.{ne_eqb, and_from}
 use Rattle.std.proofs.lemmas.List.Elements.{All-nil, All-cons}
+use Rattle.sc_base.specs.Definitions.{most_clients}
 use Rattle.sc_node_table.specs.Values.{Base, Route, Seat}
 use Rattle.sc_actor.specs.Definitions.{are_apart}
 use Rattle.sc_node_table.specs.NodeDefinitions.{numbers_from}
-use Rattle.sc_scenario.specs.scenario.Definitions.{IsBounded, IsBoundedClient}
+use Rattle.sc_scenario.specs.scenario.Definitions.{IsBounded, IsUpTo}
 use Rattle.sc_scenario.specs.declared.scenario.scenarios.Asks.{Asks}
 use Rattle.sc_scenario.specs.declared.scenario.scenarios.Scenario.{Scenario}
 use Rattle.sc_meaning.specs.sound.SoundDefinitions.{node_seat, client_seat, client_seats, route_of, births, most_actor, Player, as_nodes}
+use Rattle.sc_law_groups.specs.whole.WholeDefinitions.{IsWellFormed}
+use Rattle.sc_law_groups.proofs.WholeProofs.StartValid.{bounded_is_formed}
 
 -- the numbers rise, from above a number on
 abbrev Rises : ℕ → List (Seat Player) → Type 0
@@ -66,14 +69,14 @@ within_on : (top : ℕ) (xs ys : List (Seat Player)) → Within top xs → Withi
 within_on top [] ys w v = v
 within_on top (x ∷ xs) ys w v = (w.0, within_on top xs ys w.1 v)
 
-clients_within : (first : Route) (clients : List Asks) → All IsBoundedClient clients → Within most_actor (map (client_seat first) clients)
+clients_within : (first : Route) (clients : List Asks) → All (λ (asks : Asks). IsUpTo most_clients asks.client) clients → Within most_actor (map (client_seat first) clients)
 clients_within first [] all = tt
 clients_within first (asks ∷ clients) all = (
-  omega (arith, (all 0 asks (omega arith)).0.1),
+  omega (arith, (all 0 asks (omega arith)).1),
   clients_within first clients (λ k d lt. all (suc k) d (omega (arith, lt))),
 )
 
-clients_within_any : (groups : List Base) (clients : List Asks) → All IsBoundedClient clients → Within most_actor (client_seats groups clients)
+clients_within_any : (groups : List Base) (clients : List Asks) → All (λ (asks : Asks). IsUpTo most_clients asks.client) clients → Within most_actor (client_seats groups clients)
 clients_within_any [] clients all = tt
 clients_within_any (base ∷ groups) clients all = clients_within (route_of base) clients all
 
@@ -84,21 +87,25 @@ between low top (seat ∷ seats) r w =
     All-cons (λ (seat : Seat Player). (low < seat.who) × (seat.who ≤ top)) seat seats (r.0, w.0)
     (between low top seats (lower low seat.who seats (omega (arith, r.0)) r.1) w.1)
 
--- the births of a bounded scenario rise
-births_rise : (scenario : Scenario) → IsBounded scenario → Rises 0 (births as_nodes scenario)
-births_rise scenario bounded =
+-- the births of a well formed scenario rise
+births_rise : (scenario : Scenario) → IsWellFormed scenario → Rises 0 (births as_nodes scenario)
+births_rise scenario formed =
     let clients : Rises 32 (client_seats scenario.groups scenario.clients) =
-    clients_rise_any scenario.groups scenario.clients (λ k d lt. omega (arith, (bounded.clients k d lt).0.0)) bounded.ascending in
+    clients_rise_any scenario.groups scenario.clients (λ k d lt. omega (arith, (formed.clients k d lt).0)) formed.ascending in
     rise_on 0 32 _ (client_seats scenario.groups scenario.clients) (omega arith) (nodes_rise scenario.groups scenario.policy 0 1 scenario.nodes (omega arith))
-    (nodes_within scenario.groups scenario.policy 32 1 scenario.nodes (omega (arith, bounded.nodes.1))) clients
+    (nodes_within scenario.groups scenario.policy 32 1 scenario.nodes (omega (arith, formed.nodes.1))) clients
 
 -- so they have different numbers
+pub formed_apart : (scenario : Scenario) → IsWellFormed scenario → are_apart (births as_nodes scenario) ≡ true
+formed_apart scenario formed = apart_rising 0 (births as_nodes scenario) (births_rise scenario formed)
+
 pub all_apart : (scenario : Scenario) → IsBounded scenario → are_apart (births as_nodes scenario) ≡ true
-all_apart scenario bounded = apart_rising 0 (births as_nodes scenario) (births_rise scenario bounded)
+all_apart scenario bounded = formed_apart scenario (bounded_is_formed scenario bounded)
 
 -- and numbers from 1 to 96
 pub all_numbered : (scenario : Scenario) → IsBounded scenario → All (λ (seat : Seat Player). (0 < seat.who) × (seat.who ≤ most_actor)) (births as_nodes scenario)
 all_numbered scenario bounded =
-    let clients : Within most_actor (client_seats scenario.groups scenario.clients) = clients_within_any scenario.groups scenario.clients bounded.clients in
-    between 0 most_actor (births as_nodes scenario) (births_rise scenario bounded)
+    let formed = bounded_is_formed scenario bounded in
+    let clients : Within most_actor (client_seats scenario.groups scenario.clients) = clients_within_any scenario.groups scenario.clients formed.clients in
+    between 0 most_actor (births as_nodes scenario) (births_rise scenario formed)
     (within_on most_actor _ (client_seats scenario.groups scenario.clients) (nodes_within scenario.groups scenario.policy most_actor 1 scenario.nodes (omega (arith, bounded.nodes.1))) clients)

@@ -12,12 +12,13 @@ pub use Rattle.sc_law_groups.proofs.WholeProofs.Growing.{grown}
 pub use Rattle.sc_law_groups.proofs.WholeProofs.LawfulJournals.{StepsKeep, holds}
 pub use Rattle.sc_law_groups.proofs.WholeProofs.Members.{members_stay_rosters}
 pub use Rattle.sc_law_groups.proofs.WholeProofs.Scheduled.{orders_allowed}
-pub use Rattle.sc_law_groups.proofs.WholeProofs.Seats.{all_apart}
+pub use Rattle.sc_law_groups.proofs.WholeProofs.Seats.{all_apart, formed_apart}
 pub use Rattle.sc_law_groups.proofs.WholeProofs.LawfulSoundness.{lawful_journals_decide_in_turn, fewer_orders}
 pub use Rattle.sc_law_groups.proofs.WholeProofs.Speaking.{stands_heard, stands_offer, stands_watch}
 pub use Rattle.sc_law_groups.proofs.WholeProofs.Starts.{bases_from, first_and_others}
 pub use Rattle.sc_law_groups.proofs.WholeProofs.StoryWalks.{StoryParts, stories_hold}
 pub use Rattle.sc_law_groups.proofs.WholeProofs.JournalsInTurn.{newborn_is_new, Holds}
 pub use Rattle.sc_law_groups.proofs.WholeProofs.LineGroups.{of_up_to, in_up_to, group_place, right_in}
-pub use Rattle.sc_law_groups.proofs.WholeProofs.WholeLaws.{lawful_journals_are_sound, valid_journals_are_sound, valid_entries_are_logs}
+pub use Rattle.sc_law_groups.proofs.WholeProofs.WholeLaws.{lawful_journals_are_sound, valid_journals_are_sound, valid_entries_are_logs, well_formed_journals_are_sound}
 pub use Rattle.sc_law_groups.proofs.WholeProofs.StartLaws.{valid_scenarios_begin_well}
+pub use Rattle.sc_law_groups.proofs.WholeProofs.StartValid.{bounded_is_formed}

@@ -9,3 +9,4 @@ pub use Rattle.sc_law_groups.specs.whole.StartLaws.{ValidScenariosBeginWell}
 pub use Rattle.sc_law_groups.specs.whole.Texts.{election_text, join_text, two_text, split_text}
 pub use Rattle.sc_law_groups.specs.whole.TwoGroups.{two_scenario, two_example}
 pub use Rattle.sc_law_groups.specs.whole.Valid.{ValidJournalsAreSound, ValidEntriesAreLogs}
+pub use Rattle.sc_law_groups.specs.whole.WellFormed.{IsWellFormed, GivesBoundedOrder, BoundedScenariosAreWellFormed, WellFormedJournalsAreSound}

@@ -1,0 +1,2 @@
+pub mod RowsFollowDeeds
+pub mod CarriedDeeds

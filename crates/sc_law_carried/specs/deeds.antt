@@ -1,0 +1,5 @@
+pub mod Deeds
+pub mod Carriers
+pub mod CarriedRows
+pub mod DeedLaws
+pub mod DeedDefinitions

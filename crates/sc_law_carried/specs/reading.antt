@@ -1,0 +1,5 @@
+pub mod ReadLines
+pub mod ReadRequests
+pub mod ReadScenarios
+pub mod ReadingLaws
+pub mod ReadingDefinitions
