@@ -1,0 +1,1 @@
+"""Stable storage: the file of inputs of a machine, and who waits for its syncs."""

@@ -1,0 +1,84 @@
+"""Syncs in a thread of their own: inputs that come while one runs share the next."""
+
+import queue
+import sys
+import threading
+
+SOON = 0.02  # seconds that a line may wait for which nobody waits
+
+
+class Syncing:
+    """Numbers lines from 1 as they come, and says up to which number they are on stable storage.
+
+    `on_synced(number)` is called in the loop. After a fault `on_fault(fault)` is, once, and nothing
+    is written any more: what the file has is read anew by a process that begins again.
+    """
+
+    def __init__(self, loop, file, on_synced, on_fault):
+        self.loop, self.file, self.on_synced, self.on_fault = loop, file, on_synced, on_fault
+        self.lines, self.taken = [], 0
+        self.is_due = self.is_busy = self.is_over = False
+        self.later = None
+        self.jobs = queue.SimpleQueue()
+        self.count, self.syncs = 0, 0
+        # who waits for the interpreter behind a sync is not to wait for 5 ms
+        sys.setswitchinterval(0.0002)
+        self.thread = threading.Thread(target=self.work, daemon=True)
+        self.thread.start()
+
+    def add(self, line, can_wait=False):
+        """Takes a line with its line feed, and returns its number. One that can wait is synced with the next ones, or soon."""
+        self.lines.append(line)
+        self.count += 1
+        if not can_wait:
+            self.hurry()
+        elif self.later is None:
+            self.later = self.loop.call_later(SOON, self.hurry)
+        return self.count
+
+    def hurry(self):
+        """Something waits for what was taken so far."""
+        if not self.is_due:
+            self.is_due = True
+            if not self.is_busy:
+                self.loop.call_soon(self.begin)
+
+    def begin(self):
+        if self.later is not None:
+            self.later.cancel()
+            self.later = None
+        self.is_due = False
+        if self.lines and not self.is_busy and not self.is_over:
+            self.is_busy = True
+            self.jobs.put((self.lines, self.count))
+            self.lines = []
+
+    def work(self):
+        while True:
+            job = self.jobs.get()
+            if job is None:
+                return
+            lines, upto = job
+            try:
+                self.file.append(lines)
+            except OSError as fault:
+                self.loop.call_soon_threadsafe(self.failed, fault)
+                return
+            self.loop.call_soon_threadsafe(self.done, upto)
+
+    def done(self, upto):
+        self.is_busy = False
+        self.syncs += 1
+        if self.is_due:
+            self.begin()
+        self.on_synced(upto)
+
+    def failed(self, fault):
+        self.is_over = True
+        self.on_fault(fault)
+
+    def close(self):
+        """Ends the thread behind the sync that runs. What was not begun is dropped, as by a crash."""
+        self.is_over = True
+        self.jobs.put(None)
+        self.thread.join()
