@@ -18,3 +18,4 @@ pub mod CalmRowLaws
 pub mod SentMail
 pub mod PassedOrders
 pub mod SettledOrders
+pub mod OrdersInQuiet

@@ -91,4 +91,4 @@ pub use Rattle.sc_live_answers.specs.PlayerViews.{ViewsAgree}
 pub use Rattle.sc_live_answers.specs.LeaderVotes.{IsTrueEntry, IsOrdersAlone, StagesExpectWork, VotesAreFound, WorkExpects}
 pub use Rattle.sc_live_answers.specs.WaitingWork.{DeliveriesKeepWork, OrdersBeginWork, WorkStandsAlone, IsGuidedRow, AreAtWork, IsTaskOf}
 pub use Rattle.sc_live_answers.specs.YoungGroups.{YoungGroupsStay, IsUnanswered}
-pub use Rattle.sc_live_answers.specs.ReportedOrders.{IsTold, IsRefusedIn, IsVotedDown, IsRefusalSent, IsReported, AreOrdersReported, SettledOrdersAreReported, SettledJournalsReport, IsGiven, AreReported, HoldsOrder, Waits, Coordinates, IsOrderHeld}
+pub use Rattle.sc_live_answers.specs.ReportedOrders.{IsTold, IsRefusedIn, IsVotedDown, IsRefusalSent, IsReported, AreOrdersReported, SettledOrdersAreReported, SettledJournalsReport, TimelyJournalsReport, IsGiven, AreReported, HoldsOrder, Waits, Coordinates, IsOrderHeld}

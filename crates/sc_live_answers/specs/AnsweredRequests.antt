@@ -8,9 +8,9 @@ use Rattle.sc_meaning.specs.sound.SoundDefinitions.{births, system_of, schedule,
 use Rattle.sc_live_orderly.specs.OrderlyDefinitions.{AreInTime}
 use Rattle.sc_live_steps.specs.calm.CalmDefinitions.{Chart, players, Rows}
 use Rattle.sc_live_journals.specs.charts.ChartDefinitions.{chart_at}
-use Rattle.sc_live_plain.specs.PlainDefinitions.{IsQuietJournal, AreAnswered, orders_of, IsCalm, IsCalmAtBudget}
+use Rattle.sc_live_plain.specs.PlainDefinitions.{IsQuietJournal, AreAnswered, orders_of, HasCalmLines, IsCalm, IsCalmAtBudget}
 use Rattle.sc_live_answers.specs.LineEnds.{AreCharted}
-use Rattle.sc_live_answers.specs.ReportedOrders.{SettledJournalsReport}
+use Rattle.sc_live_answers.specs.ReportedOrders.{SettledJournalsReport, TimelyJournalsReport}
 
 -- in each lawful journal of a valid calm scenario at its budget no line of deliveries is cut off with mail pending
 abbrev pub CalmLinesSettle : Type 0
@@ -36,10 +36,10 @@ SettledJournalsRest =
     → Lawful as_nodes words scenario rows → unsettled (system_of as_nodes words scenario) (schedule scenario) rows ≡ false → length rows ≤ 2 ^ 28
     → is_quiet (system_of as_nodes words scenario) rows ≡ true → IsQuietJournal words scenario first rows
 
--- A lawful journal of a valid calm scenario whose rows come in time, with no more rows than slots and rounds are for, is as a quiet journal asks it where no mail is pending.
+-- A lawful journal of a valid scenario of calm lines whose rows come in time, with no more rows than slots and rounds are for, is as a quiet journal asks it where no mail is pending.
 abbrev pub TimelyJournalsRest : Type 0
 TimelyJournalsRest =
-    (words : ℕ → ℕ → ℕ × ℕ) (scenario : Scenario) (first : Base) (others : List Base) (rows : List (Row Mail OrderLine)) → IsValid scenario → IsCalm scenario → scenario.groups ≡ first ∷ others
+    (words : ℕ → ℕ → ℕ × ℕ) (scenario : Scenario) (first : Base) (others : List Base) (rows : List (Row Mail OrderLine)) → IsValid scenario → HasCalmLines scenario → scenario.groups ≡ first ∷ others
     → Lawful as_nodes words scenario rows → AreInTime (system_of as_nodes words scenario) rows → length rows ≤ 2 ^ 28
     → is_quiet (system_of as_nodes words scenario) rows ≡ true → IsQuietJournal words scenario first rows
 
@@ -57,10 +57,11 @@ charts_of words scenario = chart_at (orders_of scenario + 1) (length scenario.gr
 abbrev pub CalmJournalsAreCharted : Type 0
 CalmJournalsAreCharted = (words : ℕ → ℕ → ℕ × ℕ) (scenario : Scenario) → IsValid scenario → IsCalmAtBudget scenario → 1 ≤ orders_of scenario → AreCharted words scenario (charts_of words scenario)
 
--- calm journals have charts by which the potential falls with each delivery, each of them with no mail pending is a quiet journal, and where no line was cut off the results of its orders are reported
+-- calm journals have charts by which the potential falls with each delivery, each of them with no mail pending is a quiet journal, and where no line was cut off, or the rows come in time, the results of its orders are reported
 pub record CalmJournalsGoOn : Type 0 where
   pub charted : CalmJournalsAreCharted
   pub rests : CalmJournalsRest
   pub settled : SettledJournalsRest
   pub timely : TimelyJournalsRest
   pub reported : SettledJournalsReport
+  pub timely_reported : TimelyJournalsReport

@@ -6,7 +6,7 @@ use Rattle.sc_live_orderly.specs.OrderlyDefinitions.{GiveAllowedOrders}
 use Rattle.sc_scenario.specs.declared.scenario.scenarios.Scenario.{Scenario}
 use Rattle.sc_scenario.specs.scenario.Definitions.{IsValid}
 use Rattle.sc_meaning.specs.sound.SoundDefinitions.{as_nodes, Lawful}
-use Rattle.sc_live_plain.specs.PlainDefinitions.{IsCalm}
+use Rattle.sc_live_plain.specs.PlainDefinitions.{HasCalmLines}
 
 -- whether an order names nodes of a scenario with this number of nodes, and positions of the circle
 abbrev pub names_nodes : ℕ → Order → Bool
@@ -21,8 +21,8 @@ names_nodes nodes (Migrate group node) = nat_le 1 node && nat_le node nodes
 abbrev pub may_be_given : Scenario → ℕ → OrderLine → Bool
 may_be_given scenario node line = (nat_le 1 node && nat_le node scenario.nodes) && (names_nodes scenario.nodes line.order && nat_le 1 line.number)
 
--- in each lawful journal of a valid calm scenario at its budget each order that a row gives is one that a line may give
+-- in each lawful journal of a valid scenario of calm lines each order that a row gives is one that a line may give
 abbrev pub OrdersMayBeGiven : Type 0
 OrdersMayBeGiven =
     (words : ℕ → ℕ → ℕ × ℕ) (scenario : Scenario) (journal : List (Row Mail OrderLine))
-    → IsValid scenario → IsCalm scenario → Lawful as_nodes words scenario journal → GiveAllowedOrders (may_be_given scenario) journal
+    → IsValid scenario → HasCalmLines scenario → Lawful as_nodes words scenario journal → GiveAllowedOrders (may_be_given scenario) journal

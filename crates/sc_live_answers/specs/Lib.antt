@@ -93,3 +93,4 @@ pub mod WaitingWork
 pub mod YoungGroups
 pub mod AnswerDefinitions
 pub mod ReportedOrders
+pub mod OrdersInQuiet

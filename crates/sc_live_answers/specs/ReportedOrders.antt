@@ -8,13 +8,14 @@ use Rattle.sc_node_table.specs.NodeDefinitions.{ReplicaState}
 use Rattle.sc_live_journals.specs.rows.RowDefinitions.{view_at}
 use Rattle.sc_actor.specs.declared.rows.Event.TheVariants.{Told as GivesOrder}
 use Rattle.sc_actor.specs.Definitions.{mails, is_quiet, unsettled}
+use Rattle.sc_live_orderly.specs.OrderlyDefinitions.{AreInTime}
 use Rattle.sc_scenario.specs.scenario.Definitions.{IsValid}
 use Rattle.sc_scenario.specs.declared.scenario.scenarios.Scenario.{Scenario}
 use Rattle.sc_scenario.specs.declared.scenario.scenarios.SchedLine.TheVariants.{Told as OrderOf}
 use Rattle.sc_meaning.specs.sound.SoundDefinitions.{Player, births, system_of, schedule, as_nodes, Lawful, Whole}
 use Rattle.sc_live_steps.specs.calm.CalmDefinitions.{Rows}
 use Rattle.sc_live_steps.specs.orders.OrderDefinitions.{Turn, Work, Asking, Here, Scene, IsOrder, Stage, Still, Ordered, Asks, SentOn, Weighs, Replied, Recorded, Closes, ClosesBoth}
-use Rattle.sc_live_plain.specs.PlainDefinitions.{IsCalm}
+use Rattle.sc_live_plain.specs.PlainDefinitions.{HasCalmLines, IsCalm}
 
 -- one of these mails reports this result of the order with this number
 pub record IsTold (sent : List Mail) (number : ℕ) (result : OrderResult) : Type 0 where
@@ -79,6 +80,12 @@ abbrev pub SettledJournalsReport : Type 0
 SettledJournalsReport =
     (words : ℕ → ℕ → ℕ × ℕ) (scenario : Scenario) (rows : List (Row Mail OrderLine)) → IsValid scenario → IsCalm scenario → Lawful as_nodes words scenario rows
     → unsettled (system_of as_nodes words scenario) (schedule scenario) rows ≡ false → length rows ≤ 2 ^ 28 → is_quiet (system_of as_nodes words scenario) rows ≡ true → AreReported (births as_nodes scenario) rows
+
+-- in a lawful journal of a valid scenario of calm lines whose rows come in time, with no more rows than slots and rounds are for, the result of each order so far is reported where no mail is pending
+abbrev pub TimelyJournalsReport : Type 0
+TimelyJournalsReport =
+    (words : ℕ → ℕ → ℕ × ℕ) (scenario : Scenario) (rows : List (Row Mail OrderLine)) → IsValid scenario → HasCalmLines scenario → Lawful as_nodes words scenario rows
+    → AreInTime (system_of as_nodes words scenario) rows → length rows ≤ 2 ^ 28 → is_quiet (system_of as_nodes words scenario) rows ≡ true → AreReported (births as_nodes scenario) rows
 
 -- a group's part in an order holds the order: the order's command is the one work of the group's leader, or the group asks others in the order's transaction
 pub data HoldsOrder (here : Here) : Type 0 where

@@ -1,6 +1,7 @@
 //! Calm scenarios are answered, at their budget or where no line was cut off. Definitions and laws, no logic.
 ghost use Rattle.sc_live_answers.specs.AnsweredRequests.{CalmJournalsGoOn, CalmLinesSettle, CalmRequestsAreAnswered, SettledRequestsAreAnswered};
 ghost use Rattle.sc_live_plain.specs.LastLine.{LastLinesAnswer};
+ghost use Rattle.sc_live_answers.specs.OrdersInQuiet.{OrdersInQuietAreReported, StartedRequestsAreAnswered};
 ghost use Rattle.sc_live_answers.specs.ReportedOrders.{SettledOrdersAreReported};
 ghost use Rattle.sc_live_plain.specs.PlainLaws.{PlainRequestsAreAnswered};
 
@@ -84,5 +85,19 @@ pub fn last_lines_answer()
     valid_scenarios_are_bounded();
     valid_journals_are_sound();
     last_lines_end_quiet();
+    calm_journals_go_on();
+}
+
+/// Proves, of each lawful journal of a valid scenario whose lines start clients, deliver pending
+/// mail, of one actor the first, or give orders, and that has at most 2^28 rows: where each order is
+/// given while no mail is pending, each client starts where no mail was pending since the last
+/// order, and no mail is pending at the end, every request of a client that has started is answered,
+/// and, where the journal is whole, a result of each order is reported to the desk.
+pub fn orders_in_quiet_are_answered()
+    ensures requests { StartedRequestsAreAnswered }
+    ensures orders { OrdersInQuietAreReported }
+{
+    valid_scenarios_are_bounded();
+    valid_journals_are_sound();
     calm_journals_go_on();
 }

@@ -7,5 +7,6 @@ mod answered_laws;
 
 pub use answered_laws::{
     calm_journals_go_on, calm_lines_settle, calm_requests_are_answered, last_lines_answer,
-    plain_journals_are_answered, settled_orders_are_reported, settled_requests_are_answered,
+    orders_in_quiet_are_answered, plain_journals_are_answered, settled_orders_are_reported,
+    settled_requests_are_answered,
 };

@@ -16,6 +16,7 @@ pub mod OrderlyLemmas
 pub mod PassedTasks
 pub mod LastLineQuiet
 pub mod StartedActors
+pub mod WholeJournals
 pub mod PlainRowsInTime
 pub mod PendingMail
 pub mod TakenTurns

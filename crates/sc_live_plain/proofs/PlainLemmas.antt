@@ -1,7 +1,7 @@
 -- The lemmas of this crate that others cite, under one name.
 pub use Rattle.sc_live_plain.proofs.PlainRowsProofs.Lists.{map_among, some_is}
 pub use Rattle.sc_live_plain.proofs.PlainRowsProofs.Sums.{shares, sum_mapped, none_together}
-pub use Rattle.sc_live_plain.proofs.PlainProofs.SpacedOrders.{calm_spaced as calm_lines_are_spaced, roomy_calm as roomy_scenarios_are_calm, plain_lines_calm}
+pub use Rattle.sc_live_plain.proofs.PlainProofs.SpacedOrders.{calm_spaced as calm_lines_are_spaced, roomy_calm as roomy_scenarios_are_calm, plain_lines_calm, schedule_calm}
 pub use Rattle.sc_live_plain.proofs.PlainProofs.PlainSteps.{of_player}
 pub use Rattle.sc_live_plain.proofs.PlainProofs.PlainSteps.{node_born, node_number, in_numbers, to_numbers, client_number, value_others, gone_others, started_still, each_numbered, one_of_sum}
 pub use Rattle.sc_live_plain.proofs.PlainRowsProofs.MailMarks.{taken_once}

@@ -58,6 +58,10 @@ AllowsCalmly budget (Tick who) = ⊥
 AllowsCalmly budget (Crash node) = ⊥
 AllowsCalmly budget (Storm number most) = ⊥
 
+-- The scenario's lines start clients, deliver pending mail, of one actor the first, or give orders.
+abbrev pub HasCalmLines : Scenario → Type 0
+HasCalmLines scenario = Each (AllowsCalmly 0) scenario.lines
+
 -- whether a line of deliveries has to stand between two lines: one gives an order, and the other gives an order or starts a client
 abbrev pub are_parted : SchedLine → SchedLine → Bool
 are_parted one other = (gives_order one && (gives_order other || starts other)) || (starts one && gives_order other)

@@ -2,7 +2,8 @@
 use Rattle.std.specs.Prelude.{◌≡◌, ℕ, ◌^◌, ◌≤◌, true, List, [], ◌∷◌, ◌++◌, length}
 use Rattle.sc_base.specs.Definitions.{Each}
 use Rattle.sc_node_table.specs.Values.{OrderLine, Mail, Row}
-use Rattle.sc_actor.specs.Definitions.{is_quiet}
+use Rattle.sc_mail.specs.Definitions.{body_weight}
+use Rattle.sc_actor.specs.Definitions.{is_quiet, journal_bytes}
 use Rattle.sc_scenario.specs.declared.scenario.scenarios.Scenario.{Scenario}
 use Rattle.sc_scenario.specs.declared.scenario.scenarios.SchedLine.{SchedLine}
 use Rattle.sc_scenario.specs.scenario.Definitions.{IsValid}
@@ -31,3 +32,10 @@ LastLinesAnswer =
     (words : ℕ → ℕ → ℕ × ℕ) (scenario : Scenario) (journal : List (Row Mail OrderLine))
     → IsValid scenario → EndsAtBudget scenario → Lawful as_nodes words scenario journal → Whole as_nodes words scenario journal → length journal ≤ 2 ^ 28
     → AreAnswered scenario journal
+
+-- no lawful journal of a valid plain scenario whose last line is at the budget counts more than 2^30 bytes, the limit of journals
+abbrev pub LastLinesAreLight : Type 0
+LastLinesAreLight =
+    (words : ℕ → ℕ → ℕ × ℕ) (scenario : Scenario) (journal : List (Row Mail OrderLine))
+    → IsValid scenario → EndsAtBudget scenario → Lawful as_nodes words scenario journal
+    → journal_bytes (λ mail. body_weight mail.body) journal ≤ 2 ^ 30

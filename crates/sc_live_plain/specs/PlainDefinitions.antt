@@ -7,7 +7,7 @@ pub use Rattle.sc_live_plain.specs.LeaderMail.{Mark, Asks, Votes, Teaches, Other
 pub use Rattle.sc_live_plain.specs.LeaderMailInJournals.{replica_at, next_in, voters_in, votes_in, view_at, marks_at, IsGroupAt, marks_for, replicas_of}
 pub use Rattle.sc_live_plain.specs.LeaderMailRows.{IsOther, IsTaken, MovesBy, How, IsNew, IsCount, IsElsewhere, Leads, IsIdle, Accepts, Learns, IsOffered, IsCounted, Moves}
 pub use Rattle.sc_live_plain.specs.Budget.{requests_of, budget_of, AllowsDeliveries, delivers, IsAtBudget, StartsBeforeDeliveries, AreAnswered}
-pub use Rattle.sc_live_plain.specs.CalmBudget.{gives_order, starts, are_parted, calm_budget_of, AllowsCalmly, CalmLinesAreSpaced, IsCalmWith, IsCalm, IsCalmAtBudget, RoomyScenariosAreCalm, orders_of}
+pub use Rattle.sc_live_plain.specs.CalmBudget.{gives_order, starts, are_parted, calm_budget_of, AllowsCalmly, HasCalmLines, CalmLinesAreSpaced, IsCalmWith, IsCalm, IsCalmAtBudget, RoomyScenariosAreCalm, orders_of}
 pub use Rattle.sc_live_plain.specs.CalmClients.{CanBeAsked, IsCalmClient, IsLinkedSetting, BeginsBy, StaysCalm, Knows, IsRingOf}
 pub use Rattle.sc_live_plain.specs.KnownGroups.{start_known, FollowedBy, AreRoundRing, start_of, KnowsFirst, ClientsLearnInTurn}
 pub use Rattle.sc_live_plain.specs.CalmNodes.{Setting, IsHome, IsSetting, KnowsBetter, IsCalmNode, IsCalmMail, IsAsideBody, ComesInTime, HasGoneTo, IsNearer, IsAsideAnswer, NodesStayCalm}
@@ -18,4 +18,4 @@ pub use Rattle.sc_live_steps.specs.calm.CalmDefinitions.{waiting_one}
 pub use Rattle.sc_live_plain.specs.PlainClients.{IsBegun, begun_of, IsWaiting, IsResting}
 pub use Rattle.sc_live_plain.specs.PlainMail.{Requests, IsPlainCall, IsPlainCommand, IsPlainBody, IsPlainMail, IsWrittenValue, IsPlainAnswer, written_by}
 pub use Rattle.sc_live_plain.specs.PlainNodes.{AreTaken, IsPlainLeader, IsPlainFollower, IsPlainVoter, IsPlainReplica, HasOffered, IsPlainAt, IsSettled, IsPlainNode, IsPlainGroup, IsPlainFlight, IsDue, takers, IsLeading}
-pub use Rattle.sc_live_plain.specs.LastLine.{EndsAtBudget, LastLinesEndQuiet, LastLinesAnswer}
+pub use Rattle.sc_live_plain.specs.LastLine.{EndsAtBudget, LastLinesEndQuiet, LastLinesAreLight, LastLinesAnswer}

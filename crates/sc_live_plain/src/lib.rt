@@ -8,7 +8,7 @@
 //! no mail pending, from which on clients may ask.
 #![tactic(auto)]
 
-ghost use Rattle.sc_live_plain.specs.LastLine.{LastLinesEndQuiet};
+ghost use Rattle.sc_live_plain.specs.LastLine.{LastLinesAreLight, LastLinesEndQuiet};
 ghost use Rattle.sc_live_plain.specs.PlainLaws.{MadeScenariosAreAtBudget, PlainJournalsAreLight, PlainLinesEndQuiet};
 
 use sc_scenario::valid_scenarios_are_bounded;
@@ -33,6 +33,15 @@ pub fn last_lines_end_quiet()
 /// has few rows and little mail, and requests are short.
 pub fn plain_journals_are_light()
     ensures { PlainJournalsAreLight }
+{
+    valid_scenarios_are_bounded();
+}
+
+/// Proves that no lawful journal of a valid plain scenario whose last line alone is at the budget
+/// counts more than 2^30 bytes, the limit of journals: that line has room for at most 1,000,000
+/// deliveries, which bounds the budget.
+pub fn last_lines_are_light()
+    ensures { LastLinesAreLight }
 {
     valid_scenarios_are_bounded();
 }

@@ -1,18 +1,18 @@
--- Each order that a journal of a valid calm scenario gives is such as its lines may give.
+-- Each order that a journal of a valid scenario of calm lines gives is such as its lines may give.
 use Rattle.std.proofs.Common.{◌≡◌, ℕ, true, List, [], ◌∷◌, map, refl, ◌^◌, ◌&&◌, leb}
 use Rattle.std.proofs.lemmas.Bool.{and_from, le-leb, lt-ltb}
 use Rattle.sc_base.specs.Definitions.{Each}
 use Rattle.sc_node_table.specs.Values.{Order, Merge, Repart, Migrate}
 use Rattle.sc_words.specs.declared.commands.orders.Order.TheVariants.{Join, Leave, Split}
-use Rattle.sc_live_orderly.specs.OrderlyDefinitions.{Nothing, LinesGiveAllowedOrders}
-use Rattle.sc_live_orderly.proofs.GivenOrders.{spaced_are_calm, told_so}
+use Rattle.sc_live_orderly.specs.OrderlyDefinitions.{LinesGiveAllowedOrders}
+use Rattle.sc_live_orderly.proofs.GivenOrders.{told_so}
 use Rattle.sc_words.proofs.PaxosProofs.PaxosLemmas.{Each-from_All}
 use Rattle.sc_scenario.specs.scenario.Definitions.{IsUpTo, IsBoundedOrder, IsBoundedLine, ValidScenariosAreBounded}
 use Rattle.sc_scenario.specs.declared.scenario.scenarios.Scenario.{Scenario}
 use Rattle.sc_scenario.specs.declared.scenario.scenarios.SchedLine.{SchedLine}
 use Rattle.sc_scenario.specs.declared.scenario.scenarios.SchedLine.TheVariants.{Go, Deliver, Drop, Again, Tick, Crash, Told, Settle, Free, Storm}
 use Rattle.sc_meaning.specs.sound.SoundDefinitions.{line_of, schedule, as_nodes, system_of}
-use Rattle.sc_live_plain.specs.PlainDefinitions.{CalmLinesAreSpaced}
+use Rattle.sc_live_plain.proofs.PlainLemmas.{schedule_calm}
 use Rattle.sc_live_answers.specs.GivenOrders.{names_nodes, may_be_given, OrdersMayBeGiven}
 
 up_to : (most n : ℕ) → IsUpTo most n → (leb 1 n && leb n most) ≡ true
@@ -44,7 +44,7 @@ given_so scenario (Settle most ∷ lines) bounded = (tt, given_so scenario lines
 given_so scenario (Free most workers ∷ lines) bounded = (tt, given_so scenario lines bounded.1)
 given_so scenario (Storm number most ∷ lines) bounded = (tt, given_so scenario lines bounded.1)
 
-pub orders_so : ValidScenariosAreBounded → CalmLinesAreSpaced → OrdersMayBeGiven
-orders_so all_bounded spaced words scenario journal valid calm lawful =
-    told_so (system_of as_nodes words scenario) (schedule scenario) (spaced_are_calm Nothing (schedule scenario) (spaced 0 scenario calm).0) (may_be_given scenario)
+pub orders_so : ValidScenariosAreBounded → OrdersMayBeGiven
+orders_so all_bounded words scenario journal valid calm lawful =
+    told_so (system_of as_nodes words scenario) (schedule scenario) (schedule_calm scenario.lines calm) (may_be_given scenario)
     (given_so scenario scenario.lines (Each-from_All (IsBoundedLine scenario.nodes scenario.clients) scenario.lines (all_bounded scenario valid).lines)) journal lawful

@@ -11,7 +11,7 @@ use Rattle.sc_live_answers.proofs.AnswersProofs.ShortJournals.{journals_short}
 
 -- In each lawful journal of a valid calm scenario each order that is given is one for a node of the scenario's, which names nodes and positions that there are.
 pub orders_may_be_given : OrdersMayBeGiven
-orders_may_be_given = orders_so valid_scenarios_are_bounded calm_lines_are_spaced
+orders_may_be_given = orders_so valid_scenarios_are_bounded
 
 -- In each lawful journal of a valid calm scenario at its budget no line of deliveries is cut off, where there are charts by which each row finds what it needs and quiet journals rest.
 pub calm_lines_end_quiet : CalmLinesEndQuiet

@@ -7,7 +7,7 @@ use Rattle.sc_base.specs.Definitions.{Each}
 use Rattle.sc_node_table.specs.Values.{Base, OrderLine, Mail, MailBody, Told, Node, Client, Seat, Row}
 use Rattle.sc_actor.specs.Definitions.{mails, copies, System, numbers_of, is_delivery, is_quiet, unsettled}
 use Rattle.sc_live_orderly.specs.OrderlyDefinitions.{deliveries, orders, is_born, HasRoom, under_way, AreInTime, AreSpaced, Nothing, IsMeasure, orders_given}
-use Rattle.sc_live_orderly.proofs.GivenOrders.{few_told, spaced_are_calm}
+use Rattle.sc_live_orderly.proofs.GivenOrders.{few_told}
 use Rattle.sc_live_orderly.proofs.OrderlyLemmas.{count_push, rows_in_time, deliveries_and_orders, settled_in_time, uncut_before}
 use Rattle.sc_words.proofs.PaxosProofs.PaxosLemmas.{Each-among, Each-from}
 use Rattle.sc_actor.proofs.Lemmas.{journal_counts}
@@ -19,8 +19,8 @@ use Rattle.sc_law_groups.proofs.WholeProofs.WholeLemmas.{all_apart}
 use Rattle.sc_law_groups.specs.whole.WholeDefinitions.{ValidJournalsAreSound}
 use Rattle.sc_live_steps.specs.calm.CalmDefinitions.{Chart, players, run_owes, KeptCalmIsMeasured, IsDelivered, RestingOwesLittle, births_owe, Rows}
 use Rattle.sc_live_journals.specs.mail.MailDefinitions.{IsPosted, IsPlayers, IsNodesBody, IsClientsBody, MailIsPosted, DesksAreNotBorn}
-use Rattle.sc_live_plain.specs.PlainDefinitions.{IsQuietJournal, budget_of, orders_of, calm_budget_of, IsCalm, IsCalmAtBudget, RoomyScenariosAreCalm, CalmLinesAreSpaced, PlainLinesEndQuiet, PlainJournalsAreLight, PlainRequestsAreAnswered}
-use Rattle.sc_live_plain.proofs.PlainLemmas.{IsStage, stage, roomy_scenarios_are_calm}
+use Rattle.sc_live_plain.specs.PlainDefinitions.{IsQuietJournal, budget_of, orders_of, calm_budget_of, HasCalmLines, IsCalm, IsCalmAtBudget, RoomyScenariosAreCalm, CalmLinesAreSpaced, PlainLinesEndQuiet, PlainJournalsAreLight, PlainRequestsAreAnswered}
+use Rattle.sc_live_plain.proofs.PlainLemmas.{IsStage, stage, roomy_scenarios_are_calm, schedule_calm}
 use Rattle.sc_live_answers.specs.AnswerDefinitions.{charts_of, CalmJournalsAreCharted, CalmJournalsGoOn, CalmLinesSettle, CalmJournalsRest, SettledJournalsRest, TimelyJournalsRest, SettledRequestsAreAnswered, CalmRequestsAreAnswered, IsCalmJournal, IsPrefixOf, calm_deliveries_of, AreCharted, CalmLinesEndQuiet, CalmJournalsAreShort, AreReported}
 use Rattle.sc_live_answers.specs.GivenOrders.{OrdersMayBeGiven}
 use Rattle.sc_live_answers.proofs.AnswersProofs.AnsweredRequests.{answered_calmly}
@@ -65,7 +65,7 @@ pub record LineLaws : Type 0 where
   pub posted_law : MailIsPosted
   pub desk_law : DesksAreNotBorn
 
-module _ (segment : SegmentLaws) (rows_laws : RowLaws) (laws : LineLaws) (words : ℕ → ℕ → ℕ × ℕ) (scenario : Scenario) (valid : IsValid scenario) (calm : IsCalm scenario) where
+module _ (segment : SegmentLaws) (rows_laws : RowLaws) (laws : LineLaws) (words : ℕ → ℕ → ℕ × ℕ) (scenario : Scenario) (valid : IsValid scenario) (calm : HasCalmLines scenario) where
   abbrev all : List (Seat Player)
   all = births as_nodes scenario
 
@@ -78,7 +78,7 @@ module _ (segment : SegmentLaws) (rows_laws : RowLaws) (laws : LineLaws) (words 
   -- rows give no more orders than lines do
   told_low : (rows : Rows) → Lawful as_nodes words scenario rows → orders rows ≤ orders_of scenario
   told_low rows lawful =
-      let told = few_told s (schedule scenario) (spaced_are_calm Nothing (schedule scenario) (laws.spaced_law 0 scenario calm).0) rows lawful in
+      let told = few_told s (schedule scenario) (schedule_calm scenario.lines calm) rows lawful in
       let same = orders_same scenario.lines in
       omega (arith, told, same)
 
@@ -110,15 +110,23 @@ module _ (segment : SegmentLaws) (rows_laws : RowLaws) (laws : LineLaws) (words 
   pub rests_timely : (rows : Rows) → Lawful as_nodes words scenario rows → AreInTime s rows → length rows ≤ 2 ^ 28 → is_quiet s rows ≡ true → IsQuietJournal words scenario begins.first rows
   rests_timely rows lawful timely short quiet = rests_in rows (in_calm rows lawful timely short) quiet
 
+  -- in a quiet journal whose rows come in time the results of all orders are reported
+  pub reports_timely : (rows : Rows) → Lawful as_nodes words scenario rows → AreInTime s rows → length rows ≤ 2 ^ 28 → is_quiet s rows ≡ true → AreReported (births as_nodes scenario) rows
+  reports_timely rows lawful timely short quiet =
+      let fact = in_calm rows lawful timely short in
+      (rows_of.quiet_rests segment rows_laws words scenario begins.first begins.others (orders_of scenario + 1) (length scenario.groups + orders_of scenario) rows (frame rows fact) rows (whole rows) timely quiet).reported
+
+  -- where the lines part orders, a journal in which no line was cut off comes in time
+  settled_timely : IsCalm scenario → (rows : Rows) → Lawful as_nodes words scenario rows → unsettled s (schedule scenario) rows ≡ false → AreInTime s rows
+  settled_timely parted rows lawful uncut = settled_in_time s (schedule scenario) (laws.spaced_law 0 scenario parted).0 rows lawful uncut
+
   -- in a quiet journal in which no line was cut off the results of all orders are reported
-  pub reports_settled : (rows : Rows) → Lawful as_nodes words scenario rows → unsettled s (schedule scenario) rows ≡ false → length rows ≤ 2 ^ 28 → is_quiet s rows ≡ true → AreReported (births as_nodes scenario) rows
-  reports_settled rows lawful uncut short quiet =
-      let fact = in_calm rows lawful (settled_in_time s (schedule scenario) (laws.spaced_law 0 scenario calm).0 rows lawful uncut) short in
-      (rows_of.quiet_rests segment rows_laws words scenario begins.first begins.others (orders_of scenario + 1) (length scenario.groups + orders_of scenario) rows (frame rows fact) rows (whole rows) fact.timely quiet).reported
+  pub reports_settled : IsCalm scenario → (rows : Rows) → Lawful as_nodes words scenario rows → unsettled s (schedule scenario) rows ≡ false → length rows ≤ 2 ^ 28 → is_quiet s rows ≡ true → AreReported (births as_nodes scenario) rows
+  reports_settled parted rows lawful uncut short quiet = reports_timely rows lawful (settled_timely parted rows lawful uncut) short quiet
 
   -- a quiet journal in which no line was cut off rests
-  pub rests_settled : (rows : Rows) → Lawful as_nodes words scenario rows → unsettled s (schedule scenario) rows ≡ false → length rows ≤ 2 ^ 28 → is_quiet s rows ≡ true → IsQuietJournal words scenario begins.first rows
-  rests_settled rows lawful uncut short quiet = rests_timely rows lawful (settled_in_time s (schedule scenario) (laws.spaced_law 0 scenario calm).0 rows lawful uncut) short quiet
+  pub rests_settled : IsCalm scenario → (rows : Rows) → Lawful as_nodes words scenario rows → unsettled s (schedule scenario) rows ≡ false → length rows ≤ 2 ^ 28 → is_quiet s rows ≡ true → IsQuietJournal words scenario begins.first rows
+  rests_settled parted rows lawful uncut short quiet = rests_timely rows lawful (settled_timely parted rows lawful uncut) short quiet
 
   -- ---- at its budget
 
@@ -202,18 +210,19 @@ pub settled_rest : SegmentLaws → RowLaws → LineLaws → SettledJournalsRest
 settled_rest segment rows_laws laws words scenario first others rows valid calm groups lawful uncut short quiet =
     let s = stage scenario (rows_laws.all_bounded scenario valid) in
     let same : s.first ≡ first = (let e : s.first ∷ s.others ≡ first ∷ others = sym s.groups_are ∙ groups in cc) in
-    subst (λ (b : Base). IsQuietJournal words scenario b rows) same (rests_settled segment rows_laws laws words scenario valid calm rows lawful uncut short quiet)
+    subst (λ (b : Base). IsQuietJournal words scenario b rows) same (rests_settled segment rows_laws laws words scenario valid calm.lines calm rows lawful uncut short quiet)
 
 pub journals_go_on : SegmentLaws → RowLaws → LineLaws → KeptCalmIsMeasured → RestingOwesLittle → CalmJournalsGoOn
 journals_go_on segment rows_laws laws measured_law little_law = record {
   settled = settled_rest segment rows_laws laws;
   timely = timely_rest segment rows_laws laws;
-  reported = λ words scenario rows valid calm lawful uncut short quiet. reports_settled segment rows_laws laws words scenario valid calm rows lawful uncut short quiet;
-  charted = λ words scenario valid at some. charted segment rows_laws laws words scenario valid (laws.roomy_law.calm (calm_budget_of scenario) scenario at) at some;
+  reported = λ words scenario rows valid calm lawful uncut short quiet. reports_settled segment rows_laws laws words scenario valid calm.lines calm rows lawful uncut short quiet;
+  timely_reported = λ words scenario rows valid calm lawful timely short quiet. reports_timely segment rows_laws laws words scenario valid calm rows lawful timely short quiet;
+  charted = λ words scenario valid at some. charted segment rows_laws laws words scenario valid (laws.roomy_law.calm (calm_budget_of scenario) scenario at).lines at some;
   rests = λ words scenario first others rows valid at some groups lawful quiet. (
       let s = stage scenario (rows_laws.all_bounded scenario valid) in
       let same : s.first ≡ first = (let e : s.first ∷ s.others ≡ first ∷ others = sym s.groups_are ∙ groups in cc) in
-      subst (λ (b : Base). IsQuietJournal words scenario b rows) same (rests_lawful segment rows_laws laws words scenario valid (laws.roomy_law.calm (calm_budget_of scenario) scenario at) at some measured_law little_law rows lawful quiet));
+      subst (λ (b : Base). IsQuietJournal words scenario b rows) same (rests_lawful segment rows_laws laws words scenario valid (laws.roomy_law.calm (calm_budget_of scenario) scenario at).lines at some measured_law little_law rows lawful quiet));
 }
 
 pub lines_settle : CalmLinesEndQuiet → CalmJournalsAreCharted → PlainLinesEndQuiet → CalmLinesSettle

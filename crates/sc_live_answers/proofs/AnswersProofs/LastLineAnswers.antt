@@ -23,7 +23,7 @@ last_lines_answer all_bounded sound_law quiet_law rest_law words scenario journa
     let sys : System Player Mail OrderLine = system_of as_nodes words scenario in
     let plain = all_plain scenario ends in
     let timely = plain_in_time sys (schedule scenario) (lines_plain 0 scenario.lines plain) journal lawful in
-    let quiet = rest_law words scenario s.first s.others journal valid (plain_lines_calm 0 scenario plain) s.groups_are lawful timely short (quiet_law words scenario journal valid ends lawful whole) in
+    let quiet = rest_law words scenario s.first s.others journal valid (plain_lines_calm 0 scenario plain).lines s.groups_are lawful timely short (quiet_law words scenario journal valid ends lawful whole) in
     let seat : Seat Player = client_seat (route_of s.first) asks in
     let there : Among seat (births as_nodes scenario) =
     subst (Among seat) (sym s.seats) (Among-right seat (map (node_seat as_nodes scenario.groups scenario.policy) (numbers_from 1 scenario.nodes)) (map (client_seat (route_of s.first)) scenario.clients) (map_among (client_seat (route_of s.first)) scenario.clients asks a)) in

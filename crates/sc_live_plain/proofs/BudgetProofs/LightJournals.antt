@@ -1,5 +1,5 @@
 -- A plain journal counts few bytes: few rows, and little mail.
-use Rattle.std.proofs.Common.{◌≡◌, ℕ, ◌+◌, ◌≤◌, eqb, Bool, true, false, List, [], ◌∷◌, ◌++◌, length, map, fold, Option, Some, None, ◌⊎◌, inl, inr, refl, sym, ◌∙◌, ap, subst, arith, length-append}
+use Rattle.std.proofs.Common.{◌≡◌, ℕ, ◌+◌, ◌^◌, ◌≤◌, eqb, Bool, true, false, List, [], ◌∷◌, ◌++◌, length, map, fold, Option, Some, None, ◌⊎◌, inl, inr, refl, sym, ◌∙◌, ap, subst, arith, length-append}
 use Rattle.std.specs.Prelude.{find}
 use Rattle.std.specs.List.{flat_map, list_any}
 use Rattle.std.proofs.lemmas.Bool.{cond_both, or_left, or_right, eq-eqb}
@@ -10,20 +10,23 @@ use Rattle.sc_node_table.specs.Values.{OrderLine, Mail, MailBody, Request, Answe
 use Rattle.sc_mail.specs.Definitions.{body_weight}
 use Rattle.sc_actor.specs.declared.rows.Input.TheVariants.{Go as GoInput}
 use Rattle.sc_actor.specs.declared.schedules.Line.TheVariants as line
-use Rattle.sc_actor.specs.Definitions.{mails, is_delivery, System, numbers_of, row_of, acts, has_started, value, Task, Once, Settles, Frees, Storms, tasks_of, WalkPlace, onward, after_row, rest_of_all, place_after, start, is_over, MayAdd, IsLawful}
+use Rattle.sc_actor.specs.Definitions.{journal_bytes, mails, is_delivery, System, numbers_of, row_of, acts, has_started, value, Task, Once, Settles, Frees, Storms, tasks_of, WalkPlace, onward, after_row, rest_of_all, place_after, start, is_over, MayAdd, IsLawful}
 use Rattle.sc_actor.proofs.Lemmas.{mails-snoc, lawful-last}
-use Rattle.sc_words.proofs.PaxosProofs.PaxosLemmas.{Each-weaker, Each-from_All}
+use Rattle.sc_paxos_law.proofs.Lemmas.{Among-right}
+use Rattle.sc_words.proofs.PaxosProofs.PaxosLemmas.{Each-among, Each-weaker, Each-from_All}
 use Rattle.sc_node_table.specs.NodeDefinitions.{numbers_from, slots_ahead}
 use Rattle.sc_client_table.proofs.TableProofs.TurnLemmas.{sends_in_turn}
-use Rattle.sc_scenario.specs.scenario.Definitions.{most_deliveries, IsBoundedLine, ValidScenariosAreBounded}
+use Rattle.sc_scenario.specs.scenario.Definitions.{most_deliveries, IsBounded, IsBoundedLine, ValidScenariosAreBounded}
 use Rattle.sc_scenario.specs.declared.scenario.scenarios.Asks.{Asks}
 use Rattle.sc_scenario.specs.declared.scenario.scenarios.Scenario.{Scenario}
 use Rattle.sc_scenario.specs.declared.scenario.scenarios.SchedLine.{SchedLine}
 use Rattle.sc_scenario.specs.declared.scenario.scenarios.SchedLine.TheVariants as sched
-use Rattle.sc_meaning.specs.sound.SoundDefinitions.{Player, player_table, node_seat, client_seat, route_of, births, line_of, schedule, system_of, as_nodes}
-use Rattle.sc_live_orderly.specs.OrderlyDefinitions.{is_born, deliveries, SendsToActors}
+use Rattle.sc_meaning.specs.sound.SoundDefinitions.{Player, player_table, node_seat, client_seat, route_of, births, line_of, schedule, system_of, as_nodes, Lawful}
+use Rattle.sc_live_orderly.specs.OrderlyDefinitions.{IsPlainLine, is_born, deliveries, SendsToActors}
 use Rattle.sc_live_orderly.proofs.OrderlyLemmas.{mails_are_owed, goes_are_few, rows_are, by_rows, count_push}
-use Rattle.sc_live_plain.specs.PlainDefinitions.{AllowsDeliveries, budget_of, Frame, PlainJournalsAreLight, mail_owes, IsBegun, IsPlainBody, IsPlainMail}
+use Rattle.sc_live_plain.specs.PlainDefinitions.{AllowsDeliveries, delivers, budget_of, Frame, PlainJournalsAreLight, mail_owes, IsBegun, IsPlainBody, IsPlainMail}
+use Rattle.sc_live_plain.specs.LastLine.{LastLinesAreLight}
+use Rattle.sc_live_plain.proofs.BudgetProofs.LastLineEnds.{all_plain}
 use Rattle.sc_live_plain.proofs.PlainProofs.InductionBase.{birth_within, few_clients, journal_at_birth}
 use Rattle.sc_live_plain.proofs.PlainProofs.PlainInduction.{owing_of, IsPlainJournal}
 use Rattle.sc_live_plain.proofs.PlainProofs.PlainBeginnings.{frames_of, IsStage, stage}
@@ -208,13 +211,13 @@ module _ (words : ℕ → ℕ → ℕ × ℕ) (scenario : Scenario) where
 
 -- ---- the law
 
-pub journals_light : ValidScenariosAreBounded → PlainJournalsAreLight
-journals_light all_bounded words scenario journal valid at lawful =
-    let bounded = all_bounded scenario valid in
+-- a lawful journal of plain lines is light where the budget is no more than a line may deliver, or clients only go
+light_by : (scenario : Scenario) → IsBounded scenario → Each IsPlainLine (schedule scenario) → (budget_of scenario ≤ most_deliveries) ⊎ Each GoesOnly scenario.lines
+    → (words : ℕ → ℕ → ℕ × ℕ) (journal : List (Row Mail OrderLine)) → Lawful as_nodes words scenario journal → journal_bytes (λ (mail : Mail). body_weight mail.body) journal ≤ 2 ^ 30
+light_by scenario bounded plain low_or_goes words journal lawful =
     let s = stage scenario bounded in
     let sys_ : System Player Mail OrderLine = system_of as_nodes words scenario in
     let lines = schedule scenario in
-    let plain = lines_plain (budget_of scenario) scenario.lines at in
     let each : (rows : List (Row Mail OrderLine)) → IsLawful sys_ lines rows → IsPlainJournal words scenario s rows =
     λ rows l. plain_journal words scenario s (is_linked scenario bounded) (far_from_last words scenario bounded) lines plain (journal_at_birth scenario bounded words) rows l in
     let j = each journal lawful in
@@ -235,7 +238,7 @@ journals_light all_bounded words scenario journal valid at lawful =
     let numbers = count_numbers 1 scenario.nodes in
     let few_nodes = bounded.nodes.1 in
     let few = few_clients scenario.clients bounded.clients bounded.ascending in
-    elim (some_or_goes scenario.nodes scenario.clients (budget_of scenario) scenario.lines at (Each-from_All (IsBoundedLine scenario.nodes scenario.clients) scenario.lines bounded.lines)) [
+    elim low_or_goes [
       | inl low ↦ omega (arith, bytes, sent, owes, within, rows, goes_, seats, both, nodes, clients, numbers, few_nodes, few, low)
       | inr g ↦ (
           let o = only_goes words scenario g journal lawful in
@@ -243,3 +246,28 @@ journals_light all_bounded words scenario journal valid at lawful =
           let little = o.few in
           omega (arith, bytes, rows, goes_, seats, both, nodes, clients, numbers, few_nodes, few, none, little))
     ]
+
+-- each line of a scenario is within its bounds
+lines_bounded : (scenario : Scenario) → IsBounded scenario → Each (IsBoundedLine scenario.nodes scenario.clients) scenario.lines
+lines_bounded scenario bounded = Each-from_All (IsBoundedLine scenario.nodes scenario.clients) scenario.lines bounded.lines
+
+pub journals_light : ValidScenariosAreBounded → PlainJournalsAreLight
+journals_light all_bounded words scenario journal valid at lawful =
+    let bounded = all_bounded scenario valid in
+    light_by scenario bounded (lines_plain (budget_of scenario) scenario.lines at)
+    (some_or_goes scenario.nodes scenario.clients (budget_of scenario) scenario.lines at (lines_bounded scenario bounded)) words journal lawful
+
+-- where the last line delivers and has room for the budget, the budget is no more than a line may deliver
+last_low : (nodes : ℕ) (clients : List Asks) (budget : ℕ) (last : SchedLine) → delivers last ≡ true → AllowsDeliveries budget last → IsBoundedLine nodes clients last → budget ≤ most_deliveries
+last_low nodes clients budget last is room bound = elim (some_or_goes nodes clients budget (last ∷ []) (room, tt) (bound, tt)) [ inl low ↦ low | inr goes ↦ absurd (not_go last is goes.0) ]
+  where
+    not_go : (line : SchedLine) → delivers line ≡ true → GoesOnly line → ⊥
+    not_go (sched.Go client) e g = cc
+    not_go _ e g = g
+
+pub last_lines_light : ValidScenariosAreBounded → LastLinesAreLight
+last_lines_light all_bounded words scenario journal valid ends lawful =
+    let bounded = all_bounded scenario valid in
+    let bound = Each-among (IsBoundedLine scenario.nodes scenario.clients) scenario.lines ends.last (lines_bounded scenario bounded)
+    (subst (Among ends.last) (sym ends.lines_are) (Among-right ends.last ends.before (ends.last ∷ []) (inl refl))) in
+    light_by scenario bounded (lines_plain 0 scenario.lines (all_plain scenario ends)) (inl (last_low scenario.nodes scenario.clients (budget_of scenario) ends.last ends.is_delivery ends.room bound)) words journal lawful

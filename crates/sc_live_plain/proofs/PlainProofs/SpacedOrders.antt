@@ -7,7 +7,7 @@ use Rattle.sc_scenario.specs.declared.scenario.scenarios.Scenario.{Scenario}
 use Rattle.sc_scenario.specs.declared.scenario.scenarios.SchedLine.{SchedLine}
 use Rattle.sc_scenario.specs.declared.scenario.scenarios.SchedLine.TheVariants.{Go, Deliver, Drop, Again, Tick, Crash, Told, Settle, Free, Storm}
 use Rattle.sc_meaning.specs.sound.SoundDefinitions.{line_of}
-use Rattle.sc_live_orderly.specs.OrderlyDefinitions.{HasRoom, Said, Nothing, Goes, AnOrder, MayGo, MayOrder, AreSpaced}
+use Rattle.sc_live_orderly.specs.OrderlyDefinitions.{IsCalmLine, HasRoom, Said, Nothing, Goes, AnOrder, MayGo, MayOrder, AreSpaced}
 use Rattle.sc_live_plain.specs.PlainDefinitions.{delivers, budget_of, gives_order, starts, are_parted, AllowsDeliveries, AllowsCalmly, IsCalm, CalmLinesAreSpaced, RoomyScenariosAreCalm}
 
 -- whether what was said keeps a line from coming without deliveries between
@@ -84,6 +84,20 @@ lines_room budget (Storm number most ∷ lines) calm = absurd calm.0
 -- The orders of a calm scenario stand alone between lines of deliveries, and each of these has the room that the scenario's lines have.
 pub calm_spaced : CalmLinesAreSpaced
 calm_spaced room scenario calm = (lines_spaced room Nothing scenario.lines calm.lines calm.parted (nothing_barred scenario.lines), lines_room room scenario.lines calm.lines)
+
+-- lines that start clients, deliver pending mail or give orders are calm lines of the walk
+pub schedule_calm : (lines : List SchedLine) → Each (AllowsCalmly 0) lines → Each IsCalmLine (map line_of lines)
+schedule_calm [] calm = tt
+schedule_calm (Go client ∷ lines) calm = (tt, schedule_calm lines calm.1)
+schedule_calm (Told node order ∷ lines) calm = (tt, schedule_calm lines calm.1)
+schedule_calm (Settle most ∷ lines) calm = (tt, schedule_calm lines calm.1)
+schedule_calm (Free most workers ∷ lines) calm = (tt, schedule_calm lines calm.1)
+schedule_calm (Deliver who k ∷ lines) calm = (calm.0.0, schedule_calm lines calm.1)
+schedule_calm (Drop who k ∷ lines) calm = absurd calm.0
+schedule_calm (Again mail ∷ lines) calm = absurd calm.0
+schedule_calm (Tick who ∷ lines) calm = absurd calm.0
+schedule_calm (Crash node ∷ lines) calm = absurd calm.0
+schedule_calm (Storm number most ∷ lines) calm = absurd calm.0
 
 -- ---- room for less
 
