@@ -3,3 +3,4 @@ pub mod GivenUpRows
 pub mod GivenUpNodes
 pub mod DecidedCommands
 pub mod GivenUpJournals
+pub mod LateVotes

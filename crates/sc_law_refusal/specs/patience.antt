@@ -1,2 +1,3 @@
 pub mod Patience
+pub mod LateVotes
 pub mod PatienceDefinitions
