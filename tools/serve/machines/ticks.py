@@ -11,7 +11,7 @@ import time
 from wire import frames
 
 BEAT = 0.1  # seconds between two beats, by which a machine tells which groups its node leads
-MISSED = 0.5  # seconds without a beat of a leader
+MISSED = 1.0  # seconds without a beat of a leader
 PATIENCE = 0.3  # seconds that a leader waits for an answer
 LONGEST = 3.0
 POLICY = 1.0  # seconds between two ticks of a leader of a store with a policy
@@ -55,6 +55,9 @@ class Ticks:
         """The state of the node, as the program says it."""
         self.state = [one for one in state if one["gone"] is None]
         leads = frozenset(one["group"] for one in self.state if one["leads"])
+        for one in self.state:
+            # (a machine that begins, and a group that is new, have some time to be heard of)
+            self.heard.setdefault(one["group"], time.monotonic() + MISSED)
         if leads != self.leads:
             self.leads = leads
             self.lone = MISSED

@@ -129,22 +129,23 @@ class File:
         try:
             fcntl.flock(self.lock, fcntl.LOCK_EX | fcntl.LOCK_NB)
         except BlockingIOError:
+            os.close(self.lock)
             raise BadFile(f"{path}: it is in use by another process") from None
         if not os.path.exists(path):
             create(path, first)
-        self.file = open(path, "r+b", buffering=READ_AT_ONCE)
-        self.check_owner(owner, scenario)
-        self.number = 0
+        self.file, self.number = open(path, "r+b", buffering=READ_AT_ONCE), 0
+        try:
+            self.check_owner(owner, scenario)
+        except BadFile as fault:
+            self.close()
+            raise BadFile(f"{path}: {fault}") from None
 
     def check_owner(self, owner, scenario):
-        try:
-            said = parse_header(self.file.readline())
-        except BadFile as fault:
-            raise BadFile(f"{self.path}: {fault}") from None
+        said = parse_header(self.file.readline())
         if said.pop("scenario") != scenario:
-            raise BadFile(f"{self.path}: it is of another scenario")
+            raise BadFile("it is of another scenario")
         if said != owner:
-            raise BadFile(f"{self.path}: it is of another owner: {json.dumps(said, sort_keys=True)}")
+            raise BadFile(f"it is of another owner: {json.dumps(said, sort_keys=True)}")
 
     def replay(self):
         """Iterates over the whole batches, then makes the file ready to be appended to."""
