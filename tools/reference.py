@@ -26,8 +26,13 @@ def build():
         return None
     target = os.path.join(FOLDER, "target")
     build_it = ["cargo", "build", "--release", "--quiet", "--target-dir", target]
-    done = subprocess.run(build_it, cwd=FOLDER, stdout=sys.stderr, check=False)
-    if done.returncode:
+    cargo = subprocess.Popen(build_it, cwd=FOLDER, stdout=sys.stderr)
+    try:
+        status = cargo.wait(1)
+    except subprocess.TimeoutExpired:
+        print("cargo builds the reference, which takes a minute", file=sys.stderr, flush=True)
+        status = cargo.wait()
+    if status:
         print("the reference is not built: cargo build failed in reference/", file=sys.stderr)
         return None
     return os.path.join(target, "release", "reference")

@@ -40,9 +40,28 @@ TEXTS = [
         b"",
         "line 1: missing header",
         [
+            "the input is empty",
+            "line 1 is scatter 1, or scatter 2 for conditional writes",
+        ],
+    ),
+    (
+        "run",
+        b"\n \n",
+        "line 1: missing header",
+        [
             "line 1 is: ",
             "line 1 is scatter 1, or scatter 2 for conditional writes",
             "the text has no words",
+        ],
+    ),
+    (
+        "run",
+        b"\xef\xbb\xbfscatter 1\n",
+        "line 1: missing header",
+        [
+            "line 1 is: \\xef\\xbb\\xbfscatter 1",
+            "the text begins with a byte order mark, the bytes 239 187 191",
+            "an editor wrote it: save the text without one",
         ],
     ),
     (

@@ -3,7 +3,7 @@
 # shellcheck shell=bash
 # shellcheck disable=SC2154 # the names of scatter and words.bash
 
-readonly REFUSED=3 UNLAWFUL=9
+readonly REFUSED=3 NO_READING=4 UNLAWFUL=9
 
 # Opens the file that the words name, in place of standard input; `-` is standard input.
 open_file() {
@@ -16,6 +16,7 @@ open_file() {
 # Whether standard input is a file that stands at its beginning, so that it can be opened anew.
 is_whole_file() {
     local key value
+    [ ! /dev/stdin -ef /dev/null ] || return 0
     [ -f /dev/stdin ] || return 1
     while read -r key value; do
         [ "$key" != pos: ] || [ "$value" -ne 0 ] || return 0
@@ -27,13 +28,18 @@ is_whole_file() {
 answer() {
     local status from=
     if [ "${input["$2"]}" = - ]; then
-        beside "$@"
-        return
+        answer_made "$@"
+        status=$?
+        [ "$status" -ne "$NO_WRITING" ] || not_written
+        return "$status"
     fi
+    [ ! -t 0 ] || say "reading standard input, until ctrl and D"
     if is_whole_file; then
         from=/dev/stdin
+        [ -t 1 ] || start_ticking "running" 2 # (what is printed on a terminal would stand behind that line)
         beside "$@"
         status=$?
+        stop_ticking
     elif [ -p /dev/stdin ] && work="$(mktemp -d 2>/dev/null)"; then
         from="$work/input"
         beside "$@" < <(exec tee "$from" 2>/dev/null)
@@ -44,7 +50,27 @@ answer() {
     fi
     case "$status" in
         "$REFUSED" | "$UNLAWFUL") [ -z "$from" ] || explain "$from" "$status" "$@" ;;
+        "$NO_WRITING") not_written ;;
+        "$NO_READING") say "reading failed: standard input cannot be read to its end" ;;
     esac
+    return "$status"
+}
+
+# Runs a program that reads nothing. On a terminal it says how long that has been going, and what the program prints
+# comes at its end.
+answer_made() {
+    local status said
+    if [ ! -t 2 ]; then
+        beside "$@"
+        return
+    fi
+    work="$(mktemp -d 2>/dev/null)" || { beside "$@"; return; }
+    start_ticking "running" 2
+    beside "$@" >"$work/output"
+    status=$?
+    stop_ticking
+    said="$(cat "$work/output" && echo .)"
+    { printf '%s' "${said%.}" 2>/dev/null; } || return "$NO_WRITING"
     return "$status"
 }
 

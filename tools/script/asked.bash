@@ -11,6 +11,62 @@ names_file() {
     [ "$#" -eq $((${#wanted[@]} + 2)) ]
 }
 
+# Whether a word is an option, and no file's name.
+is_option() {
+    case "$1" in
+        - | [!-]* | '') return 1 ;;
+    esac
+}
+
+# Whether there is an option among some words.
+has_option() {
+    local word
+    for word in "$@"; do
+        ! is_option "$word" || return 0
+    done
+    return 1
+}
+
+# Whether a subcommand prints a report, which can be printed as JSON.
+takes_json() {
+    case "$1" in
+        run | pool | make) ;;
+        *) return 1 ;;
+    esac
+}
+
+# Opens the file that the words name behind those of the subcommand, in place of standard input. The words that are left
+# stand in `words_left`. Behind `--` a file's name may begin as an option does.
+# shellcheck disable=SC2034 # which the script uses
+take_file() {
+    words_left=("$@")
+    if [ "$#" -ge 3 ] && [ "${*: -2:1}" = -- ] && names_file "${@:1:$#-2}" "${*: -1}"; then
+        words_left=("${@:1:$#-2}")
+        case "${*: -1}" in
+            -*) open_file "./${*: -1}" ;;
+            *) open_file "${*: -1}" ;;
+        esac
+    elif names_file "$@" && ! is_option "${*: -1}"; then
+        words_left=("${@:1:$#-1}")
+        open_file "${*: -1}"
+    fi
+}
+
+# Says which option there is not, of a subcommand.
+say_no_option() {
+    local word name="$1"
+    shift
+    for word in "$@"; do
+        if is_option "$word" && [ "$word" != -- ]; then
+            say "$name has no option $word"
+            ! takes_json "$name" || say "its one option is --json, directly behind $name"
+            [ ! -e "./$word" ] || say "the file of that name is ./$word"
+            return 0
+        fi
+    done
+    return 1
+}
+
 # The least of three numbers, in `least`.
 least_of() {
     least="$1"
@@ -83,7 +139,7 @@ say_what_is_wrong() {
         else
             say "there is no subcommand $1"
         fi
-    else
+    elif ! say_no_option "$@"; then
         read -ra wanted <<<"${arguments["$1"]}"
         if [ "$(($# - 1))" -lt "${#wanted[@]}" ]; then
             say "$1 takes more arguments: $(call_of "$1")"

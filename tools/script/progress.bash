@@ -1,5 +1,5 @@
 # How far many runs are, on standard error: a bar on a terminal, and else a plain line each half minute and at the end.
-# Both have the rate, and the time that is left at that rate. tools/progress.py says the same for the tools in Python.
+# The first is there at the beginning; later ones have the rate, and the time that is left at that rate. tools/progress.py says the same for the tools in Python.
 # shellcheck shell=bash
 
 progress_name='' progress_count=0 progress_what='' progress_began=0 progress_said=0 progress_shown=''
@@ -19,6 +19,7 @@ begin_progress() {
     progress_name="$1" progress_count="$2" progress_what="$3"
     read_clock
     progress_began="$now" progress_said="$now"
+    show_progress 0 "$(progress_words 0)"
 }
 
 # A number of milliseconds in a few words.
@@ -57,14 +58,21 @@ progress_words() {
 
 # Says how many runs have ended.
 progress_to() {
-    local wait=30000 full begun end='' bar
+    local wait=30000
     [ "$progress_count" -gt 0 ] || return 0
     [ ! -t 2 ] || wait=100
     read_clock
     [ "$1" -eq "$progress_count" ] || [ "$((now - progress_said))" -ge "$wait" ] || return 0
     progress_said="$now"
+    show_progress "$1" "$(progress_words "$1")"
+}
+
+# Draws the bar, or prints a plain line.
+show_progress() {
+    local full begun end='' bar
+    [ "$progress_count" -gt 0 ] || return 0
     if [ ! -t 2 ]; then
-        printf '%s: %s\n' "$progress_name" "$(progress_words "$1")" >&2
+        printf '%s: %s\n' "$progress_name" "$2" >&2
         return 0
     fi
     full="$((20 * $1 / progress_count))"
@@ -73,7 +81,7 @@ progress_to() {
         end=$'\n' progress_shown=''
     fi
     begun="${bar:0:full}"
-    printf '\r\033[K[%s%s] %s%s' "${begun//./#}" "${bar:full}" "$(progress_words "$1")" "$end" >&2
+    printf '\r\033[K[%s%s] %s%s' "${begun//./#}" "${bar:full}" "$2" "$end" >&2
 }
 
 # Takes the bar away, so that something else can be printed.

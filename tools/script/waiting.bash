@@ -4,12 +4,13 @@
 
 group='' ticker='' child=''
 
-# Says each second how long this has been going, on a terminal alone. `read` waits in place of `sleep`, so that no
-# process is left behind.
+# Says each second how long this has been going, on a terminal alone, from some second on. `read` waits in place of
+# `sleep`, so that no process is left behind.
 tick() {
     local began="$SECONDS" never
     exec {never}<> <(:)
     while ! read -rt 1 -u "$never"; do
+        [ "$((SECONDS - began))" -ge "${2:-1}" ] || continue
         printf '\r\033[Kscatter: %s, %d seconds so far' "$1" "$((SECONDS - began))" >&2
     done
 }
@@ -25,7 +26,7 @@ stop_ticking() {
 # Begins that line, where standard error is a terminal.
 start_ticking() {
     [ -t 2 ] || return 0
-    tick "$1" &
+    tick "$1" "${2:-1}" &
     ticker=$!
     # (no word of its end is wanted, and `wait` for it would last as long as the command where a signal comes)
     disown "$ticker"
