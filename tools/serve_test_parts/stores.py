@@ -154,7 +154,7 @@ class Bare:
         process = subprocess.Popen(
             [sys.executable, "-B", *begin, "--role", kind, "--number", str(number), "--port", str(self.port),
              "--file", file or folders.inputs_of(self.files, kind, number), "--cluster", cluster or self.cluster,
-             "--program", self.program, "--timeout", "8"],
+             "--program", self.program, "--timeout", "4"],
             stdin=subprocess.PIPE, stdout=subprocess.PIPE, stderr=said, start_new_session=True,
         )  # fmt: skip
         said.close()

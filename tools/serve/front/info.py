@@ -60,6 +60,7 @@ async def answer(front, words):
             f"store_clients:{len(pool.numbers)}",
             f"store_clients_begun:{len(pool.clients)}",
             f"store_clients_waiting:{len(pool.clients) - free}",
+            f"store_syncs:{pool.syncing.syncs}",
             f"blocked_clients:{len(pool.waiting)}",
         ],
         "nodes": nodes(states),

@@ -30,7 +30,7 @@ class Client:
         self.child = child.Child(pool.loop, pool.words(number), self.on_lines, self.ended)
         self.child.feed(scenario.head(pool.cluster.scenario))
         self.inputs, self.asked, self.replied = 0, 0, 0
-        self.printed = collections.deque()
+        self.printed, self.unasked = collections.deque(), b""
         self.request, self.since, self.wait, self.hints = None, 0.0, SOONEST, 0
 
     @property
@@ -81,6 +81,9 @@ class Client:
 
     def on_lines(self, lines):
         for line in lines:
+            if not self.printed or line[:1] != b"{":
+                self.unasked = line  # the last word of a program that ends
+                return
             of = self.printed.popleft()
             if line.startswith(REPLY):
                 self.replied += 1
@@ -91,7 +94,7 @@ class Client:
         self.pool.release()
 
     def ended(self, status):
-        self.pool.stop(f"the program of client {self.number} ended with status {status}")
+        self.pool.on_fault(child.over(f"client {self.number}", status, self.unasked))
 
 
 class Request:
@@ -252,10 +255,8 @@ class Pool:
     # ---- the end
 
     def failed(self, fault):
-        self.stop(f"{self.file.path}: {fault.strerror}")
-
-    def stop(self, why):
-        self.on_fault(why)
+        """Nothing is written or sent any more; what begins again has what the file has."""
+        self.on_fault(child.Stopped(f"{self.file.path}: {fault.strerror}"))
 
     def close(self):
         self.syncing.close()

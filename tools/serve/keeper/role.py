@@ -63,7 +63,7 @@ async def run(asked):
     def fault(why):
         # at once: nothing more is written, and no mail is sent
         say(str(why))
-        os._exit(FAULT)  # pylint: disable=protected-access
+        os._exit(REFUSED if why.is_final else FAULT)  # pylint: disable=protected-access
 
     one = make(loop, asked)
     if asked.role == "front":

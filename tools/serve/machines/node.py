@@ -17,10 +17,6 @@ MOST_INPUTS = 50_000  # that wait for the program; mail beyond is lost
 STATE = b'"State"\n'
 
 
-class Stopped(Exception):
-    """Why the machine ends before it is told to."""
-
-
 class Node:
     """A node with its file, its program, its links and those who call it."""
 
@@ -39,7 +35,7 @@ class Node:
         self.orders = {}  # who is to be told the result of an order
         self.told = 0
         self.ticks = ticks.Ticks(number, "policy" in cluster.scenario.split("\n"))
-        self.is_changed = True
+        self.is_changed, self.unasked = True, b""
         self.suffixes = {
             n: b',"from":%d,"to":%d}' % (n, number) for n in cluster.machines if n != number
         }
@@ -107,8 +103,8 @@ class Node:
     def on_lines(self, lines):
         printed, kept = self.printed, self.kept
         for line in lines:
-            if not printed:
-                self.stop(f"the program printed a line that was not asked for: {line[:200]!r}")
+            if not printed or line[:1] not in b"[{":
+                self.unasked = line  # the last word of a program that ends
                 return
             of = printed.popleft()
             if of is None:
@@ -193,14 +189,11 @@ class Node:
     # ---- the end
 
     def ended(self, status):
-        self.stop(f"the program of node {self.number} ended with status {status}")
+        self.on_fault(child.over(f"node {self.number}", status, self.unasked))
 
     def failed(self, fault):
-        self.stop(f"{self.file.path}: {fault.strerror}")
-
-    def stop(self, why):
-        """Ends at once, and begins again from what the file has."""
-        self.on_fault(Stopped(why))
+        """Nothing is written or sent any more; what begins again has what the file has."""
+        self.on_fault(child.Stopped(f"{self.file.path}: {fault.strerror}"))
 
     def close(self):
         """Ends in order: what was taken is on stable storage."""

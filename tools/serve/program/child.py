@@ -4,7 +4,23 @@ import os
 import subprocess
 
 PIECE = 1 << 18  # bytes of one read
+# What the program ends with where it has no such subcommand, or the scenario is none: to begin again is of no use.
+NEVER_GOOD = (2, 3)
 MOST_WAITING = 256 << 20  # bytes that a child has not read yet
+
+
+class Stopped(Exception):
+    """Why a carrier ends before it is told to, and whether it may begin again."""
+
+    def __init__(self, why, is_final=False):
+        super().__init__(why)
+        self.is_final = is_final
+
+
+def over(name, status, said):
+    """The end of a child: what it printed that nobody asked for says more."""
+    said = f": {said[:200].decode('latin-1')}" if said else ""
+    return Stopped(f"the program of {name} ended with status {status}{said}", status in NEVER_GOOD)
 
 
 class Child:
