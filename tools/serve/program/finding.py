@@ -5,6 +5,8 @@ import subprocess
 
 SCRIPT = os.path.join(os.path.dirname(os.path.abspath(__file__)), "..", "..", "..", "scatter")
 
+NO_SCENARIO = 3  # the status of a node without lines of a scenario
+
 
 class NoProgram(Exception):
     """Why there is no program to ask."""
@@ -31,3 +33,11 @@ def answering(path):
     """The program that is named, or else the script's."""
     os.environ.pop("ASAN_OPTIONS", None)  # the unproved program has its own
     return named(path) if path else of_script()
+
+
+def has_streams(program):
+    """Whether a program has the subcommands of nodes and clients."""
+    done = subprocess.run(
+        [program, "node", "1"], stdin=subprocess.DEVNULL, stdout=subprocess.DEVNULL, stderr=subprocess.DEVNULL, check=False
+    )
+    return done.returncode == NO_SCENARIO
