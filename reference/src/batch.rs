@@ -1,5 +1,6 @@
 //! Many texts in one process: each with a subcommand, answered as by a process of its own.
 
+use crate::linear::{self, MOST_PLACES};
 use crate::program::{self, Done};
 use crate::values::{read_number, Dials};
 use std::io::{BufRead, Read, Write};
@@ -16,6 +17,7 @@ pub fn answer(word: &str, text: &[u8], dials: &Dials) -> Option<Done> {
         "audit" => Some(program::audit(text, dials)),
         "explain" => Some(program::explain(text, dials)),
         "sound" => Some(program::sound(text, dials)),
+        "linear" => Some(linear::linear(text, false, MOST_PLACES)),
         _ => None,
     }
 }

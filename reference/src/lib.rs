@@ -9,6 +9,7 @@ pub mod checks;
 pub mod client;
 pub mod decided;
 pub mod explain;
+pub mod linear;
 pub mod machine;
 pub mod mail;
 pub mod node;

@@ -1,5 +1,6 @@
 //! The program: reads its subcommand, and prints what the library answers.
 
+use reference::linear::{self, Shape, MOST_BYTES, MOST_PLACES};
 use reference::program::{self, Done};
 use reference::streams::{self, ClientStream, NodeStream};
 use reference::text::MOST_STORED;
@@ -67,8 +68,42 @@ fn searched(word: &str, (seed, count): (u64, u64), dials: &Dials) -> Done {
         "settled" => Done::check(settled::settled(seed, count, dials)),
         "budget" => Done::check(budget::budget(seed, count, dials)),
         "orders" => Done::check(orders::orders(seed, count)),
+        "histories" => Done::check(linear::histories(seed, count)),
         _ => Done::usage(),
     }
+}
+
+/// Answers whether the history on standard input is linearizable, by these words behind the subcommand.
+fn linear(words: &[&str]) -> Done {
+    let (shows_order, most) = match words {
+        ["order", most @ ..] => (true, most),
+        most => (false, most),
+    };
+    let most = match most {
+        [] => Some(MOST_PLACES as u64),
+        [most] => read_number(most.as_bytes(), u64::from(u32::MAX)).filter(|n| *n >= 1),
+        _ => None,
+    };
+    match most {
+        Some(most) => linear::linear(&stdin(MOST_BYTES as u64 + 1), shows_order, most as usize),
+        None => Done::usage(),
+    }
+}
+
+/// Reads the numbers of a random history: its seed, and what is drawn.
+fn history(words: &[&str; 8]) -> Option<(u64, Shape)> {
+    let number = |w: &str| read_number(w.as_bytes(), u64::MAX);
+    let [seed, requests, processes, keys, lost, fail, wrong, untold] = words;
+    let shape = Shape {
+        requests: number(requests)?,
+        processes: number(processes).filter(|n| *n >= 1)?,
+        keys: number(keys).filter(|n| *n >= 1)?,
+        lost: number(lost)?,
+        fail: number(fail)?,
+        wrong: number(wrong)?,
+        untold: number(untold)?,
+    };
+    Some((number(seed)?, shape))
 }
 
 fn answer(words: &[&str], dials: &Dials) -> Done {
@@ -79,6 +114,11 @@ fn answer(words: &[&str], dials: &Dials) -> Done {
         ["node", n] => streamed::<NodeStream>(n, 32),
         ["client", c] => streamed::<ClientStream>(c, 64),
         ["batch"] => serve(dials),
+        ["linear", more @ ..] => linear(more),
+        ["history", a, b, c, d, e, f, g, h] => match history(&[a, b, c, d, e, f, g, h]) {
+            Some((seed, shape)) => Done { status: 0, output: linear::made_history(seed, shape).into_bytes() },
+            None => Done::usage(),
+        },
         ["gen", seed] => match read_number(seed.as_bytes(), u64::MAX) {
             Some(seed) => Done { status: 0, output: random::generate(seed, dials).into_bytes() },
             None => Done::usage(),

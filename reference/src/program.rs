@@ -9,7 +9,8 @@ use crate::{audit, explain, report, sound, text};
 pub const USAGE: &str =
     "usage: reference [--dials UNIT PATIENCE CROWD HEAP] run | journal | make N S | audit \
     | explain | sound | node N | client C | batch | gen SEED | fuzz SEED COUNT | budget SEED COUNT | plain SEED COUNT | calm SEED COUNT \
-    | recover SEED COUNT | settled SEED COUNT | orders SEED COUNT";
+    | recover SEED COUNT | settled SEED COUNT | orders SEED COUNT | linear [order] [MOST] | histories SEED COUNT \
+    | history SEED REQUESTS PROCESSES KEYS LOST FAIL WRONG UNTOLD";
 /// The line that is printed where reading failed.
 pub const READ_FAULT: &str = "read fault";
 /// The most bytes of a scenario that are read: one more than it may have.

@@ -1,6 +1,7 @@
 //! Tests of the reference over its public items.
 
 mod chacha;
+mod linear;
 mod machine;
 mod orders;
 mod parser;
