@@ -67,7 +67,11 @@ class Journal:
 def read(name, program=None):
     """Reads a stored journal, or a scenario, which is played first. The name `-` is standard input,
     and a program may be named to play and explain it."""
-    data = data_of(name)
+    return of_data(name, data_of(name), program)
+
+
+def of_data(name, data, program=None):
+    """What `read` makes of what stands in a file."""
     called = "standard input" if name == "-" else name
     if not data.strip():
         raise BadJournal(f"{called} is empty")
