@@ -66,11 +66,19 @@ def column(numbers):
     return {"width": width, "bytes": base64.b64encode(packed.tobytes()).decode()}
 
 
+def shown(line):
+    """A line of the scenario, whose comments may be in UTF-8."""
+    try:
+        return line.encode("latin-1").decode("utf-8")
+    except UnicodeDecodeError:
+        return line
+
+
 class Page:
     """Gathers the columns of one journal."""
 
-    def __init__(self, journal):
-        self.journal, self.decided = journal, journal.decided()
+    def __init__(self, journal, walk=None):
+        self.journal, self.decided, self.walk = journal, journal.decided(), walk
         causes.mark(journal)
         self.texts, self.kinds = Names(""), Names()
         self.groups, self.txs, self.keys = Names(""), Names(""), Names("")
@@ -163,7 +171,7 @@ class Page:
             "event": column([EVENTS.index(row.event) for row in rows]),
             "of": column(of),
             "sent": column([len(row.sent) for row in rows]),
-            "line": column(page_waits.lines_of_rows(self.journal)),
+            "line": column(page_waits.lines_of_rows(self.journal, self.walk)),
         }
 
     def mails(self):
@@ -264,7 +272,8 @@ class Page:
         """All that the page has; where it is wished, lines that free what waits are tried."""
         return {
             "title": title,
-            "scenario": self.journal.scenario,
+            "count": len(self.journal.rows),
+            "scenario": [shown(line) for line in self.journal.scenario],
             "events": EVENTS,
             "actors": self.actors(),
             "rows": self.rows(),

@@ -12,10 +12,16 @@ def program_of(journal):
     return journal.program
 
 
-def lines_of_rows(journal):
+def walk_of(journal):
+    """The lines beside the rows; a program is asked only where there are storms."""
+    has_storm = any(line.split()[:1] == ["storm"] for line in journal.scenario)
+    return schedules.Walk(journal, program_of(journal) if has_storm else None)
+
+
+def lines_of_rows(journal, walk=None):
     """The line of the scenario that made each row; 0 where that is not known."""
     try:
-        found = schedules.Walk(journal, program_of(journal)).line_of_rows()
+        found = (walk or walk_of)(journal).line_of_rows()
     except schedules.Unplayed:
         found = {}
     return [found.get(row.number, 0) for row in journal.rows]

@@ -11,11 +11,18 @@ function showNow() {
     make("p", { class: "note", id: "line-now" }, by), lines);
 }
 
-/** What an unanswered request or an open order waits for. */
-function waiting(lines) {
+const FREES = "these lines behind the schedule free it, as tried:";
+
+/** What an unanswered request or an open order waits for, and which lines free it. */
+function waiting(lines, kind, name) {
   if (!lines) return [];
+  const end = lines.indexOf(FREES);
+  const told = end < 0 ? lines : lines.slice(0, end);
+  const known = end < 0 ? [] : lines.slice(end + 1).map((line) => line.trim());
   return [make("h4", {}, "Waits"),
-    make("ul", { id: "waits" }, lines.map((one) => make("li", {}, one)))];
+    make("ul", { id: "waits" }, told.map((one) => make("li", {}, one))),
+    known.length ? make("h4", {}, "These lines free it, as tried") : null,
+    freeingPart(kind, name, known)];
 }
 
 /** A line of a card: a row, and what happened. */
@@ -127,7 +134,8 @@ function requestCard(request) {
   if (owner) list.push(["kept by", groupLink(owner), " at this row"]);
   const text = run.texts[requests.text[request]];
   return [make("h3", {}, `Request ${requestName(request)}: ${text}`), facts(list),
-    waiting(run.waits.requests[request]), stepsOf(mailsOfRequest(request), entriesOfRequest(request))];
+    waiting(run.waits.requests[request], "request", requestName(request)),
+    stepsOf(mailsOfRequest(request), entriesOfRequest(request))];
 }
 
 /** The places of logs of a transaction as a table, group by group. */
@@ -158,7 +166,7 @@ function orderCard(order) {
   list.push(ended ? ["came to", make("b", {}, result), ", ", rowLink(ended)]
     : ["came to", "nothing yet"]);
   return [make("h3", {}, `Order ${number}: ${text}`), facts(list),
-    waiting(run.waits.orders[order]), stepsOf(mailsOfOrder(order), entriesOfOrder(order))];
+    waiting(run.waits.orders[order], "order", number), stepsOf(mailsOfOrder(order), entriesOfOrder(order))];
 }
 
 function groupCard(group) {

@@ -1,8 +1,26 @@
 "use strict";
-// The run: what tools/page wrote into the file, and tables that are made of it once.
-// Rows, mails, requests and orders are numbered from 1, so each table has a place 0 for none.
+// The run: what tools/page wrote into the file, or the page around this one gave, and tables that
+// are made of it once. Rows, mails, requests and orders are numbered from 1, so each table has a
+// place 0 for none.
 
-const run = JSON.parse(document.getElementById("data").textContent);
+const CLIENT = 32; // actors above are clients
+const RING = 2 ** 32;
+
+let run = null;
+let rows, mails, entries, requests, orders; // columns by name; of orders a list
+let ROWS = 0;
+let MAILS = 0;
+let ENTRIES = 0;
+let REQUESTS = 0; // those that were sent
+let WRITTEN = 0; // those that the scenario has
+let EVENT = {};
+let sentIn, firstOf; // the row that sent each mail, and the first mail that each row sent
+// The rows that deliver, lose or repeat each mail; the mail and places of logs of each request,
+// transaction, order and group.
+let life, mailsOfRequest, mailsOfTx, mailsOfOrder;
+let entriesOfRequest, entriesOfTx, entriesOfOrder, entriesOfGroup;
+let shapes, shapesOf, rings, ballotsOf;
+let changeRows; // the rows at which the ring or a lock is another one, ascending
 
 /** A column of numbers, with a 0 before the first one. */
 function column(said) {
@@ -22,25 +40,6 @@ function column(said) {
 function columns(said) {
   return Object.fromEntries(Object.entries(said).map(([name, one]) => [name, column(one)]));
 }
-
-const rows = columns(run.rows);
-const mails = columns(run.mails);
-const entries = columns(run.entries);
-const requests = columns(run.requests);
-const orders = run.orders.map(([number, node, text, row, result, ended]) => (
-  { number, node, text, row, result, ended }
-));
-orders.unshift(null);
-const ROWS = rows.who.length - 1;
-const MAILS = mails.from.length - 1;
-const ENTRIES = entries.row.length - 1;
-const REQUESTS = requests.client.length - 1; // those that were sent
-const WRITTEN = run.scenario.filter((line, place) => (
-  !(place && line.startsWith("#")) && /^\s*(get|put|del|add|cas)\s/.test(line)
-)).length; // those that the scenario has
-const EVENT = Object.fromEntries(run.events.map((name, place) => [name, place]));
-const CLIENT = 32; // actors above are clients
-const RING = 2 ** 32;
 
 /** The places 1 to `count` by what `of` gives of each: lists, packed into two columns. */
 function lists(count, most, of) {
@@ -85,25 +84,6 @@ function mailOf(row) {
   return isMailEvent(row) && rows.of[row] <= MAILS ? rows.of[row] : 0;
 }
 
-// The row that sent each mail, and the first mail that each row sent.
-const sentIn = new Int32Array(MAILS + 1);
-const firstOf = new Int32Array(ROWS + 2);
-for (let row = 1, mail = 1; row <= ROWS + 1; row++) {
-  firstOf[row] = mail;
-  for (let k = 0; row <= ROWS && k < rows.sent[row]; k++) sentIn[mail++] = row;
-}
-
-// The rows that deliver, lose or repeat each mail; the mail and places of logs of each request,
-// transaction and order.
-const life = lists(ROWS, MAILS, mailOf);
-const mailsOfRequest = lists(MAILS, REQUESTS, (mail) => mails.request[mail]);
-const mailsOfTx = lists(MAILS, run.txs.length, (mail) => mails.tx[mail]);
-const mailsOfOrder = lists(MAILS, orders.length, (mail) => mails.order[mail]);
-const entriesOfRequest = lists(ENTRIES, REQUESTS, (entry) => entries.request[entry]);
-const entriesOfTx = lists(ENTRIES, run.txs.length, (entry) => entries.tx[entry]);
-const entriesOfOrder = lists(ENTRIES, orders.length, (entry) => entries.order[entry]);
-const entriesOfGroup = lists(ENTRIES, run.groups.length, (entry) => entries.group[entry]);
-
 /** The decided places of logs of a row, as numbers from `entriesBefore(row - 1) + 1` on. */
 function entriesBefore(row) {
   return countTo(entries.row, row) - 1;
@@ -116,18 +96,60 @@ function byGroup(list) {
   return found;
 }
 
-const shapes = run.shapes.map(([row, group, lo, length, members, role, tx, gone, succ, pred]) => (
-  { row, group, lo, length, members, role, tx, gone, succ, pred }
-));
-const shapesOf = byGroup(shapes);
-const rings = run.rings.map(([row, cuts]) => ({ row, cuts }));
-const ballotsOf = byGroup(run.ballots.map(([row, group, round, node]) => (
-  { row, group, round, node }
-)));
+/** Takes a run, and makes its tables. */
+function takeTables(said) {
+  run = said;
+  [rows, mails, entries, requests] = [run.rows, run.mails, run.entries, run.requests].map(columns);
+  orders = run.orders.map(([number, node, text, row, result, ended]) => (
+    { number, node, text, row, result, ended }
+  ));
+  orders.unshift(null);
+  ROWS = rows.who.length - 1;
+  MAILS = mails.from.length - 1;
+  ENTRIES = entries.row.length - 1;
+  REQUESTS = requests.client.length - 1;
+  WRITTEN = run.scenario.filter((line, place) => (
+    !(place && line.startsWith("#")) && /^\s*(get|put|del|add|cas)\s/.test(line)
+  )).length;
+  EVENT = Object.fromEntries(run.events.map((name, place) => [name, place]));
+  takeSending();
+  takeLists();
+  takeGroups();
+}
 
-// The rows at which the ring or a lock is another one, ascending.
-const changeRows = [...new Set([...shapes, ...rings].map((one) => one.row))]
-  .filter((row) => row > 0).sort((one, other) => one - other);
+function takeSending() {
+  sentIn = new Int32Array(MAILS + 1);
+  firstOf = new Int32Array(ROWS + 2);
+  for (let row = 1, mail = 1; row <= ROWS + 1; row++) {
+    firstOf[row] = mail;
+    for (let k = 0; row <= ROWS && k < rows.sent[row]; k++) sentIn[mail++] = row;
+  }
+}
+
+function takeLists() {
+  const [txs, groups] = [run.txs.length, run.groups.length];
+  life = lists(ROWS, MAILS, mailOf);
+  mailsOfRequest = lists(MAILS, REQUESTS, (mail) => mails.request[mail]);
+  mailsOfTx = lists(MAILS, txs, (mail) => mails.tx[mail]);
+  mailsOfOrder = lists(MAILS, orders.length, (mail) => mails.order[mail]);
+  entriesOfRequest = lists(ENTRIES, REQUESTS, (entry) => entries.request[entry]);
+  entriesOfTx = lists(ENTRIES, txs, (entry) => entries.tx[entry]);
+  entriesOfOrder = lists(ENTRIES, orders.length, (entry) => entries.order[entry]);
+  entriesOfGroup = lists(ENTRIES, groups, (entry) => entries.group[entry]);
+}
+
+function takeGroups() {
+  shapes = run.shapes.map(([row, group, lo, length, members, role, tx, gone, succ, pred]) => (
+    { row, group, lo, length, members, role, tx, gone, succ, pred }
+  ));
+  shapesOf = byGroup(shapes);
+  rings = run.rings.map(([row, cuts]) => ({ row, cuts }));
+  ballotsOf = byGroup(run.ballots.map(([row, group, round, node]) => (
+    { row, group, round, node }
+  )));
+  changeRows = [...new Set([...shapes, ...rings].map((one) => one.row))]
+    .filter((row) => row > 0).sort((one, other) => one - other);
+}
 
 /** How a scenario calls an actor. */
 function actor(number) {

@@ -1,13 +1,24 @@
 // A lane for each actor, and the mail around the row. Only what is visible is drawn.
 
 const HEIGHT = 23; // of a row
-const HEADS = 46; // of the actors' names
+const HEADS = 60; // of the actors' names, and of the hints at lanes out of sight
 const GUTTER = 66; // for the rows' numbers
 const TEXT = 280; // the least width of what rows say
-const LETTER = 6.35; // the width of a letter of it
+const SHARE = 0.36; // of the width that it has at least
+const PITCH = [60, 84]; // the least and the greatest width of a lane
 const MOST_ARROWS = 1200;
 const FAR = 40; // lines outside, where arrows that come from farther begin
-const NARROW = 30; // lanes that are narrower have small names, by turns higher and lower
+
+let letter = 0; // the width of a letter of what rows say
+
+function letterWidth() {
+  if (!letter) {
+    const pen = document.createElement("canvas").getContext("2d");
+    pen.font = `10.5px ${getComputedStyle(document.documentElement).getPropertyValue("--mono")}`;
+    letter = pen.measureText("n".repeat(100)).width / 100 || 6.35;
+  }
+  return letter;
+}
 
 /** The window of rows that is drawn, and how wide lanes are. */
 function frame() {
@@ -15,15 +26,15 @@ function frame() {
   const width = Math.max(320, box.clientWidth - 2);
   const count = Math.max(6, Math.floor((box.clientHeight - HEADS - 4) / HEIGHT));
   const many = Math.max(1, lanes.length);
-  const least = width - GUTTER - TEXT;
-  const pitch = Math.max(17, Math.min(80, least / many));
-  const room = Math.max(120, Math.min(many * pitch, least));
+  const least = Math.max(120, width - GUTTER - Math.max(TEXT, SHARE * width));
+  const pitch = Math.max(PITCH[0], Math.min(PITCH[1], least / many));
+  const room = Math.min(many * pitch, least);
   const here = placeOf(state.row);
   const most = Math.max(0, shownCount() - count);
   const top = Math.max(0, Math.min(most, Math.ceil(here) - Math.floor(count * 0.45)));
   const view = { count, pitch, room, top, width, text: GUTTER + room + 8, pan: 0,
-    height: HEADS + count * HEIGHT };
-  movePan(view, many * pitch - room);
+    height: HEADS + count * HEIGHT, most: many * pitch - room };
+  movePan(view, view.most);
   return view;
 }
 
@@ -36,7 +47,10 @@ function movePan(view, most) {
     panned = state.row;
     const mail = mailOf(state.row);
     const x = laneX(view, rows.who[state.row] || (mail ? mails.to[mail] : 0)) - GUTTER;
-    if (x < pan || x > pan + view.room) pan = x - view.room / 2;
+    const edge = view.pitch / 2;
+    if (x + view.pan < pan + edge || x + view.pan > pan + view.room - edge) {
+      pan = x + view.pan - view.room / 2;
+    }
   }
   pan = Math.max(0, Math.min(Math.max(0, most), pan));
   view.pan = pan;
@@ -185,7 +199,7 @@ function eventMark(view, row) {
 }
 
 function cutTo(text, width) {
-  const most = Math.floor(width / LETTER);
+  const most = Math.floor(width / letterWidth());
   return text.length > most ? `${text.slice(0, most - 1)}…` : text;
 }
 
@@ -223,28 +237,67 @@ function laneHeads(view) {
     }
   }
   const most = Math.max(1, Math.floor(view.pitch / 22));
-  const isNarrow = view.pitch < NARROW;
-  return lanes.map((who, place) => {
-    const crash = past.crashes.get(who);
-    const isDown = crash !== undefined && crash <= state.row;
-    const all = names.get(who) ?? [];
-    const some = all.length > most ? `${all.slice(0, most - 1).join(" ")}…` : all.join(" ");
-    const count = waiting.get(who);
-    const down = isDown ? ", crashed" : "";
-    const about = `${actor(who)}${down}; ${count ?? 0} mails under way to it; `
-      + `groups ${all.join(" ")}`;
-    const at = { x: laneX(view, who), "text-anchor": "middle" };
-    const name = { ...at, y: isNarrow && place % 2 ? 27 : 15,
-      class: isNarrow ? "lane-name small" : "lane-name" };
-    const isCut = all.length > (isNarrow ? 0 : most);
-    const whole = isCut ? { role: "note", ...shownWhole(about, Math.max(0, at.x - 60), 44) } : {};
-    return draw("g", { class: isDown ? "head down" : "head", ...whole },
-      isCut ? null : draw("title", {}, about),
-      draw("text", name, isDown ? `${actor(who)}✕` : actor(who)),
-      isNarrow ? null : draw("text", { ...at, y: 28, class: "lane-groups" }, some),
-      count ? draw("text", { ...at, y: 40, class: "lane-waiting" },
-        view.pitch < 50 ? count : `${count} to come`) : null);
-  });
+  return lanes.map((who) => laneHead(view, who, names.get(who) ?? [], waiting.get(who), most));
+}
+
+function laneHead(view, who, all, count, most) {
+  const crash = past.crashes.get(who);
+  const isDown = crash !== undefined && crash <= state.row;
+  const some = all.length > most ? `${all.slice(0, most - 1).join(" ")}…` : all.join(" ");
+  const about = `${actor(who)}${isDown ? ", crashed" : ""}; ${count ?? 0} mails under way to it; `
+    + `groups ${all.join(" ")}`;
+  const at = { x: laneX(view, who), "text-anchor": "middle" };
+  const isCut = all.length > most;
+  const whole = isCut ? { role: "note", ...shownWhole(about, Math.max(0, at.x - 60), 44) } : {};
+  return draw("g", { class: isDown ? "head down" : "head", ...whole },
+    isCut ? null : draw("title", {}, about),
+    draw("text", { ...at, y: 15, class: "lane-name" }, isDown ? `${actor(who)}✕` : actor(who)),
+    draw("text", { ...at, y: 28, class: "lane-groups" }, some),
+    count ? draw("text", { ...at, y: 40, class: "lane-waiting" }, `${count} to come`) : null);
+}
+
+/** Which lanes are out of sight, on both sides; a click brings them into it. */
+function hints(view) {
+  const isIn = (who) => {
+    const x = laneX(view, who);
+    return x >= GUTTER + 20 && x <= GUTTER + view.room - 20;
+  };
+  const first = lanes.findIndex(isIn);
+  const last = lanes.length - 1 - [...lanes].reverse().findIndex(isIn);
+  const part = (all, text, x, anchor, step) => {
+    if (!all.length || view.most <= 0) return null;
+    const move = () => { pan += step * view.room * 0.7; showLanes(); };
+    return draw("text", { class: "hint", x, y: 55, "text-anchor": anchor, role: "button",
+      tabindex: 0, onclick: move, "aria-label": `lanes out of sight: ${all.map(actor).join(" ")}`,
+      onkeydown: (event) => { if (event.key === "Enter") move(); } }, text);
+  };
+  const [before, after] = [lanes.slice(0, Math.max(0, first)), lanes.slice(last + 1)];
+  const said = view.room < 200 ? (all) => String(all.length) : spanned;
+  return [part(before, `◀ ${said(before)}`, GUTTER, "start", -1),
+    part(after, `${said(after)} ▶`, GUTTER + view.room, "end", 1)];
+}
+
+/** Actors in a few words. */
+function spanned(all) {
+  if (all.length < 3) return all.map(actor).join(" ");
+  return `${actor(all[0])} … ${actor(all[all.length - 1])}`;
+}
+
+let apart = 0; // a row that is marked, as the first in which two runs differ
+
+/** Marks a row, or none; the page of tools/edit calls this. */
+function markRow(row) {
+  apart = row;
+  if (!ROWS) return;
+  showLanes();
+  markStrip();
+}
+
+function apartMark(view, visible) {
+  if (!visible.includes(apart)) return null;
+  const y = rowY(view, apart) - HEIGHT / 2 + 1;
+  return draw("rect", { class: "apart", x: 1, y, width: view.width - 2, height: HEIGHT - 2 },
+    draw("title", {}, "the first row that differs"));
 }
 
 function laneLines(view) {
@@ -283,7 +336,8 @@ function showLanes() {
     draw("rect", { class: "veil", x: GUTTER, y: below, width: view.width,
       height: Math.max(0, view.height - below) }),
     draw("rect", { class: "head-back", x: 0, y: 0, width: view.width, height: HEADS - 2 }),
-    draw("g", { "clip-path": "url(#middle)" }, laneHeads(view)),
+    draw("g", { "clip-path": "url(#middle)" }, laneHeads(view)), hints(view),
+    apartMark(view, visible),
     visible.length ? null : draw("text", { x: 20, y: 90, class: "row-words" }, "no row is so"));
   hideWhole();
   find("lanes").replaceChildren(picture);

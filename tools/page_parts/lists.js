@@ -1,7 +1,7 @@
 // The tabs: what is chosen, and long lists of which only the visible part is drawn.
 
 const LINE = 25; // the height of a line of a list
-const TABS = ["chosen", "pending", "requests", "changes", "log"];
+const TABS = ["chosen", "state", "pending", "requests", "changes", "log"];
 
 /** A list of lines: how many, what each is, and which row it begins at, if lists follow the row. */
 class LongList {
@@ -134,14 +134,20 @@ function showRequests() {
   list.reveal(Math.max(0, begunBy(numbers, (one) => requests.issued[one]) - 1));
 }
 
-/** Orders and transactions, by the rows in which they begin. */
-const changes = [
-  ...orders.slice(1).map((order, place) => ({ kind: "order", number: place + 1, row: order.row })),
-  ...run.txs.slice(1).map((_, place) => (
-    { kind: "tx", number: place + 1, row: entries.row[entriesOfTx(place + 1)[0] ?? 0]
-      || sentIn[mailsOfTx(place + 1)[0] ?? 0] }
-  )),
-].sort((one, other) => one.row - other.row);
+let changes = []; // orders and transactions, by the rows in which they begin
+
+function takeChanges() {
+  changes = [
+    ...orders.slice(1).map((order, place) => (
+      { kind: "order", number: place + 1, row: order.row }
+    )),
+    ...run.txs.slice(1).map((_, place) => (
+      { kind: "tx", number: place + 1, row: entries.row[entriesOfTx(place + 1)[0] ?? 0]
+        || sentIn[mailsOfTx(place + 1)[0] ?? 0] }
+    )),
+  ].sort((one, other) => one.row - other.row);
+  listed = { name: "", numbers: [] };
+}
 
 function changeCells({ kind, number, row }) {
   const look = row > state.row ? "words later" : "words";
@@ -187,11 +193,14 @@ function showTab() {
   find("tab-pending").textContent = `pending ${spelled(pending.count)}`;
   for (const name of TABS) {
     find(`tab-${name}`).setAttribute("aria-selected", String(state.tab === name));
+    find(`tab-${name}`).tabIndex = state.tab === name ? 0 : -1;
   }
+  find("tab").setAttribute("aria-labelledby", `tab-${state.tab}`);
   const box = find("tab");
-  if (state.tab === "chosen") {
+  if (state.tab === "chosen" || state.tab === "state") {
     const top = box.scrollTop;
-    box.replaceChildren(make("div", { class: "card", id: "chosen" }, showChosen()));
+    const said = state.tab === "chosen" ? showChosen() : showStates();
+    box.replaceChildren(make("div", { class: "card", id: state.tab }, said));
     box.scrollTop = top;
     return;
   }
@@ -206,4 +215,17 @@ function openTab(name) {
   }
   state.tab = name;
   showTab();
+}
+
+/** Arrow keys, home and end go through the tabs. Whether the key was one of these. */
+function tabKey(event) {
+  const here = TABS.indexOf(state.tab);
+  const last = TABS.length - 1;
+  const to = { ArrowRight: here === last ? 0 : here + 1, ArrowLeft: here ? here - 1 : last,
+    Home: 0, End: last }[event.key];
+  if (to === undefined || event.shiftKey) return false;
+  openTab(TABS[to]);
+  find(`tab-${TABS[to]}`).focus();
+  event.preventDefault();
+  return true;
 }

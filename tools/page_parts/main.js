@@ -43,16 +43,16 @@ function showParts() {
 function writeAddress() {
   clearTimeout(written);
   written = setTimeout(() => {
-    const { kind, number } = state.chosen ?? {};
-    const more = kind ? `&${kind}=${number}` : "";
-    history.replaceState(null, "", `#row=${state.row}${more}`);
+    history.replaceState(null, "", `#row=${state.row}${addressOfChosen()}`);
   }, 200);
 }
 
-/** A page around this one, as that of tools/edit, hears which row is looked at. */
-function tellRow() {
-  if (window.parent === window || !location.protocol.startsWith("http")) return;
-  window.parent.postMessage({ row: state.row }, location.origin);
+function addressOfChosen() {
+  const { kind, number } = state.chosen ?? {};
+  if (kind === "request") {
+    return `&request=${actor(CLIENT + requests.client[number])}.${requests.seq[number]}`;
+  }
+  return kind ? `&${kind}=${number}` : "";
 }
 
 function go(row) {
@@ -60,7 +60,7 @@ function go(row) {
   state.row = wanted;
   showAll();
   writeAddress();
-  tellRow();
+  tell({ row: state.row }); // a page around this one, as that of tools/edit
 }
 
 function choose(what) {
@@ -71,18 +71,56 @@ function choose(what) {
   writeAddress();
 }
 
-/** Reads the row, and what is chosen, off the address. */
+/** The request that an address names: by client and number, as `c3.2`, or by its place. */
+function requestAt(said) {
+  const found = /^c(\d+)\.(\d+)$/.exec(said);
+  if (!found) return Number(said);
+  for (let one = 1; one <= REQUESTS; one++) {
+    const is = requests.client[one] === Number(found[1]);
+    if (is && requests.seq[one] === Number(found[2])) return one;
+  }
+  return NaN;
+}
+
+/** Reads what is chosen off the address, and the row, or nothing; what is not there is said. */
 function readAddress() {
   const said = new URLSearchParams(location.hash.slice(1));
   const most = { mail: MAILS, request: REQUESTS, tx: run.txs.length - 1, order: orders.length - 1,
     group: run.groups.length - 1 };
+  const missed = [];
   state.chosen = null;
   for (const kind of Object.keys(most)) {
-    const number = Number(said.get(kind));
+    if (!said.has(kind)) continue;
+    const number = kind === "request" ? requestAt(said.get(kind)) : Number(said.get(kind));
     const is = Number.isInteger(number) && number >= 1 && number <= most[kind];
     if (is) state.chosen = { kind, number };
+    else missed.push(`no ${kind === "tx" ? "transaction" : kind} ${said.get(kind)}`);
   }
-  return Number(said.get("row")) || 1;
+  const row = said.get("row");
+  const isRow = /^\d+$/.test(row ?? "") && Number(row) >= 1 && Number(row) <= ROWS;
+  if (row !== null && !isRow) missed.push(`no row ${row}`);
+  say(missed.length ? `This run has ${missed.join(", and ")}: it has ${spelled(ROWS)} rows.` : "");
+  return isRow ? Number(row) : 0;
+}
+
+/** Says something above the rows. */
+function say(text) {
+  find("notice").textContent = text;
+  find("notice").hidden = !text;
+}
+
+/** Where a run is opened that no address names a row of: its end, at what it leaves open. */
+function openRow() {
+  if (state.chosen) return ROWS;
+  for (let one = 1; one <= REQUESTS; one++) {
+    if (!requests.answered[one]) {
+      state.chosen = { kind: "request", number: one };
+      return ROWS;
+    }
+  }
+  const open = orders.findIndex((order) => order && !order.ended);
+  if (open > 0) state.chosen = { kind: "order", number: open };
+  return ROWS;
 }
 
 // ---- the strip of the whole run
@@ -94,6 +132,7 @@ function styleOf(name) {
 let strip = null; // the picture without the row
 
 function drawStrip() {
+  if (!run) return;
   const canvas = find("strip");
   const scale = window.devicePixelRatio || 1;
   const width = canvas.clientWidth;
@@ -135,8 +174,11 @@ function markStrip() {
   const pen = canvas.getContext("2d");
   pen.putImageData(strip, 0, 0);
   pen.fillStyle = styleOf("--accent");
-  const x = 8 + ((state.row - 1) / Math.max(1, ROWS - 1)) * (canvas.clientWidth - 16);
-  pen.fillRect(x - 1, 0, 2, canvas.height / scale);
+  const x = (row) => 8 + ((row - 1) / Math.max(1, ROWS - 1)) * (canvas.clientWidth - 16);
+  pen.fillRect(x(state.row) - 1, 0, 2, canvas.height / scale);
+  if (!apart) return;
+  pen.fillStyle = styleOf("--bad");
+  pen.fillRect(x(Math.min(apart, ROWS)) - 1, 0, 2, canvas.height / scale);
 }
 
 // ---- filters
@@ -179,7 +221,7 @@ function searchKey(key) {
 }
 
 function clearFilters() {
-  Object.assign(filters, { actor: -1, group: 0, client: 0, kind: -1, key: "" });
+  Object.assign(filters, NO_FILTERS);
   applyFilters();
   showFilters();
   showAll();
@@ -231,24 +273,25 @@ const keyActs = {
   Escape: escape,
   g: () => { find("number").focus(); find("number").select(); },
   "/": () => { find("by-key").focus(); find("by-key").select(); },
-  "?": () => find("keys-help").showModal(),
-  d: () => setTheme(!state.dark),
+  "?": () => (isFramed ? tell({ help: true }) : find("keys-help").showModal()),
+  d: () => (isFramed ? tell({ theme: true }) : setTheme(!state.dark)),
   s: showScenario,
   " ": play,
 };
 
 function onKey(event) {
-  const inText = event.target.matches("input[type=text], input[type=search], select");
+  const inText = event.target.matches("input[type=text], input[type=search], select, textarea");
   if (event.ctrlKey || event.altKey || event.metaKey) return;
-  if (document.querySelector("dialog[open]")) return;
+  if (document.querySelector("dialog[open]") || !ROWS) return;
   if (inText) {
     if (event.key === "Escape") event.target.blur();
     return;
   }
   if (event.key === " " && event.target.matches("button")) return;
+  if (event.target.matches("[role=tab]") && tabKey(event)) return;
   if (event.shiftKey && event.key === "ArrowRight") go(changeAway(1));
   else if (event.shiftKey && event.key === "ArrowLeft") go(changeAway(-1));
-  else if (/^[1-5]$/.test(event.key)) openTab(TABS[event.key - 1]);
+  else if (/^[1-6]$/.test(event.key)) openTab(TABS[event.key - 1]);
   else if (keyActs[event.key]) keyActs[event.key]();
   else return;
   event.preventDefault();
@@ -257,7 +300,7 @@ function onKey(event) {
 let wheeled = 0;
 
 function onWheel(event) {
-  if (event.ctrlKey) return;
+  if (event.ctrlKey || !ROWS) return;
   event.preventDefault();
   const aside = event.deltaX || (event.shiftKey ? event.deltaY : 0);
   if (aside) {
@@ -279,7 +322,7 @@ function listen() {
   on("last", "click", keyActs.End);
   on("change", "click", () => go(changeAway(1)));
   on("play", "click", play);
-  on("theme", "click", () => setTheme(!state.dark));
+  on("theme", "click", keyActs.d);
   on("help", "click", keyActs["?"]);
   on("keys-close", "click", () => find("keys-help").close());
   on("scenario", "click", showScenario);
@@ -300,25 +343,40 @@ function listen() {
   on("clear", "click", clearFilters);
   for (const name of TABS) on(`tab-${name}`, "click", () => openTab(name));
   document.addEventListener("keydown", onKey);
-  window.addEventListener("hashchange", () => { go(readAddress()); });
-  window.addEventListener("resize", () => { drawStrip(); showAll(); });
+  window.addEventListener("hashchange", () => { if (run) go(readAddress() || openRow()); });
+  window.addEventListener("resize", () => { drawStrip(); if (ROWS) showAll(); });
 }
 
-function start() {
+/** Shows a run from its tables on; the page of tools/edit calls this for each run. */
+function showRun(said, row) {
+  takeTables(said);
+  takeState();
+  takeChanges();
   find("title").textContent = run.title;
   find("count").textContent = spelled(ROWS);
   find("slider").max = String(Math.max(1, ROWS));
-  find("said").textContent = `${spelled(MAILS)} mails, ${spelled(REQUESTS)} of ${spelled(WRITTEN)} requests sent, `
-    + `${spelled(ENTRIES)} places of logs decided`;
+  find("said").textContent = `${spelled(MAILS)} mails, ${spelled(REQUESTS)} of ${spelled(WRITTEN)}`
+    + ` requests sent, ${spelled(ENTRIES)} entries of logs decided`;
+  find("empty").hidden = ROWS > 0;
+  document.body.classList.toggle("no-rows", !ROWS);
   fillFilters();
   showFilters();
-  if (!ROWS) {
-    find("lanes").textContent = "This journal has no rows.";
+  setTheme(state.dark);
+  if (ROWS) go(row || openRow());
+}
+
+function start() {
+  document.body.classList.toggle("framed", isFramed);
+  state.dark = window.matchMedia("(prefers-color-scheme: dark)").matches;
+  listen();
+  setTheme(state.dark);
+  const said = JSON.parse(find("data").textContent);
+  if (!said) {
+    tell({ ready: true });
     return;
   }
-  listen();
-  setTheme(window.matchMedia("(prefers-color-scheme: dark)").matches);
-  go(readAddress());
+  showRun(said, 1);
+  if (ROWS) go(readAddress() || openRow());
 }
 
 start();

@@ -80,7 +80,7 @@ class Pending {
   }
 }
 
-const pending = new Pending();
+let pending; // the mail under way at the row that is looked at
 
 /** How much mail was under way at each row, and when each node crashed. */
 function wholeRun() {
@@ -95,14 +95,25 @@ function wholeRun() {
   return { counts, crashes };
 }
 
-const past = wholeRun();
+let past;
 
-const filters = { actor: -1, group: 0, client: 0, kind: -1, key: "" };
+const NO_FILTERS = { actor: -1, group: 0, client: 0, kind: -1, key: "" };
+const filters = { ...NO_FILTERS };
 let shown = null; // the rows that are shown, ascending; null where all are
 let keysShown = new Set();
-let lanes = run.actors; // whose lanes are drawn
+let lanes = []; // whose lanes are drawn
 
 const state = { row: 1, chosen: null, tab: "chosen", playing: null, dark: false };
+
+/** Begins to look at the run that was taken. */
+function takeState() {
+  pending = new Pending();
+  past = wholeRun();
+  state.chosen = null;
+  lanes = run.actors;
+  if (isFiltered()) Object.assign(filters, NO_FILTERS);
+  applyFilters();
+}
 
 function isFiltered() {
   const { actor: who, group, client, kind, key } = filters;
