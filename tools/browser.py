@@ -1,19 +1,27 @@
-"""Drives a headless Chromium by the debugging protocol over two pipes; for `page_test`.
+"""Drives a headless Chromium by the debugging protocol over two pipes, for the tests of pages.
 
 Python's standard library has what this needs: messages are JSON with a zero byte behind each.
 """
 
 import base64
+import fcntl
 import json
 import os
 import select
 import shutil
 import subprocess
+import sys
 import tempfile
 import time
 
 NAMES = ("chromium", "chromium-browser", "google-chrome")
 SECONDS = 60  # how long an answer may take
+# Chromium reads from 3 and writes to 4.
+STARTS = """import os, sys
+os.dup2(int(sys.argv[1]), 3)
+os.dup2(int(sys.argv[2]), 4)
+os.execvp(sys.argv[3], sys.argv[3:])
+"""
 
 
 class Failed(Exception):
@@ -25,19 +33,26 @@ def command():
     return next(filter(None, map(shutil.which, NAMES)), None)
 
 
-class Browser:
-    """One browser with one page, to be used by `with`."""
+def pipe():
+    """Both ends of a pipe, at numbers that stand for nothing else."""
+    ends = os.pipe()
+    moved = [fcntl.fcntl(end, fcntl.F_DUPFD_CLOEXEC, 10) for end in ends]
+    for end in ends:
+        os.close(end)
+    return moved
 
-    def __init__(self, program, width=1480, height=900):
-        self.program, self.size = program, (width, height)
+
+class Browser:
+    """One browser, to be used by `with`. Its pages are tabs, one of which is looked at."""
+
+    def __init__(self, program, width=1480, height=900, profile=None):
+        self.program, self.size, self.profile = program, (width, height), profile
         self.number, self.held, self.session, self.seen = 0, b"", None, []
 
     def __enter__(self):
         self.folder = tempfile.TemporaryDirectory(prefix="page_test")
-        theirs_in, self.to = os.pipe()
-        self.back, theirs_out = os.pipe()
-        # Chromium reads from 3 and writes to 4
-        script = f'exec "$@" 3<&{theirs_in} 4>&{theirs_out}'
+        theirs_in, self.to = pipe()
+        self.back, theirs_out = pipe()
         words = [
             self.program,
             "--headless",
@@ -45,14 +60,15 @@ class Browser:
             "--no-first-run",
             "--disable-gpu",
             "--hide-scrollbars",
-            f"--user-data-dir={self.folder.name}",
+            f"--user-data-dir={self.profile or self.folder.name}",
             "--window-size={},{}".format(*self.size),
             "about:blank",
         ]
         if os.geteuid() == 0:
             words.insert(1, "--no-sandbox")  # it refuses to run as root with it
+        starts = [sys.executable, "-S", "-E", "-c", STARTS, str(theirs_in), str(theirs_out)]
         self.process = subprocess.Popen(
-            ["sh", "-c", script, "sh", *words],
+            [*starts, *words],
             pass_fds=(theirs_in, theirs_out),
             stdin=subprocess.DEVNULL,
             stdout=subprocess.DEVNULL,
@@ -61,11 +77,7 @@ class Browser:
         os.close(theirs_in)
         os.close(theirs_out)
         targets = self.ask("Target.getTargets")["targetInfos"]
-        page = next(one["targetId"] for one in targets if one["type"] == "page")
-        said = self.ask("Target.attachToTarget", targetId=page, flatten=True)
-        self.session = said["sessionId"]
-        for name in ("Page", "Runtime", "Network"):
-            self.ask(f"{name}.enable")
+        self.look_at(next(one["targetId"] for one in targets if one["type"] == "page"))
         return self
 
     def __exit__(self, *_):
@@ -82,6 +94,31 @@ class Browser:
             self.process.kill()
             self.process.wait()
         self.folder.cleanup()
+
+    def kill(self):
+        """Ends it at once, as a crash does."""
+        self.process.kill()
+        self.process.wait()
+
+    def look_at(self, target):
+        """Looks at a page from now on."""
+        self.session = None
+        said = self.ask("Target.attachToTarget", targetId=target, flatten=True)
+        self.session = said["sessionId"]
+        for name in ("Page", "Runtime", "Network"):
+            self.ask(f"{name}.enable")
+
+    def new_tab(self):
+        """Opens another page, and looks at it; what was looked at before."""
+        before, self.session = self.session, None
+        target = self.ask("Target.createTarget", url="about:blank")["targetId"]
+        self.look_at(target)
+        return before
+
+    def resize(self, width, height):
+        """Makes the page so large."""
+        fields = {"width": width, "height": height, "deviceScaleFactor": 1, "mobile": False}
+        self.ask("Emulation.setDeviceMetricsOverride", **fields)
 
     def ask(self, method, **fields):
         """One request, and its answer. What comes meanwhile is kept in `seen`."""
@@ -123,6 +160,19 @@ class Browser:
             about = said["exceptionDetails"]
             raise Failed(about.get("exception", {}).get("description", about["text"]))
         return said["result"].get("value")
+
+    def until(self, code, wanted=True):
+        """Waits until some JavaScript comes to what is wanted; what it came to last."""
+        end, shown = time.monotonic() + SECONDS, None
+        while True:
+            try:
+                shown = self.value(code)
+            except Failed as fault:
+                if "navigated" not in str(fault) and "context" not in str(fault):
+                    raise
+            if shown == wanted or time.monotonic() > end:
+                return shown
+            time.sleep(0.02)
 
     def open(self, address):
         """Opens a page, and waits until it is loaded."""
@@ -186,9 +236,11 @@ class Browser:
         ]
 
     def faults(self):
-        """What went wrong in the page."""
+        """What went wrong in the page, requests that failed among it."""
         found = []
         for one in self.seen:
+            if one.get("method") == "Network.loadingFailed" and not one["params"].get("canceled"):
+                found.append(f"a request failed: {one['params']['errorText']}")
             if one.get("method") == "Runtime.exceptionThrown":
                 about = one["params"]["exceptionDetails"]
                 found.append(about.get("exception", {}).get("description", about["text"]))

@@ -1,37 +1,30 @@
-"""Calls of the program for the page of tools/edit: one run at a time, each within a time limit.
+"""Runs of the page of tools/edit: what is asked of the program about a text.
 
-A run is of one text. First it is played for its report; its rows, the page of these, the audit and
-scans follow when they are asked for, one after another. A newer run ends what still goes on for an
-older one, so that a page whose text changes never waits for an answer that is not wanted any more. All files
-stand in one folder, which is given.
+A run is of one text. It is played for its report, or for its rows; what else is asked of it follows
+one after another: rows, audit, scans, and lines that free what waits. A newer run of the same page
+ends what still goes on for an older one, so that a page whose text changes never waits for an answer
+that is not wanted any more. Several runs are kept, so that two pages, or two ways of one page, can
+be looked at. All files stand in one folder, which is given.
 """
 
 import contextlib
 import os
-import signal
-import subprocess
 import sys
+import tempfile
 import threading
 import time
 
-TOOLS = os.path.dirname(os.path.abspath(__file__))
+import edit_calls
+import edit_check
+import edit_rows
+from edit_calls import BUSY, GONE, NO_ANSWER, Refused
+
 MOST_INPUT = 16_777_216  # bytes of a scenario that the program takes
-MOST_OUTPUT = 268_435_456  # bytes of a stored journal that an audit takes
+MOST_KEPT = 12  # runs
+MOST_BYTES = 2**30  # of files of runs that are kept beside the last
 CHECK_SECONDS = 10
-BUSY, GONE, NO_ANSWER = 409, 410, 503  # statuses of HTTP
+CHECKS = 2  # that go on at a time
 BAD_INPUT, CUT_OFF = 3, 6  # statuses of the program
-
-# A limit on files, since a journal may grow to a gigabyte; and no core files. (`-f` counts in 512
-# bytes.)
-LIMITED = f'ulimit -c 0; ulimit -f {MOST_OUTPUT // 512 + 1}; exec "$@"'
-
-
-class Refused(Exception):
-    """Why there is no answer: a status of HTTP, and what the page shows."""
-
-    def __init__(self, status, said):
-        super().__init__(said)
-        self.status, self.said = status, said
 
 
 class Program:
@@ -49,216 +42,245 @@ class Program:
 
 
 class Run:
-    """One run: its number, whether its text was played, and which files have come of it."""
+    """One run: its number, the page that asked for it, and which files have come of it."""
 
-    def __init__(self, number, folder):
-        self.number, self.folder = number, folder
+    ENDS = ("scatter", "report", "journal", "explained", "json", "said")
+
+    def __init__(self, number, page, folder):
+        self.number, self.page, self.folder = number, page, folder
         self.input, self.report = self.file("scatter"), self.file("report")
-        self.journal, self.page = self.file("journal"), self.file("html")
-        self.rows = None
+        self.journal, self.explained = self.file("journal"), self.file("explained")
+        self.data, self.said = self.file("json"), self.file("said")
+        self.status = None  # of the journal, once there is one
 
     def file(self, end):
         return os.path.join(self.folder, f"run.{self.number}.{end}")
 
+    def files(self):
+        return [name for name in map(self.file, self.ENDS) if os.path.exists(name)]
+
+    def bytes(self):
+        return sum(os.path.getsize(name) for name in self.files())
+
     def remove(self):
-        for name in (self.input, self.report, self.journal, self.page, self.file("said")):
+        for name in self.files():
             with contextlib.suppress(FileNotFoundError):
                 os.remove(name)
 
 
 class Runs:
-    """All runs of one page; of them the last alone is kept."""
+    """All runs of all pages; the last ones are kept."""
 
-    def __init__(self, program, folder, seconds):
+    def __init__(self, program, folder, seconds, memory=0):
         self.program, self.folder, self.seconds = program, folder, seconds
+        self.calls = edit_calls.Calls(folder, memory)
         self.guard = threading.Lock()  # of the fields below
-        self.playing, self.last, self.calls = False, None, {}
-        self.number = 0
-        self.at_work = threading.Lock()  # whoever has it calls the program
-        self.at_check = threading.Lock()
+        self.kept, self.number, self.playing, self.storms = {}, 0, None, {}
+        self.at_work = threading.Lock()  # whoever has it calls the program for a run
+        self.at_check = threading.Semaphore(CHECKS)
 
-    # ---- calls
+    # ---- who may go on
 
-    def call(self, words, given, out, until, number=0):
-        """Runs a command on a file into a file; its status. It is ended at a time, or by `end`."""
-        with open(given, "rb") as source, open(out, "wb") as target:
-            one = subprocess.Popen(
-                ["/bin/sh", "-c", LIMITED, "sh", *words],
-                stdin=source,
-                stdout=target,
-                stderr=subprocess.DEVNULL,
-                cwd=self.folder,
-                start_new_session=True,
-            )
-        with self.guard:
-            is_old = 0 < number < self.number
-            self.calls[one] = None if is_old else number
-        if is_old:
-            kill(one)
+    @property
+    def is_busy(self):
+        """Whether anything goes on for a run, of whichever page."""
+        return self.at_work.locked()
+
+    @contextlib.contextmanager
+    def turn(self, lock, asker, seconds, said):
+        """Waits for a lock while who asked is there."""
+        until = time.monotonic() + seconds
+        while not lock.acquire(timeout=edit_calls.LOOK):
+            if asker.is_gone():
+                raise Refused(GONE, "the page that asked is gone")
+            if time.monotonic() >= until:
+                raise Refused(NO_ANSWER, said)
         try:
-            status = one.wait(max(0.0, until - time.monotonic()))
-        except subprocess.TimeoutExpired:
-            raise Refused(NO_ANSWER, self.too_long()) from None
+            yield
         finally:
-            kill(one)
-            with self.guard:
-                stopped = self.calls.pop(one) is None
-        if stopped:
-            raise Refused(GONE, "it was stopped")
-        return self.whole(status)
+            lock.release()
 
-    def too_long(self):
-        return (
-            f"stopped after {self.seconds:g} seconds, the limit of this page;"
-            " ./scatter run < FILE has none, and tools/edit --seconds N gives another one"
-        )
-
-    @staticmethod
-    def whole(status):
-        """A status, unless a signal ended the command."""
-        if status == -signal.SIGXFSZ:
-            raise Refused(NO_ANSWER, f"the output has more than {MOST_OUTPUT:,} bytes")
-        if status < 0:
-            raise Refused(NO_ANSWER, f"the program stopped at a fault (signal {-status})")
-        return status
-
-    def end(self, below):
-        """Ends what goes on for runs with a lower number."""
+    @contextlib.contextmanager
+    def playing_for(self, asker):
+        """A new run of a page, which ends older work of the same page; one page plays at a time."""
         with self.guard:
-            old = [one for one, number in self.calls.items() if number and number < below]
-            for one in old:
-                self.calls[one] = None
-        for one in old:
-            kill(one)
+            if self.playing is not None and self.playing != asker.page:
+                raise Refused(BUSY, "another run is under way: wait for it, or stop it")
+            self.playing = asker.page
+            self.number += 1
+            run = self.kept[self.number] = Run(self.number, asker.page, self.folder)
+        self.calls.stop(lambda call: call.asker.page == asker.page and 0 < call.number < run.number)
+        try:
+            with self.turn(self.at_work, asker, self.seconds, "other work is under way: stop it"):
+                self.forget()
+                yield run
+        finally:
+            with self.guard:
+                if self.number == run.number or self.playing != asker.page:
+                    self.playing = None
+
+    def forget(self):
+        """Removes the oldest runs, where too many or too large ones are kept."""
+        with self.guard:
+            numbers = sorted(self.kept)
+            sizes = {number: self.kept[number].bytes() for number in numbers}
+            while len(numbers) > 1 and (
+                len(numbers) > MOST_KEPT or sum(sizes[one] for one in numbers) > MOST_BYTES
+            ):
+                self.kept.pop(numbers.pop(0)).remove()
+
+    @contextlib.contextmanager
+    def following(self, number, asker):
+        """A run that is kept, with nothing else at work."""
+        with self.turn(self.at_work, asker, self.seconds, "other work is under way: stop it"):
+            run = self.kept.get(number)
+            if run is None:
+                raise Refused(GONE, "this run is not kept any more: run it again")
+            yield run
 
     def stop(self):
-        """Ends all that goes on."""
-        self.end(self.number + 1)
+        """Ends all that goes on for runs."""
+        self.calls.stop(lambda call: call.number > 0)
 
-    # ---- what is asked
+    # ---- what is asked of a text
 
-    def check(self, text):
-        """What is wrong with a text, `line L: REASON`, or nothing.
+    def check(self, text, asker):
+        """What is wrong with a text, `line L: REASON`, or nothing; and what should stand there.
 
         An audit of no rows reads the scenario and plays nothing. A text with a line `journal`
         would end there for an audit, but is refused by a run before anything is played.
         """
-        lines = text.split(b"\n")
-        word = "run"
-        if b"journal" not in lines:
+        word, read_text = "run", text
+        if b"\njournal\n" not in b"\n" + text + b"\n":
             word = "audit"
-            text += (b"" if lines[-1] == b"" else b"\n") + b"journal\n"
+            read_text += (b"" if text.endswith(b"\n") else b"\n") + b"journal\n"
         file, is_proved = self.program.now()
-        with self.at_check:
-            given, out = (os.path.join(self.folder, f"check.{end}") for end in ("in", "out"))
-            with open(given, "wb") as target:
-                target.write(text)
-            status = self.call([file, word], given, out, time.monotonic() + CHECK_SECONDS)
-            said = read(out).strip() if status == BAD_INPUT else ""
-        return {"said": said, "proved": is_proved}
+        with self.turn(self.at_check, asker, CHECK_SECONDS, "other checks are under way"):
+            with tempfile.TemporaryDirectory(prefix="check.", dir=self.folder) as folder:
+                given, out = os.path.join(folder, "in"), os.path.join(folder, "out")
+                write(given, read_text)
+                status = self.calls.run([file, word], given, out, CHECK_SECONDS, asker)
+                said = read(out).strip() if status == BAD_INPUT else ""
+        return {**edit_check.explained(said, text), "proved": is_proved}
 
-    def run(self, text):
+    def run(self, text, asker):
         """Plays a text for its report."""
-        with self.guard:
-            if self.playing:
-                raise Refused(BUSY, "another run is under way: wait for it, or stop it")
-            self.playing = True
-            self.number += 1
-            run = Run(self.number, self.folder)
-        try:
-            self.end(run.number)
-            with self.at_work:
-                return self.play(run, text)
-        finally:
-            with self.guard:
-                self.playing = False
+        with self.playing_for(asker) as run:
+            write(run.input, text)
+            return self.report_of(run, asker)
 
-    def play(self, run, text):
-        if self.last:
-            self.last.remove()
-        self.last = run
-        with open(run.input, "wb") as target:
-            target.write(text)
+    def play(self, text, asker):
+        """Plays a text for its rows: what came of it, and what the page of the rows has, as JSON."""
+        with self.playing_for(asker) as run:
+            write(run.input, text)
+            head = {"run": run.number, **self.journal_of(run, asker)}
+            if run.status in (0, CUT_OFF):
+                return head, self.data_of(run, asker)
+            return head, b"null"
+
+    # ---- what is asked of a run
+
+    def report_of(self, run, asker):
         file, is_proved = self.program.now()
         begun = time.monotonic()
-        until = begun + self.seconds
-        status = self.call([file, "run"], run.input, run.report, until, run.number)
-        return {
-            "run": run.number,
-            "status": status,
-            "said": read(run.report),
-            "proved": is_proved,
-            "seconds": time.monotonic() - begun,
-        }
+        words = [file, "run"]
+        status = self.calls.run(words, run.input, run.report, self.seconds, asker, run.number)
+        said = {"run": run.number, "status": status, "said": read(run.report)}
+        return {**said, "proved": is_proved, "seconds": time.monotonic() - begun}
 
-    @contextlib.contextmanager
-    def following(self, number):
-        """The last run, with nothing else at work for it."""
-        with self.at_work:
-            if self.last is None or number != self.last.number or number < self.number:
-                raise Refused(GONE, "a newer run took its place")
-            yield self.last, time.monotonic() + self.seconds
+    def journal_of(self, run, asker):
+        """Plays the text for its journal."""
+        file, is_proved = self.program.now()
+        begun = time.monotonic()
+        words = [file, "journal"]
+        status = self.calls.run(words, run.input, run.journal, self.seconds, asker, run.number)
+        said = ""
+        if status in (0, CUT_OFF):
+            run.status = status
+        else:
+            said = read(run.journal)[:4096]
+        took = time.monotonic() - begun
+        return {"status": status, "said": said, "proved": is_proved, "seconds": took}
 
-    def rows(self, number):
-        """Plays the text once more for its journal, and makes the page of it."""
-        with self.following(number) as (run, until):
-            if run.rows is None:
-                file, is_proved = self.program.now()
-                status = self.call([file, "journal"], run.input, run.journal, until, number)
-                if status not in (0, CUT_OFF):
-                    raise Refused(NO_ANSWER, f"no journal: status {status}")
-                count = count_rows(run.journal)
-                words = [sys.executable, "-B", os.path.join(TOOLS, "page"), run.journal, run.page]
-                words += ["--title", f"run {number}", "--by", file]
-                if self.call(words, os.devnull, run.file("said"), until, number) != 0:
-                    raise Refused(NO_ANSWER, "tools/page could not read the journal")
-                run.rows = {"rows": count, "proved": is_proved}
-            return run.rows
+    def data_of(self, run, asker):
+        """What the page of the rows has, as JSON."""
+        if not os.path.exists(run.data):
+            file, _ = self.program.now()
+            words = [file, "explain"]
+            seconds = self.seconds
+            status = self.calls.run(words, run.journal, run.explained, seconds, asker, run.number)
+            if status != 0:
+                raise Refused(NO_ANSWER, f"the rows were not explained: status {status}")
+            edit_rows.write_data(self, run, file, asker)
+        with open(run.data, "rb") as data:
+            return data.read()
 
-    def page(self, number):
-        """The page of the rows."""
-        with self.following(number) as (run, _):
-            if run.rows is None:
-                raise Refused(GONE, "its rows were not asked for")
-            with open(run.page, "rb") as file:
-                return file.read()
+    def report(self, number, asker):
+        """The report of a run that was played for its rows."""
+        with self.following(number, asker) as run:
+            return self.report_of(run, asker)
 
-    def audit(self, number):
+    def rows(self, number, asker):
+        """What the page of the rows has of a run."""
+        with self.following(number, asker) as run:
+            if run.status is None:
+                said = self.journal_of(run, asker)
+                if run.status is None:
+                    raise Refused(NO_ANSWER, f"no rows: status {said['status']}")
+            return self.data_of(run, asker)
+
+    def audit(self, number, asker):
         """What an audit says of the journal."""
-        with self.following(number) as (run, until):
-            if run.rows is None:
-                raise Refused(GONE, "its rows were not asked for")
-            file, is_proved = self.program.now()
-            out = run.file("said")
-            status = self.call([file, "audit"], run.journal, out, until, number)
-            return {"status": status, "said": read(out), "proved": is_proved}
+        with self.following(number, asker) as run:
+            return self.said_of(run, "audit", self.with_rows(run).journal, [], asker)
 
-    def scan(self, number, words):
+    def scan(self, number, words, asker):
         """What the store holds, by the words of a scan."""
-        with self.following(number) as (run, until):
-            file, is_proved = self.program.now()
-            out = run.file("said")
-            status = self.call([file, "scan", *words], run.input, out, until, number)
-            return {"status": status, "said": read(out), "proved": is_proved}
+        with self.following(number, asker) as run:
+            return self.said_of(run, "scan", run.input, words, asker)
+
+    def with_rows(self, run):
+        if run.status is None:
+            raise Refused(GONE, "its rows were not asked for")
+        return run
+
+    def said_of(self, run, word, given, words, asker):
+        file, is_proved = self.program.now()
+        words = [file, word, *words]
+        status = self.calls.run(words, given, run.said, self.seconds, asker, run.number)
+        return {"status": status, "said": read(run.said), "proved": is_proved}
+
+    def frees(self, number, what, asker):
+        """Lines that free a request or an order that waits, found by runs."""
+        with self.following(number, asker) as run:
+            file, _ = self.program.now()
+            why = os.path.join(edit_rows.TOOLS, "why")
+            words = [sys.executable, "-B", why, "--by", file, self.with_rows(run).journal, *what]
+            seconds = self.seconds
+            status = self.calls.run(words, os.devnull, run.said, seconds, asker, number)
+            if status not in (0, 1):
+                raise Refused(NO_ANSWER, "tools/why could not read the journal")
+            return {"lines": edit_rows.freeing_lines(read(run.said))}
+
+    def cut(self, number, row, asker):
+        """The text whose schedule ends with a row of a run."""
+        with self.following(number, asker) as run:
+            return {"text": edit_rows.text_to(self, self.with_rows(run), row, asker)}
+
+    def differ(self, one, other, asker):
+        """The first row in which two runs differ, or nothing."""
+        with self.following(one, asker) as run:
+            second = self.kept.get(other)
+            if second is None:
+                raise Refused(GONE, "the other run is not kept any more: run it again")
+            return {"row": edit_rows.first_apart(self.with_rows(run), self.with_rows(second))}
 
 
-def kill(one):
-    """Ends a command with all that it began."""
-    if one.returncode is None:
-        with contextlib.suppress(ProcessLookupError):
-            os.killpg(one.pid, signal.SIGKILL)
-        one.wait()
+def write(name, text):
+    with open(name, "wb") as file:
+        file.write(text)
 
 
 def read(name):
-    with open(name, encoding="latin-1") as file:
+    with open(name, encoding="utf-8", errors="replace") as file:
         return file.read()
-
-
-def count_rows(name):
-    """How many lines are behind the line `journal`."""
-    with open(name, "rb") as file:
-        for line in file:
-            if line == b"journal\n":
-                return sum(1 for _ in file)
-    return 0

@@ -13,14 +13,25 @@ import secrets
 import urllib.parse
 
 import edit_runs
+import page_file
+from edit_calls import NO_ANSWER, Asker, Refused
 
-PARTS = os.path.join(edit_runs.TOOLS, "edit_parts")
+PARTS = os.path.join(os.path.dirname(os.path.abspath(__file__)), "edit_parts")
+SCRIPTS = [
+    "ask.js",
+    "keep.js",
+    "colours.js",
+    "editor.js",
+    "ways.js",
+    "results.js",
+    "play.js",
+    "files.js",
+    "edit.js",
+]
 FILES = {
     "": ("edit.html", "text/html"),
     "edit.css": ("edit.css", "text/css"),
-    "editor.js": ("editor.js", "text/javascript"),
-    "results.js": ("results.js", "text/javascript"),
-    "edit.js": ("edit.js", "text/javascript"),
+    **{name: (name, "text/javascript") for name in SCRIPTS},
 }
 HTML, JSON, TEXT = "text/html", "application/json", "text/plain"
 # What the page may load, and who may show it.
@@ -30,14 +41,15 @@ RULE = (
 )
 RULE_OF_ROWS = "frame-ancestors 'self'"  # beside its own, which forbids it every request
 BAD, FORBIDDEN, NOT_FOUND, NO_LENGTH, TOO_LARGE = 400, 403, 404, 411, 413
+MOST_DIGITS = 12  # of a number in a request
 MOST_DROPPED = 4 * edit_runs.MOST_INPUT  # of what is too large, so much is read and dropped
 SECONDS = 60  # how long a request may take to come
-# The numbers of a scan, as the program takes them.
+# The numbers of a scan, as the program takes them, by the names that the page has for them.
 SCAN = {
-    "lo": (0, 4294967295),
-    "len": (1, 4294967296),
+    "from": (0, 4294967295),
+    "positions": (1, 4294967296),
     "row": (0, 4294967295),
-    "most": (1, 1000000),
+    "pairs": (1, 1000000),
 }
 
 
@@ -96,13 +108,16 @@ class Handler(http.server.BaseHTTPRequestHandler):
         path, _, query = self.path.partition("?")
         name = path.split("/", 2)[2] if path.count("/") >= 2 else None
         fields = dict(urllib.parse.parse_qsl(query))
+        asker = Asker(self.connection, fields.get("page", "")[:64])
         try:
-            return answers(name, fields)
-        except edit_runs.Refused as fault:
+            return answers(name, fields, asker)
+        except Refused as fault:
             return self.json({"fault": fault.said}, fault.status)
+        except MemoryError:
+            return self.json({"fault": "the server is out of memory"}, NO_ANSWER)
         except OSError as fault:
             said = f"{fault.filename or 'the temporary folder'}: {fault.strerror}"
-            return self.json({"fault": said}, edit_runs.NO_ANSWER)
+            return self.json({"fault": said}, NO_ANSWER)
 
     def do_GET(self):
         self.handle_one(self.answer_get)
@@ -134,55 +149,72 @@ class Handler(http.server.BaseHTTPRequestHandler):
 
     # ---- what is asked
 
-    def answer_get(self, name, fields):
+    def answer_get(self, name, fields, asker):
         if name in FILES:
             file, kind = FILES[name]
             with open(os.path.join(PARTS, file), "rb") as source:
                 return self.send(200, kind, source.read())
-        runs, number = self.server.runs, fields.get("run", "")
+        runs = self.server.runs
         if name == "start":
-            said = {"proved": runs.program.now()[1], "playing": runs.playing}
+            said = {"proved": runs.program.now()[1], "busy": runs.is_busy}
             return self.json({**self.server.scenarios.all(), **said})
+        if name == "busy":
+            return self.json({"busy": runs.is_busy})
         if name == "scenario":
             return self.json({"text": self.server.scenarios.text(fields.get("name", ""))})
-        if name in ("rows", "page", "audit", "scan") and not number.isdecimal():
-            raise edit_runs.Refused(BAD, "which run?")
-        if name == "page":
-            return self.send(200, HTML, runs.page(int(number)), RULE_OF_ROWS)
+        if name == "frame":
+            return self.send(200, HTML, page_file.without_run().encode(), RULE_OF_ROWS)
         if name == "rows":
-            return self.json(runs.rows(int(number)))
-        if name == "audit":
-            return self.json(runs.audit(int(number)))
-        if name == "scan":
-            return self.json(runs.scan(int(number), scan_words(fields)))
-        raise edit_runs.Refused(NOT_FOUND, "there is no such page")
+            return self.send(200, JSON, runs.rows(number(fields, "run"), asker))
+        return self.json(self.of_run(name, fields, asker))
 
-    def answer_post(self, name, _):
+    def of_run(self, name, fields, asker):
+        """What is asked of a run."""
+        runs = self.server.runs
+        asks = {
+            "report": lambda run: runs.report(run, asker),
+            "audit": lambda run: runs.audit(run, asker),
+            "scan": lambda run: runs.scan(run, scan_words(fields), asker),
+            "frees": lambda run: runs.frees(run, what_waits(fields), asker),
+            "cut": lambda run: runs.cut(run, number(fields, "row"), asker),
+            "differ": lambda run: runs.differ(run, number(fields, "other"), asker),
+        }
+        if name not in asks:
+            raise Refused(NOT_FOUND, "there is no such page")
+        return asks[name](number(fields, "run"))
+
+    def answer_post(self, name, _, asker):
         text = self.body()
+        runs = self.server.runs
         if name == "check":
-            return self.json(self.server.runs.check(text))
+            return self.json(runs.check(text, asker))
         if name == "run":
-            return self.json(self.server.runs.run(text))
+            return self.json(runs.run(text, asker))
+        if name == "play":
+            head, data = runs.play(text, asker)
+            said = b'{"head":' + json.dumps(head).encode() + b',"data":' + data + b"}"
+            return self.send(200, JSON, said)
         if name == "stop":
-            self.server.runs.stop()
+            runs.stop()
             return self.json({})
-        raise edit_runs.Refused(NOT_FOUND, "there is no such page")
+        raise Refused(NOT_FOUND, "there is no such page")
 
     def body(self):
         """What was sent, which is no longer than the program takes."""
-        length = self.headers.get("Content-Length", "")
-        if not length.isdecimal() or "Transfer-Encoding" in self.headers:
+        said = self.headers.get("Content-Length", "")
+        if not (said.isascii() and said.isdecimal()) or "Transfer-Encoding" in self.headers:
             self.close_connection = True
-            raise edit_runs.Refused(NO_LENGTH, "a text is sent with its length")
-        if int(length) > edit_runs.MOST_INPUT:
+            raise Refused(NO_LENGTH, "a text is sent with its length")
+        digits = said.lstrip("0")
+        length = int(digits or "0") if len(digits) <= MOST_DIGITS else MOST_DROPPED
+        if length > edit_runs.MOST_INPUT:
             self.close_connection = True
-            self.drop(min(int(length), MOST_DROPPED))
-            said = f"a scenario has at most {edit_runs.MOST_INPUT:,} bytes"
-            raise edit_runs.Refused(TOO_LARGE, said)
-        text = self.rfile.read(int(length))
-        if len(text) != int(length):
+            self.drop(min(length, MOST_DROPPED))
+            raise Refused(TOO_LARGE, f"a scenario has at most {edit_runs.MOST_INPUT:,} bytes")
+        text = self.rfile.read(length)
+        if len(text) != length:
             self.close_connection = True
-            raise edit_runs.Refused(BAD, "the text was cut off")
+            raise Refused(BAD, "the text was cut off")
         return text
 
     def drop(self, length):
@@ -194,12 +226,22 @@ class Handler(http.server.BaseHTTPRequestHandler):
             length -= len(piece)
 
 
+def number(fields, name, least=0, most=4294967296):
+    """A number of a request."""
+    said = fields.get(name, "")
+    is_short = said.isascii() and said.isdecimal() and len(said) <= MOST_DIGITS
+    if not is_short or not least <= int(said) <= most:
+        raise Refused(BAD, f"{name} is a number from {least} to {most}")
+    return int(said)
+
+
 def scan_words(fields):
     """The words of a scan, in the order of the program."""
-    words = []
-    for name, (least, most) in SCAN.items():
-        said = fields.get(name, "")
-        if not said.isdecimal() or len(said) > 12 or not least <= int(said) <= most:
-            raise edit_runs.Refused(BAD, f"{name} is a number from {least} to {most}")
-        words.append(str(int(said)))
-    return words
+    return [str(number(fields, name, *bounds)) for name, bounds in SCAN.items()]
+
+
+def what_waits(fields):
+    """A request or an order, as tools/why takes it."""
+    if "order" in fields:
+        return ["--order", str(number(fields, "order", 1))]
+    return [str(number(fields, "client", 1)), str(number(fields, "seq", 1))]

@@ -31,7 +31,7 @@ complete -c scatter -n '__fish_seen_subcommand_from pool' -F
 complete -c scatter -n __fish_use_subcommand -a explain -d 'prints what each row of the journal in FILE decided, line by line, where `audit` says that the journal is lawful'
 complete -c scatter -n '__fish_seen_subcommand_from explain' -F
 complete -c scatter -n __fish_use_subcommand -a demo -d 'runs the scenarios of scenarios/, or those that are named, and says of each what it shows'
-complete -c scatter -n __fish_use_subcommand -a edit -d 'serves a page on 127.0.0.1 to write a scenario, run it, and look at its rows, until it is interrupted'
+complete -c scatter -n __fish_use_subcommand -a edit -d 'serves a page on 127.0.0.1 to write a scenario, run it or play it step by step, and look at its rows, until it is interrupted; options are --port N, and --seconds N and --memory MIB for a call of the program'
 complete -c scatter -n __fish_use_subcommand -a serve -d 'runs a store of nodes that are processes, and answers redis clients on a port, until it is interrupted; `serve --help` names the options'
 complete -c scatter -n __fish_use_subcommand -a order -d 'gives a store that runs an order, as `split G P`, and prints its result'
 complete -c scatter -n __fish_use_subcommand -a build -d 'proves every crate and builds the program, once'

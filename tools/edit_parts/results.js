@@ -1,25 +1,62 @@
-// What came of a run: its report, its rows with their slider, the scan there, the audit's verdict.
+// What came of a run: its report, its rows with their slider, the scan there, the audit's verdict;
+// and the rows of another text beside them.
 
-/** Asks the server; a fault is an Error with what it said. */
-async function ask(address, body) {
-  const how = body === undefined ? {} : { method: "POST", body };
-  let answer;
-  try {
-    answer = await fetch(address, { cache: "no-store", ...how });
-  } catch {
-    throw new Error("the server is gone: call ./scatter edit again");
+/** A frame that shows rows; runs are handed to it once its page is there. */
+class Frame {
+  constructor(id) {
+    this.id = id;
+    this.isReady = false;
+    this.isLoading = false;
+    this.next = null;
   }
-  const said = await answer.json().catch(() => ({ fault: `status ${answer.status}` }));
-  if (!answer.ok) throw Object.assign(new Error(said.fault), { status: answer.status });
-  return said;
+
+  get window() { return find(this.id).contentWindow; }
+
+  /** Shows a run at a row, as soon as it can be seen: the page asks how large things are. */
+  show(data, row) {
+    this.next = { data, row };
+    this.load();
+  }
+
+  load() {
+    if (!this.next || find("rows-panel").hidden) return;
+    find(this.id).hidden = false;
+    if (!this.isLoading) {
+      this.isLoading = true;
+      this.window.location.replace("frame"); // so that back leaves this page
+    }
+    if (!this.isReady) return;
+    const { data, row } = this.next;
+    this.next = null;
+    this.window.showRun(data, row);
+  }
+
+  ready() {
+    this.isReady = true;
+    this.window.setTheme(isDark());
+    this.load();
+  }
+
+  hide() {
+    this.next = null;
+    find(this.id).hidden = true;
+  }
+
+  /** Goes to a row, where a run is shown. */
+  go(row) {
+    if (this.isReady && !this.next && !find(this.id).hidden) this.window.go(row);
+  }
 }
 
 const results = {
   run: 0, // the number of the run that is shown
   row: 0,
+  rows: 0, // how many the run has
+  apart: 0, // the first row in which the other text's run differs
   statuses: {},
   scanTimer: 0,
-  frame: "", // the address of a page of rows that is not loaded yet
+  frame: new Frame("rows"),
+  other: new Frame("other-rows"),
 
   say(id, text, look) {
     find(id).textContent = text;
@@ -41,17 +78,22 @@ const results = {
     document.querySelector(".results").classList.toggle("old", isOld);
   },
 
-  showReport(came) {
-    this.run = came.run;
+  /** What came of a run, in a reader's words; whether it has rows. */
+  showHead({ run, status, proved, seconds }) {
+    this.run = run;
     this.age(false);
-    this.showBy(came.proved);
-    const meaning = this.statuses[came.status] ?? "a status that it should not have";
-    const took = `${came.seconds.toFixed(1)} s`;
-    const isBad = came.status !== 0 && came.status !== 6;
-    this.say("said", `status ${came.status}: ${meaning} (${took})`, isBad ? "bad" : "");
+    this.showBy(proved);
+    const meaning = this.statuses[status] ?? "ended with a status that it should not have";
+    const isBad = status !== 0 && status !== 6;
+    this.say("said", `It ${meaning} (status ${status}, ${seconds.toFixed(1)} s)`,
+      isBad ? "bad" : "");
     this.say("verdict", "");
-    find("report").textContent = came.said;
     return !isBad;
+  },
+
+  showReport(came) {
+    find("report").textContent = came.said;
+    return this.showHead(came);
   },
 
   showFault(fault) {
@@ -60,49 +102,100 @@ const results = {
   },
 
   hideRows(why) {
-    this.frame = "";
-    find("rows").hidden = true;
+    this.frame.hide();
+    this.rows = 0;
     find("no-rows").hidden = false;
     find("no-rows").textContent = why;
     this.say("scanned", "");
+    play.show();
   },
 
   /** Rows and verdict of a run, unless a newer one has come. */
-  async follow(run) {
+  async follow(run, way) {
     try {
-      this.say("verdict", "audit: under way");
-      const came = await ask(`rows?run=${run}`);
+      this.say("verdict", "rows: under way");
+      const data = await ask(`rows?run=${run}`);
       if (run !== this.run) return;
-      this.showRows(run, came.rows);
-      const audit = await ask(`audit?run=${run}`);
-      if (run !== this.run) return;
-      this.say("verdict", `audit: ${audit.said.trim()}`, audit.status ? "bad" : "good");
+      way.data = data;
+      this.showRows(data, way.row);
+      await this.audit(run);
     } catch (fault) {
       if (run === this.run) this.say("verdict", fault.message, "bad");
     }
   },
 
-  /** The page of the rows, at the row that was looked at before where there is one. */
-  showRows(run, count) {
-    this.row = Math.min(this.row || count, count);
-    if (!count) {
-      this.hideRows("This run has no rows.");
-    } else {
+  async audit(run) {
+    this.say("verdict", "audit: under way");
+    const audit = await ask(`audit?run=${run}`);
+    if (run !== this.run) return;
+    this.say("verdict", `audit: ${audit.said.trim()}`, audit.status ? "bad" : "good");
+  },
+
+  /** The rows, at the row that was looked at before where there is one. */
+  showRows(data, row) {
+    this.rows = data.count;
+    this.row = Math.min(row || this.rows, this.rows);
+    if (!this.rows) this.hideRows("This run has no rows.");
+    else {
       find("no-rows").hidden = true;
-      find("rows").hidden = false;
-      this.frame = `page?run=${run}#row=${this.row}`;
-      this.loadFrame();
+      this.frame.show(data, row ? this.row : 0);
     }
     find("row").textContent = String(this.row);
     this.scanSoon(0);
+    this.showOther();
   },
 
-  /** The page of the rows is loaded once it is seen, since it needs to know how large it is. */
-  loadFrame() {
-    if (!this.frame || find("rows-panel").hidden) return;
-    find("rows").src = this.frame;
-    this.frame = "";
+  // ---- another text beside this one
+
+  fillOthers() {
+    const others = ways.all.filter((way) => way !== ways.now);
+    find("beside").hidden = !others.length;
+    const chosen = find("other").value;
+    const options = others.map((way) => new Option(way.name, way.name));
+    find("other").replaceChildren(new Option("no other text", ""), ...options);
+    find("other").value = others.some((way) => way.name === chosen) ? chosen : "";
+    if (!find("other").value && chosen) this.showOther();
   },
+
+  /** Shows the other text's run beside this one, and the first row in which they differ. */
+  async showOther() {
+    const way = ways.all.find((one) => one.name === find("other").value && one !== ways.now);
+    const run = this.run;
+    this.apart = 0;
+    find("to-apart").hidden = true;
+    this.say("apart", "");
+    find("frames").classList.toggle("two", Boolean(way));
+    if (!way) {
+      this.other.hide();
+      return;
+    }
+    try {
+      if (!way.data) await playOf(way);
+      const { row } = await ask(`differ?run=${run}&other=${way.head.run}`);
+      if (run !== this.run) return;
+      this.apart = row;
+      this.say("apart", row ? `the first row that differs is ${row}` : "they have the same rows");
+      find("to-apart").hidden = !row;
+      this.other.show(way.data, Math.min(row || this.row, way.data.count));
+      this.markApart();
+    } catch (fault) {
+      way.data = null;
+      if (run === this.run) this.say("apart", fault.message, "bad");
+    }
+  },
+
+  /** Marks the first row that differs in both frames. */
+  markApart() {
+    for (const frame of [this.frame, this.other]) {
+      if (frame.isReady && !frame.next) frame.window.markRow(this.apart);
+    }
+  },
+
+  goApart() {
+    for (const frame of [this.frame, this.other]) frame.go(this.apart);
+  },
+
+  // ---- the scan
 
   /** The scan comes when the reader rests at a row. */
   scanSoon(wait) {
@@ -111,10 +204,12 @@ const results = {
   },
 
   async scan() {
-    if (!this.run) return;
+    if (!this.run || !this.rows || find("rows-panel").hidden) return;
     const [run, row] = [this.run, this.row];
-    const [lo, len, most] = ["lo", "len", "most"].map((id) => find(id).value.trim());
-    const words = new URLSearchParams({ run, row, lo, len, most });
+    const [from, positions, pairs] = ["from", "positions", "pairs"].map((id) => (
+      find(id).value.trim()
+    ));
+    const words = new URLSearchParams({ run, row, from, positions, pairs });
     try {
       const came = await ask(`scan?${words}`);
       if (run === this.run && row === this.row) this.say("scanned", came.said);
@@ -123,15 +218,50 @@ const results = {
     }
   },
 
-  /** The page of the rows says which row it shows. */
+  // ---- what the pages of the rows say
+
   onMessage(event) {
-    if (event.source !== find("rows").contentWindow || event.origin !== location.origin) return;
-    const row = event.data?.row;
-    if (!Number.isInteger(row) || row === this.row) return;
-    this.row = row;
-    find("row").textContent = String(row);
-    this.scanSoon(150);
+    if (event.origin !== location.origin) return;
+    const frame = [this.frame, this.other].find((one) => one.window === event.source);
+    if (!frame) return;
+    const said = event.data ?? {};
+    if (said.ready) {
+      frame.ready();
+      this.markApart();
+    }
+    if (said.theme) setTheme(!isDark());
+    if (said.help) find("keys").showModal();
+    if (frame !== this.frame) return;
+    if (Array.isArray(said.append)) appendLines(said.append.map(String));
+    if (said.frees) this.free(said.frees);
+    if (Number.isInteger(said.row)) this.atRow(said.row);
   },
+
+  atRow(row) {
+    if (row !== this.row) {
+      this.row = row;
+      ways.now.row = row === this.rows ? 0 : row;
+      find("row").textContent = String(row);
+      this.scanSoon(150);
+    }
+    play.show();
+  },
+
+  /** Looks for lines that free a request or an order, and tells the page of the rows. */
+  async free({ kind, name }) {
+    const [client, seq] = String(name).replace(/^c/, "").split(" ");
+    const what = kind === "order" ? { order: name } : { client, seq };
+    const mark = `${kind} ${name}`;
+    const run = this.run;
+    try {
+      const { lines } = await ask(`frees?${new URLSearchParams({ run, ...what })}`);
+      if (run === this.run) this.frame.window.showFreeing(mark, lines, "");
+    } catch (fault) {
+      if (run === this.run) this.frame.window.showFreeing(mark, null, fault.message);
+    }
+  },
+
+  // ---- tabs
 
   openTab(name) {
     for (const other of ["report", "rows"]) {
@@ -140,7 +270,10 @@ const results = {
       find(`tab-${other}`).tabIndex = is ? 0 : -1;
       find(`${other}-panel`).hidden = !is;
     }
-    this.loadFrame();
+    if (name !== "rows") return;
+    this.frame.load();
+    this.other.load();
+    this.scanSoon(0);
   },
 
   onTabKey(event) {
