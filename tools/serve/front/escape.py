@@ -5,6 +5,7 @@ value is `%` alone. A key is percent-encoded too, behind two bytes of its checks
 key on the ring is its first four bytes, so these two spread keys that begin alike.
 """
 
+import re
 import zlib
 
 MOST_KEY, MOST_VALUE = 64, 256
@@ -12,6 +13,7 @@ LEAST, KINDS = 33, 94  # the first byte that a text may have, and how many there
 TURN = KINDS * KINDS  # what two bytes can be
 EMPTY = b"%"
 CODES = [bytes([b]) if LEAST <= b < LEAST + KINDS and b != 37 else b"%%%02X" % b for b in range(256)]
+PLAIN = re.compile(rb"[!-$&-~]*\Z")  # what is encoded as it is
 
 
 class TooLong(Exception):
@@ -19,11 +21,15 @@ class TooLong(Exception):
 
 
 def encoded(text):
+    if PLAIN.match(text):
+        return text
     return b"".join([CODES[b] for b in text])
 
 
 def decoded(text):
     """The bytes of a percent-encoded text."""
+    if b"%" not in text:
+        return text
     first, *others = text.split(b"%")
     return first + b"".join(bytes([int(one[:2], 16)]) + one[2:] for one in others)
 

@@ -1,7 +1,5 @@
 """What a client of the store can be asked, as JSON of the program and as a line of the history."""
 
-import json
-
 from front import escape
 
 
@@ -15,15 +13,19 @@ class Operation:
         self.values = [escape.value(one) for one in values]
 
     def json(self):
-        fields = {"key": self.key}
-        if self.values:
-            fields["value"] = self.values[-1]
-        if len(self.values) == 2:
-            fields["expect"] = self.values[0]
-        return json.dumps({self.kind: fields}, separators=(",", ":"), sort_keys=True).encode("ascii")
+        """Its text, with the names in ascending order. Bytes are 33 to 126, so two of them need a backslash."""
+        expect = f'"expect":{quoted(self.values[0])},' if len(self.values) == 2 else ""
+        value = f',"value":{quoted(self.values[-1])}' if self.values else ""
+        return f'{{"{self.kind}":{{{expect}"key":{quoted(self.key)}{value}}}}}'.encode("ascii")
 
     def line(self):
         return " ".join([self.kind.lower(), self.key, *self.values])
+
+
+def quoted(text):
+    if "\\" in text or '"' in text:
+        text = text.replace("\\", "\\\\").replace('"', '\\"')
+    return f'"{text}"'
 
 
 def get(key):

@@ -18,6 +18,7 @@ TURN = 0.05  # seconds between two looks at what waits
 SOONEST, LATEST = 0.25, 2.0  # seconds after which a client that waits ticks
 MOST_HINTS, LONGEST_HINT = 4, 0.2  # answers that name another node and are taken at once; delay of later ones
 SENT, REPLY = b'{"sent":', b'{"reply":'
+NO_VALUE = b'{"reply":{"old":null},"sent":[]}'
 NOT_LEADER = b'"answer":{"NotLeader":'
 
 
@@ -47,9 +48,9 @@ class Client:
     def take(self, stored, can_wait):
         """An input, as its line of the file."""
         self.inputs += 1
+        self.child.feed_now(inputs.fed(stored))  # (first, so that it works while the loop syncs)
         number = self.pool.syncing.add(b"%d %s" % (self.number, stored), can_wait)
         self.printed.append((number, self.inputs))
-        self.child.feed(inputs.fed(stored))
 
     def ask(self, request):
         self.request, self.asked, self.hints = request, self.asked + 1, 0
@@ -87,11 +88,10 @@ class Client:
             of = self.printed.popleft()
             if line.startswith(REPLY):
                 self.replied += 1
-                self.pool.replied(self, json.loads(line)["reply"]["old"])
+                self.pool.replied(self, None if line == NO_VALUE else json.loads(line)["reply"]["old"])
             elif of is not None and line.startswith(SENT):
                 for place, (node, mail) in enumerate(frames.mails(line[len(SENT) : -1])):
-                    self.pool.kept.append((of[0], node, b"%d %d %s\n" % (of[1], place, mail)))
-        self.pool.release()
+                    self.pool.send(of[0], node, b"%d %d %s\n" % (of[1], place, mail))
 
     def ended(self, status):
         self.pool.on_fault(child.over(f"client {self.number}", status, self.unasked))
@@ -202,32 +202,31 @@ class Pool:
 
     # ---- mail
 
-    def on_synced(self, upto):
-        self.synced = upto
-        self.release()
+    def send(self, number, node, frame):
+        """Sends mail whose input is on stable storage, and keeps other until it is."""
+        if number > self.synced:
+            self.kept.append((number, node, frame))
+            self.syncing.hurry()
+        elif node in self.links:
+            self.links[node].send(frame)
 
-    def release(self):
-        """Sends the mail of all inputs that are on stable storage, and keeps the other."""
-        by, left = {}, []
+    def on_synced(self, upto):
+        """Sends what was kept until now."""
+        self.synced, by, left = upto, {}, []
         for one in self.kept:
-            if one[0] <= self.synced:
+            if one[0] <= upto:
                 by.setdefault(one[1], []).append(one[2])
             else:
                 left.append(one)
         self.kept = left
-        if left:
-            self.syncing.hurry()
         for node, some in by.items():
             if node in self.links:
                 self.links[node].send(b"".join(some))
 
     def got(self, frame):
         """Mail of a node to a client."""
-        try:
-            _, _, mail = frames.split(frame)
-        except ValueError:
-            return
-        ends = frames.ends_of(mail)
+        mail = frames.mail_of(frame)
+        ends = mail and frames.ends_of(mail)
         client = ends and self.clients.get(ends[1] - scenario.NODES)
         if client:
             client.got(frame, mail)

@@ -67,8 +67,24 @@ class Requests:
         self.at = end + 1
         return line
 
+    def at_once(self):
+        """The next request where all that has come is one whole list without line feeds in it, which is most often so."""
+        if self.at or self.more or self.left[:1] != b"*":
+            return None
+        parts = bytes(self.left).split(b"\r\n")
+        words = parts[2::2]
+        if len(self.left) > MOST_KEPT or parts[0] != b"*%d" % len(words) or len(parts) != 2 * len(words) + 2 or parts[-1]:
+            return None
+        if parts[1:-1:2] != [b"$%d" % len(word) for word in words]:
+            return None
+        self.left.clear()
+        return words
+
     def next(self):
         """The next request, or nothing yet."""
+        words = self.at_once()
+        if words is not None:
+            return words
         while not self.more:
             line = self.line()
             if line is None:

@@ -59,9 +59,8 @@ class Called(lines.Lines):
     def on_line(self, line):
         """Takes a line, and says whether it is one that this peer may send."""
         if line[:1].isdigit():
-            try:
-                _, _, mail = frames.split(line)
-            except ValueError:
+            mail = frames.mail_of(line)
+            if mail is None:
                 return False
             if self.suffix:
                 is_its = mail.endswith(self.suffix)

@@ -74,8 +74,8 @@ class Node:
     def take(self, stored, line, can_wait=False):
         """An input: its line in the file, and the line for the program."""
         self.inputs += 1
+        self.child.feed(line)  # (first, so that it works while the loop syncs)
         self.printed.append((self.syncing.add(stored, can_wait), self.inputs))
-        self.child.feed(line)
 
     def got(self, frame, mail):
         """Mail came from another machine."""

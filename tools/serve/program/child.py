@@ -50,6 +50,12 @@ class Child:
             self.is_due = True
             self.loop.call_soon(self.write)
 
+    def feed_now(self, line):
+        """Gives one line at once, where no other waits."""
+        self.fed.append(line)
+        if not self.is_due:
+            self.write()
+
     def write(self):
         """Writes what the pipe takes, and waits for it where it takes no more."""
         self.is_due = False

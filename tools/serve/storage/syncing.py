@@ -1,10 +1,16 @@
-"""Syncs in a thread of their own: inputs that come while one runs share the next."""
+"""Syncs that many inputs share: those that come while one runs are of the next.
+
+Where syncs are fast the loop makes them itself, since a thread that has to be waken takes longer; where
+they are slow a thread of their own does, and the loop goes on meanwhile.
+"""
 
 import queue
 import sys
 import threading
+import time
 
 SOON = 0.02  # seconds that a line may wait for which nobody waits
+FAST = 0.0005  # seconds of a sync, on average, that the loop waits for itself
 
 
 class Syncing:
@@ -20,7 +26,7 @@ class Syncing:
         self.is_due = self.is_busy = self.is_over = False
         self.later = None
         self.jobs = queue.SimpleQueue()
-        self.count, self.syncs = 0, 0
+        self.count, self.syncs, self.average = 0, 0, FAST
         # who waits for the interpreter behind a sync is not to wait for 5 ms
         sys.setswitchinterval(0.0002)
         self.thread = threading.Thread(target=self.work, daemon=True)
@@ -50,8 +56,26 @@ class Syncing:
         self.is_due = False
         if self.lines and not self.is_busy and not self.is_over:
             self.is_busy = True
-            self.jobs.put((self.lines, self.count))
-            self.lines = []
+            job, self.lines = (self.lines, self.count), []
+            if self.average < FAST:
+                self.append_now(job)
+            else:
+                self.jobs.put(job)
+
+    def append_now(self, job):
+        lines, upto = job
+        try:
+            self.append(lines)
+        except OSError as fault:
+            self.failed(fault)
+            return
+        self.done(upto)
+
+    def append(self, lines):
+        """Appends lines, and keeps how long that takes on average."""
+        began = time.perf_counter()
+        self.file.append(lines)
+        self.average += (time.perf_counter() - began - self.average) / 8
 
     def work(self):
         while True:
@@ -60,7 +84,7 @@ class Syncing:
                 return
             lines, upto = job
             try:
-                self.file.append(lines)
+                self.append(lines)
             except OSError as fault:
                 self.loop.call_soon_threadsafe(self.failed, fault)
                 return
@@ -69,9 +93,9 @@ class Syncing:
     def done(self, upto):
         self.is_busy = False
         self.syncs += 1
-        if self.is_due:
-            self.begin()
         self.on_synced(upto)
+        if self.is_due:
+            self.loop.call_soon(self.begin)
 
     def failed(self, fault):
         self.is_over = True

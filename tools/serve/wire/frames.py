@@ -38,6 +38,15 @@ def ends_of(mail):
     return (int(found.group(1)), int(found.group(2))) if found else None
 
 
+FRAME = re.compile(rb"\d{1,11} \d{1,11} (?=\{)")
+
+
+def mail_of(line):
+    """The mail of a line with mail, or nothing where the line is none."""
+    found = FRAME.match(line)
+    return line[found.end() :] if found else None
+
+
 def split(line):
     """The three parts of a line with mail: input and place as numbers, and the mail. Else a ValueError."""
     number, place, mail = line.split(b" ", 2)
