@@ -160,7 +160,8 @@ def last_values(store):
     """What each key has at the end; the store answers when its processes have found each other again."""
     found, until = {}, time.monotonic() + stores.PATIENCE
     while len(found) < KEYS:
-        expect(time.monotonic() < until, f"seed {SEED}: the store does not answer any more: {store.log()}")
+        if time.monotonic() > until:
+            raise stores.Wrong(f"seed {SEED}: the store does not answer any more: {store.client().ask('INFO').decode()}")
         try:
             client = store.client(20)
             for k in range(len(found), KEYS):

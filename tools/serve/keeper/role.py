@@ -5,6 +5,7 @@ stopped, and may begin again from what its file has.
 """
 
 import asyncio
+import gc
 import os
 import resource
 import signal
@@ -27,6 +28,12 @@ def more_files():
     """As many open files as may be: each connection is one."""
     _, most = resource.getrlimit(resource.RLIMIT_NOFILE)
     resource.setrlimit(resource.RLIMIT_NOFILE, (most, most))
+
+
+def collect_seldom():
+    """Nearly nothing here is a cycle, and each input makes some objects that live until it is synced."""
+    gc.freeze()
+    gc.set_threshold(100_000, 20, 20)
 
 
 def make(loop, asked):
@@ -83,6 +90,7 @@ async def run(asked):
 def main(asked):
     signal.signal(signal.SIGINT, signal.SIG_IGN)
     more_files()
+    collect_seldom()
     try:
         return asyncio.run(run(asked))
     except (cluster.BadCluster, file.BadFile, tls.BadCertificate) as fault:

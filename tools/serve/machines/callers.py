@@ -5,6 +5,8 @@ import json
 from program import scenario
 from wire import frames, identity, lines
 
+FED = rb'{"Got":\1}'
+
 
 class Called(lines.Lines):
     """A connection that another machine made. Nothing of it is taken before it has shown who it is."""
@@ -14,6 +16,7 @@ class Called(lines.Lines):
         self.node, self.own = node, identity.word()
         self.peer = None  # its kind and its number
         self.suffix, self.clients = b"", ()
+        self.pattern = None
 
     def made(self):
         self.transport.write(b"scatter peer 1 %s\n" % self.own)
@@ -41,6 +44,7 @@ class Called(lines.Lines):
             if number == node.number:
                 return False
             self.suffix = node.suffixes[number]
+            self.pattern = frames.from_to(number, node.number)
         else:
             self.clients = [scenario.NODES + c for c in node.cluster.machines[number].clients]
             node.fronts.update((actor, self) for actor in self.clients)
@@ -56,6 +60,13 @@ class Called(lines.Lines):
 
     # ---- lines of a peer
 
+    def on_whole(self, data):
+        """Takes lines that are all mail of a node, which is most often so."""
+        if self.pattern is None:
+            return False
+        fed, count = self.pattern.subn(FED, data)
+        return count == data.count(b"\n") and self.node.got_all(data, fed, count)
+
     def on_line(self, line):
         """Takes a line, and says whether it is one that this peer may send."""
         if line[:1].isdigit():
@@ -67,6 +78,8 @@ class Called(lines.Lines):
             else:
                 ends = frames.ends_of(mail)
                 is_its = ends and ends[0] in self.clients and ends[1] == self.node.number
+                if is_its:
+                    self.node.ticks.got(ends[0])
             if is_its:
                 self.node.got(line, mail)
             return is_its

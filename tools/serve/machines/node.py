@@ -7,6 +7,7 @@ so it is an input at once; its own mail waits as all other.
 
 import collections
 import json
+import re
 
 from machines import callers, ticks
 from program import child, scenario
@@ -15,6 +16,9 @@ from wire import faults, frames, identity, links
 
 MOST_INPUTS = 50_000  # that wait for the program; mail beyond is lost
 STATE = b'"State"\n'
+BEGIN = re.compile(rb"(?m)^(?=\d)")
+# Kinds of mail that are answered by mail of their own.
+ACCEPT, REQUEST = b' {"body":{"Accept":', b' {"body":{"Request":'
 
 
 class Node:
@@ -82,6 +86,17 @@ class Node:
         if len(self.printed) < MOST_INPUTS and not self.child.is_full():
             self.take(b"m %s\n" % frame, b'{"Got":%s}\n' % mail, mail.startswith(frames.CALM))
 
+    def got_all(self, data, fed, count):
+        """Mail came from another machine: its lines, and those for the program. Says whether it takes all."""
+        if len(self.printed) + count >= MOST_INPUTS or self.child.is_full():
+            return False
+        self.child.feed(fed)
+        can_wait = ACCEPT not in data and REQUEST not in data
+        first = self.syncing.add_all(BEGIN.sub(b"m ", data), count, can_wait)
+        self.printed.extend([(first + k, self.inputs + k + 1) for k in range(count)])
+        self.inputs += count
+        return True
+
     def tick(self):
         self.take(inputs.TICK, b'"Tick"\n')
 
@@ -111,6 +126,7 @@ class Node:
                 self.rows += 1
             elif type(of) is tuple:
                 self.rows += 1
+                self.is_changed = True
                 if line != b"[]":
                     kept.append((of[0], self.outgoing(line, of[1])))
             else:
@@ -131,7 +147,6 @@ class Node:
                 found.append((receiver, frame))
         if found:
             self.syncing.hurry()
-        self.is_changed = True
         return found
 
     def on_synced(self, upto):
@@ -177,7 +192,7 @@ class Node:
             self.ask_state(self.on_state)
         if self.rows < self.replayed:
             return
-        line = b"beat %s\n" % " ".join(sorted(self.ticks.leads)).encode()
+        line = b"beat %s\n" % self.ticks.words().encode("ascii")
         for link in self.links.values():
             link.send(line)
         if self.ticks.is_due():

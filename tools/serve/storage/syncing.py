@@ -42,6 +42,11 @@ class Syncing:
             self.later = self.loop.call_later(SOON, self.hurry)
         return self.count
 
+    def add_all(self, text, count, can_wait):
+        """Takes whole lines at once, and returns the number of the first."""
+        self.count += count - 1
+        return self.add(text, can_wait) - count + 1
+
     def hurry(self):
         """Something waits for what was taken so far."""
         if not self.is_due:

@@ -41,6 +41,11 @@ def ends_of(mail):
 FRAME = re.compile(rb"\d{1,11} \d{1,11} (?=\{)")
 
 
+def from_to(sender, receiver):
+    """What finds each line of mail from one node to another: the mail is its first group."""
+    return re.compile(rb'(?m)^\d{1,11} \d{1,11} (\{.*,"from":%d,"to":%d\})$' % (sender, receiver))
+
+
 def mail_of(line):
     """The mail of a line with mail, or nothing where the line is none."""
     found = FRAME.match(line)

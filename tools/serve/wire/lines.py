@@ -21,6 +21,8 @@ class Lines(asyncio.Protocol):
         self.made()
 
     def data_received(self, data):
+        if not self.rest and data[-1:] == b"\n" and self.on_whole(data):
+            return
         lines = data.split(b"\n")
         last = lines.pop()
         if lines:
@@ -55,6 +57,11 @@ class Lines(asyncio.Protocol):
 
     def on_lines(self, lines):
         """Whole lines came."""
+
+    def on_whole(self, data):
+        """Whole lines came, with their line feeds. Takes all of them, or says that it takes none."""
+        del data
+        return False
 
     def lost(self):
         """The connection is gone."""
