@@ -174,11 +174,7 @@ def last_values(store):
 
 def checked(program, journal, history):
     """The audit and the history, by the program where it has these subcommands."""
-    status, said = check.ask(program, ["audit", "rows"], journal)
-    if status == check.BAD_WORDS:
-        print("  the program has no subcommand `audit rows`: the rows are not audited")
-    else:
-        expect(status == 0 and said.startswith("lawful"), f"seed {SEED}: audit: {said}")
+    expect(check.audit(program, journal), f"seed {SEED}: the rows are not lawful")
     with open(history, encoding="ascii") as source:
         lines = source.read().splitlines()[1:]
     key = linear.first_bad_key(lines)

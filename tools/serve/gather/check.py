@@ -4,7 +4,7 @@ import os
 import subprocess
 import sys
 
-from gather import files, journal, linear
+from gather import files, journal, linear, read_off
 from storage import file
 
 TOOLS = os.path.dirname(os.path.dirname(os.path.dirname(os.path.abspath(__file__))))
@@ -24,12 +24,20 @@ def ask(program, words, given):
 
 
 def audit(program, path):
-    """Whether the rows are a lawful journal."""
+    """Whether the rows are a lawful journal: all of them, or the longest beginning that an ordinary journal holds."""
     status, said = ask(program, ["audit", "rows"], path)
-    if status == BAD_WORDS:
-        say("the program has no subcommand `audit rows`, so the rows are not audited")
+    if status != BAD_WORDS:
+        say(f"audit: {said}")
+        return status == 0
+    ordinary = path + ".ordinary"
+    try:
+        why = read_off.beginning(path, ordinary)
+    except read_off.Unlawful as fault:
+        say(f"audit: unlawful: {fault}")
         return False
-    say(f"audit: {said}")
+    status, said = ask(program, ["audit"], ordinary)
+    whole = f", of the longest beginning with a schedule of 20,000 lines; behind it comes {why}" if why else ""
+    say(f"audit: {said}{whole}")
     return status == 0
 
 
