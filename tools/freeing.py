@@ -2,9 +2,10 @@
 
 import journals
 import schedules
+from limits import PATIENCE
 
 SETTLE = "settle 10000"
-MOST_TICKS = 9  # with the eighth a transaction is given up
+MOST_TICKS = PATIENCE + 1  # one more than those behind which a transaction is given up
 MOST_PAIRED = 6  # nodes of which all pairs are tried
 
 

@@ -11,11 +11,11 @@ import re
 import sys
 
 import explained
+from limits import NODES
 from program import Unplayed, answering, run
 
 RING = 2**32  # positions on the ring
 BAD_SCENARIO = 3  # the program's status
-NODES = 32  # actors above are clients, and 0 is the desk, which gets what orders came to
 
 
 class BadJournal(Exception):

@@ -11,11 +11,11 @@ import re
 
 import journals
 import program
+from limits import LINES
 from program import Unplayed
 
 PARTS = ("scatter", "nodes", "group", "policy", "client", "end", "get", "put", "del", "add", "cas")
 WRITTEN = ("storm", "free")  # lines that `written_out` puts other lines in place of
-MOST_LINES = 20000
 ROWS = re.compile(r"^rows (\d+)$", re.MULTILINE)
 
 
@@ -306,6 +306,6 @@ def lines_written_out(journal, asked, mark):
                 found.append(line_of(journal, pending, row))
             pending.take(row)
         place = max(place, played.last)
-    if len(found) > MOST_LINES:
-        raise Unplayed(f"that is {len(found)} lines, and a scenario has at most {MOST_LINES}")
+    if len(found) > LINES:
+        raise Unplayed(f"that is {len(found)} lines, and a scenario has at most {LINES}")
     return found

@@ -9,9 +9,7 @@ import json
 import causes
 import journals
 import schedules
-
-OPEN_SLOTS = 4  # the number of slots of a group that a leader has open
-TX_KINDS = ("TxPrepare", "TxVote", "TxWatch", "TxWatched", "TxOutcome", "TxElsewhere")
+from limits import OPEN_SLOTS, TX_KINDS
 
 
 def command_key(command):
