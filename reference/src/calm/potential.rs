@@ -58,14 +58,14 @@ impl Bounds {
 
 /// A run, its replicas and its bounds.
 struct Owing<'a> {
-    w: &'a World<'a>,
+    world: &'a World<'a>,
     groups: Replicas<'a>,
     bounds: Bounds,
 }
 
 /// Returns what all owe in a run.
 pub fn potential(w: &World, bounds: Bounds) -> Result<u64, String> {
-    let owing = Owing { w, groups: w.replicas(), bounds };
+    let owing = Owing { world: w, groups: w.replicas(), bounds };
     let mut sum = owing.groups.values().map(|g| owing.group(g)).sum();
     for c in w.clients() {
         sum += owing.client(c)?;
@@ -112,7 +112,7 @@ impl Owing<'_> {
         if c.replies.len() == c.requests.len() {
             return Ok(unsent);
         }
-        if !self.w.has_gone(client_actor(c.me)) {
+        if !self.world.has_gone(client_actor(c.me)) {
             return Ok(unsent + (2 + 2 * far) * groups + 2 * far);
         }
         let stands = |g: &Draw| !self.newest(g).gone();

@@ -15,7 +15,7 @@ use std::collections::BTreeMap;
 /// A run in the making.
 struct Making<'a> {
     head: &'a Scenario,
-    w: World<'a>,
+    world: World<'a>,
     seed: u64,
     mood: Mood,
     bounds: Bounds,
@@ -46,15 +46,15 @@ fn budget_of(head: &Scenario, orders: u64) -> u64 {
 impl Making<'_> {
     fn play(&mut self, line: SchedLine) -> Result<(), String> {
         self.lines.push(line.clone());
-        self.w.line(&line).map_err(|_| "full".to_string())
+        self.world.line(&line).map_err(|_| "full".to_string())
     }
 
     fn order(&mut self, d: &mut Dice, seen: &mut Seen) -> Result<SchedLine, String> {
         self.left -= 1;
         let number = (self.orders - self.left) as u32;
-        let line = calm_order(d, &self.w, self.head, &self.mood, number);
+        let line = calm_order(d, &self.world, self.head, &self.mood, number);
         self.play(line.clone())?;
-        let now = potential(&self.w, self.bounds)?;
+        let now = potential(&self.world, self.bounds)?;
         if now > self.owed + 242 + 4 * self.bounds.far || now > self.owed + 512 * self.orders {
             return Err(format!("an order raises {} to {now}", self.owed));
         }
@@ -68,7 +68,7 @@ impl Making<'_> {
         for _ in 0..n {
             let client = self.waiting.swap_remove(d.below(self.waiting.len() as u64) as usize);
             self.play(SchedLine::Go { client })?;
-            let now = potential(&self.w, self.bounds)?;
+            let now = potential(&self.world, self.bounds)?;
             if now > self.owed {
                 return Err(format!("a go raises {} to {now}", self.owed));
             }
@@ -79,33 +79,33 @@ impl Making<'_> {
 
     /// Delivers until the journal is quiet. Returns how many deliveries it took.
     fn deliver(&mut self, d: &mut Dice, seen: &mut Seen) -> Result<u64, String> {
-        let way = if d.chance(35) { None } else { Some(some_way(d, &self.w)) };
+        let way = if d.chance(35) { None } else { Some(some_way(d, &self.world)) };
         let most = self.budget as u32;
         self.lines.push(match way {
             None => SchedLine::Settle { most },
             Some(_) => SchedLine::Free { most, workers: 4 },
         });
         let (mut used, mut last) = (0, 0);
-        while let Some(number) = chosen(d, &self.w, &way, &mut last) {
+        while let Some(number) = chosen(d, &self.world, &way, &mut last) {
             if used == self.budget {
                 return Err("unsettled within the budget".to_string());
             }
-            self.w.deliver(number).map_err(|_| "full".to_string())?;
+            self.world.deliver(number).map_err(|_| "full".to_string())?;
             used += 1;
             if self.deep {
                 self.check_row()?;
                 seen.deep += 1;
             }
         }
-        self.owed = potential(&self.w, self.bounds)?;
+        self.owed = potential(&self.world, self.bounds)?;
         Ok(used)
     }
 
     fn check_row(&mut self) -> Result<(), String> {
-        row_holds(&self.w)?;
-        let now = potential(&self.w, self.bounds)?;
+        row_holds(&self.world)?;
+        let now = potential(&self.world, self.bounds)?;
         if now + 1 > self.owed {
-            return Err(format!("owed {} to {now} by {:?}", self.owed, self.w.rows.last()));
+            return Err(format!("owed {} to {now} by {:?}", self.owed, self.world.rows.last()));
         }
         self.owed = now;
         Ok(())
@@ -113,7 +113,7 @@ impl Making<'_> {
 
     /// Checks that at most one group was polled for, and only by an order.
     fn check_rounds(&mut self, ordered: bool) -> Result<(), String> {
-        let now = rounds_of(&self.w);
+        let now = rounds_of(&self.world);
         let risen: u32 = now.iter().map(|(g, n)| n - self.rounds.get(g).copied().unwrap_or(1)).sum();
         if risen > u32::from(ordered) {
             return Err(format!("rounds rose by {risen}"));
@@ -124,7 +124,7 @@ impl Making<'_> {
 
     /// Plays an order, or clients that go, and the deliveries behind.
     fn turn(&mut self, d: &mut Dice, seen: &mut Seen) -> Result<(), String> {
-        let before = self.w.rows.len();
+        let before = self.world.rows.len();
         let clients = self.waiting.len() as u64;
         let orders = self.left > 0 && (clients == 0 || d.chance(100 * self.left / (self.left + 1 + clients)));
         let ordered = if orders { Some(self.order(d, seen)?) } else { None };
@@ -136,18 +136,18 @@ impl Making<'_> {
         if share > seen.share && (self.head.requests() > 0 || ordered.is_some()) {
             (seen.share, seen.share_at) = (share, self.seed);
         }
-        let rows = &self.w.rows[before..];
+        let rows = &self.world.rows[before..];
         match &ordered {
             Some(SchedLine::Told { line, .. }) => seen.order(line, rows, used, self.seed)?,
             _ => seen.requests(rows, self.seed),
         }
-        quiet_holds(&self.w, &mut seen.most)?;
+        quiet_holds(&self.world, &mut seen.most)?;
         self.check_rounds(ordered.is_some())
     }
 
     fn all(&mut self, d: &mut Dice, seen: &mut Seen) -> Result<(), String> {
-        quiet_holds(&self.w, &mut seen.most)?;
-        self.owed = potential(&self.w, self.bounds)?;
+        quiet_holds(&self.world, &mut seen.most)?;
+        self.owed = potential(&self.world, self.bounds)?;
         if self.owed > budget_of(self.head, self.orders) - 512 * self.orders {
             return Err("the first owed is above the budget".to_string());
         }
@@ -171,7 +171,7 @@ fn one(seed: u64, dials: &Dials, seen: &mut Seen) -> Result<(), (Scenario, Strin
     let mood = some_mood(&mut d, &head);
     let mut making = Making {
         head: &head,
-        w: World::start(&head, dials, JOURNAL_LIMIT),
+        world: World::start(&head, dials, JOURNAL_LIMIT),
         seed,
         mood,
         bounds: Bounds { groups: head.groups.len() as u64 + orders, far: orders + 1 },
@@ -186,7 +186,7 @@ fn one(seed: u64, dials: &Dials, seen: &mut Seen) -> Result<(), (Scenario, Strin
     };
     let result = making.all(&mut d, seen);
     seen.scenarios += 1;
-    seen.rows += making.w.rows.len() as u64;
+    seen.rows += making.world.rows.len() as u64;
     let lines = making.lines;
     result.map_err(|e| (Scenario { lines, ..head.clone() }, e))
 }

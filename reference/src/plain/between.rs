@@ -12,14 +12,14 @@ use std::collections::BTreeMap;
 
 /// A run, with the mail that each actor has not taken yet, in order.
 struct View<'a> {
-    s: &'a Scenario,
-    w: &'a World<'a>,
+    scenario: &'a Scenario,
+    world: &'a World<'a>,
     rests: BTreeMap<u32, Vec<&'a Mail>>,
 }
 
 /// Checks all of it. Returns how far a member is behind its leader at most.
 pub fn between(s: &Scenario, w: &World) -> Result<u64, String> {
-    let view = View { s, w, rests: w.rests() };
+    let view = View { scenario: s, world: w, rests: w.rests() };
     let mut lag = 0;
     for b in &s.groups {
         let leader = &view.node(b.core.first).replicas[&b.core.id];
@@ -49,7 +49,7 @@ fn voted_slot(m: &Mail, id: Draw) -> Option<u32> {
 
 impl View<'_> {
     fn node(&self, n: u16) -> &Node {
-        self.w.node(u32::from(n)).expect("a node")
+        self.world.node(u32::from(n)).expect("a node")
     }
     fn rest(&self, n: u16) -> &[&Mail] {
         &self.rests[&u32::from(n)]
@@ -126,7 +126,7 @@ impl View<'_> {
     /// C6: no group has noted a request of the client that it has not begun.
     fn noted(&self, c: &Client) -> Result<(), String> {
         let last = begun(c) as u32;
-        for b in &self.s.groups {
+        for b in &self.scenario.groups {
             for m in &b.core.members {
                 let r = &self.node(*m).replicas[&b.core.id];
                 if r.base.clients.get(&c.me).is_some_and(|x| x.0 > last) {
@@ -156,7 +156,7 @@ impl View<'_> {
         tokens += self.rests[&who].iter().filter(answers).count();
         let mine =
             |x: &&Command| matches!(x, Command::Call { client, seq: q, .. } if (*client, *q) == (c.me, seq));
-        for b in &self.s.groups {
+        for b in &self.scenario.groups {
             let r = &self.node(b.core.first).replicas[&b.core.id];
             let l = r.leader.as_ref().ok_or("no leader")?;
             tokens += r.calls.iter().chain(l.commands()).filter(mine).count();

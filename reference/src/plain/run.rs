@@ -46,8 +46,8 @@ fn kind(m: &Mail) -> &'static str {
 
 /// A run in the making, with what was owed after its last row.
 struct Making<'a> {
-    s: &'a Scenario,
-    w: World<'a>,
+    scenario: &'a Scenario,
+    world: World<'a>,
     requests: u64,
     first_owed: u64,
     owed: u64,
@@ -64,19 +64,28 @@ impl<'a> Making<'a> {
         let size = s.clients.len() as u64 + 3 * groups;
         let w = World::start(s, dials, JOURNAL_LIMIT);
         let every = if size > 60 { 5 } else { 1 };
-        Making { s, w, requests, first_owed, owed: first_owed, delivered: 0, checked: 0, every }
+        Making {
+            scenario: s,
+            world: w,
+            requests,
+            first_owed,
+            owed: first_owed,
+            delivered: 0,
+            checked: 0,
+            every,
+        }
     }
 
     /// Checks the last row, and all that holds after it.
     fn check(&mut self, seen: &mut Seen) -> Result<(), String> {
-        let now = owed(self.s, &self.w)?;
+        let now = owed(self.scenario, &self.world)?;
         self.check_rows(now, seen)?;
         self.check_sums(now)?;
         self.check_actors()?;
-        if self.every == 1 || self.delivered.checked_rem(self.every) == Some(0) || self.w.quiet() {
-            seen.lag = seen.lag.max(between(self.s, &self.w)?);
+        if self.every == 1 || self.delivered.checked_rem(self.every) == Some(0) || self.world.quiet() {
+            seen.lag = seen.lag.max(between(self.scenario, &self.world)?);
         }
-        if self.w.quiet() && !self.w.answered() {
+        if self.world.quiet() && !self.world.answered() {
             return Err("quiet and a client waits".to_string());
         }
         Ok(())
@@ -84,7 +93,7 @@ impl<'a> Making<'a> {
 
     /// Checks that each delivery lets the potential fall, and that the new mail is plain.
     fn check_rows(&mut self, now: u64, seen: &mut Seen) -> Result<(), String> {
-        for row in &self.w.rows[self.checked..] {
+        for row in &self.world.rows[self.checked..] {
             let delivers = u64::from(matches!(row.event, Event::Deliver(_)));
             self.delivered += delivers;
             if now + delivers > self.owed {
@@ -92,15 +101,15 @@ impl<'a> Making<'a> {
             }
             for m in &row.sent {
                 *seen.mails.entry(kind(m)).or_default() += 1;
-                if !plain_mail(self.s, m) {
+                if !plain_mail(self.scenario, m) {
                     return Err(format!("mail of another kind: {m:?}"));
                 }
             }
         }
-        if self.w.rows.len() > self.checked + 1 {
+        if self.world.rows.len() > self.checked + 1 {
             return Err("more than one row".to_string());
         }
-        self.checked = self.w.rows.len();
+        self.checked = self.world.rows.len();
         self.owed = now;
         Ok(())
     }
@@ -109,39 +118,41 @@ impl<'a> Making<'a> {
         if now + self.delivered > self.first_owed {
             return Err("owed and delivered above the beginning".to_string());
         }
-        if !self.w.quiet() && now == 0 {
+        if !self.world.quiet() && now == 0 {
             return Err("pending and nothing owed".to_string());
         }
-        if u64::from(self.w.sent()) > now + self.delivered {
+        if u64::from(self.world.sent()) > now + self.delivered {
             return Err("more mail than owed and delivered".to_string());
         }
-        if self.w.bytes > 64 * self.w.rows.len() as u128 + 832 * u128::from(self.w.sent()) {
+        if self.world.bytes > 64 * self.world.rows.len() as u128 + 832 * u128::from(self.world.sent()) {
             return Err("bytes".to_string());
         }
         Ok(())
     }
 
     fn check_actors(&self) -> Result<(), String> {
-        for n in self.w.nodes() {
+        for n in self.world.nodes() {
             if n.draws != Draws::start(n.me) {
                 return Err("draws".to_string());
             }
-            let own = self.s.groups.iter().filter(|g| g.core.members.contains(&n.me));
+            let own = self.scenario.groups.iter().filter(|g| g.core.members.contains(&n.me));
             if !n.replicas.keys().copied().eq(own.map(|g| g.core.id)) {
                 return Err("replicas".to_string());
             }
             for (id, r) in &n.replicas {
-                let b = self.s.group_at(*id).expect("it is one of its own");
-                plain_replica(self.s, b, n.me, r, self.requests)?;
+                let b = self.scenario.group_at(*id).expect("it is one of its own");
+                plain_replica(self.scenario, b, n.me, r, self.requests)?;
             }
         }
-        self.w.clients().try_for_each(|c| plain_client(self.s, c, self.w.has_gone(client_actor(c.me))))
+        self.world
+            .clients()
+            .try_for_each(|c| plain_client(self.scenario, c, self.world.has_gone(client_actor(c.me))))
     }
 
     fn go(&mut self, client: u16, made: &mut Scenario, seen: &mut Seen) -> Result<(), String> {
         let line = SchedLine::Go { client };
         made.lines.push(line.clone());
-        self.w.line(&line).map_err(|_| "full".to_string())?;
+        self.world.line(&line).map_err(|_| "full".to_string())?;
         self.check(seen)
     }
 
@@ -155,8 +166,8 @@ impl<'a> Making<'a> {
     ) -> Result<u64, String> {
         let (mut used, mut last) = (0, 0);
         while used < most {
-            let Some(number) = chosen(d, &self.w, way, &mut last) else { break };
-            self.w.deliver(number).map_err(|_| "full".to_string())?;
+            let Some(number) = chosen(d, &self.world, way, &mut last) else { break };
+            self.world.deliver(number).map_err(|_| "full".to_string())?;
             used += 1;
             self.check(seen)?;
         }
@@ -168,7 +179,7 @@ impl<'a> Making<'a> {
         if budget > 0 {
             seen.line_share = seen.line_share.max(used as f64 / budget as f64);
         }
-        if self.w.quiet() {
+        if self.world.quiet() {
             seen.quiet_lines += 1;
             return Ok(());
         }
@@ -184,8 +195,8 @@ impl<'a> Making<'a> {
 /// Plays the lines of one scenario: clients that go, and deliveries.
 fn play(d: &mut Dice, m: &mut Making, made: &mut Scenario, seen: &mut Seen) -> Result<(), String> {
     m.check(seen)?;
-    let budget = if m.requests == 0 { 0 } else { budget::limit(m.s, 0) };
-    let all: Vec<u16> = m.s.clients.keys().copied().collect();
+    let budget = if m.requests == 0 { 0 } else { budget::limit(m.scenario, 0) };
+    let all: Vec<u16> = m.scenario.clients.keys().copied().collect();
     let mut waiting = all.clone();
     let small = d.chance(50);
     for left in (0..=d.from_to(1, 8)).rev() {
@@ -204,7 +215,7 @@ fn play(d: &mut Dice, m: &mut Making, made: &mut Scenario, seen: &mut Seen) -> R
             m.go(c, made, seen)?;
         }
         let most = if !last_line && small { d.from_to(1, 40) } else { budget.max(1) };
-        let way = if d.chance(35) { None } else { Some(some_way(d, &m.w)) };
+        let way = if d.chance(35) { None } else { Some(some_way(d, &m.world)) };
         made.lines.push(match way {
             None => SchedLine::Settle { most: most as u32 },
             Some(_) => SchedLine::Free { most: most as u32, workers: 4 },
@@ -223,10 +234,10 @@ fn one(seed: u64, dials: &Dials, seen: &mut Seen) -> Result<(), (Scenario, Strin
     let mut m = Making::start(&head, dials);
     let result = play(&mut d, &mut m, &mut made, seen);
     seen.scenarios += 1;
-    seen.rows += m.w.rows.len() as u64;
+    seen.rows += m.world.rows.len() as u64;
     seen.delivered += m.delivered;
     seen.requests += m.requests;
-    seen.answered += m.w.clients().map(|c| c.replies.len() as u64).sum::<u64>();
+    seen.answered += m.world.clients().map(|c| c.replies.len() as u64).sum::<u64>();
     if m.requests > 0 {
         let share = m.delivered as f64 / budget::limit(&head, 0) as f64;
         if share > seen.share {

@@ -100,7 +100,7 @@ impl Checks {
             .iter()
             .map(|(id, group)| {
                 let members = group.values().next().expect("a group has a replica").members();
-                GroupView { w, id: *id, group, members, mails: &mails }
+                GroupView { world: w, id: *id, group, members, mails: &mails }
             })
             .collect();
         for v in &groups {

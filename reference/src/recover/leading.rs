@@ -22,7 +22,7 @@ pub fn done(v: &GroupView, turns: &Turns, looked: &mut Looked) -> Result<(), Str
     if v.quiet() {
         looked.look("K3 in quiet who runs is idle", running.iter().all(|r| is_idle(r)), place)?;
     }
-    let one = !v.w.crashed.is_empty() || running.len() == 1;
+    let one = !v.world.crashed.is_empty() || running.len() == 1;
     looked.look("K4 without crashes one runs", one, place)
 }
 

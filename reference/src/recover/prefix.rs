@@ -46,7 +46,7 @@ fn head_of(d: &mut Dice) -> Scenario {
 
 /// A schedule in the making.
 struct Making<'a> {
-    w: World<'a>,
+    world: World<'a>,
     lines: Vec<SchedLine>,
     nodes: u64,
     clients: Vec<u16>,
@@ -59,7 +59,7 @@ impl Making<'_> {
     /// Plays a line. None where the journal is full.
     fn play(&mut self, line: SchedLine) -> Option<()> {
         self.lines.push(line.clone());
-        self.w.line(&line).ok()
+        self.world.line(&line).ok()
     }
 
     fn everybody(&self) -> Vec<u32> {
@@ -74,10 +74,11 @@ impl Making<'_> {
                 0..=3 if !self.clients.is_empty() => {
                     let client = d.pick(&self.clients);
                     let who = client_actor(client);
-                    let gone = self.w.has_gone(who);
+                    let gone = self.world.has_gone(who);
                     todo.push(if gone { SchedLine::Tick { who } } else { SchedLine::Go { client } });
                 }
-                4 => todo.push(SchedLine::Again { mail: d.from_to(1, u64::from(self.w.sent()) + 1) as u32 }),
+                4 => todo
+                    .push(SchedLine::Again { mail: d.from_to(1, u64::from(self.world.sent()) + 1) as u32 }),
                 5 => todo.push(SchedLine::Storm { number: d.below(1 << 40), most: d.from_to(3, 60) as u32 }),
                 6 if self.crashes => todo.push(SchedLine::Crash { node: d.from_to(1, self.nodes) as u16 }),
                 _ => {
@@ -98,16 +99,16 @@ impl Making<'_> {
         let in_order = d.chance(50);
         for _ in 0..d.pick(&[3, 8, 20, 60, 200, 600]) {
             let there: Vec<u32> =
-                self.w.actors.keys().copied().filter(|a| self.w.first_of(*a).is_some()).collect();
+                self.world.actors.keys().copied().filter(|a| self.world.first_of(*a).is_some()).collect();
             if there.is_empty() {
                 break;
             }
             let (who, k) = if in_order {
-                let number = self.w.lowest().expect("some mail is pending");
-                (self.w.mail(number).expect("it was sent").to, 1)
+                let number = self.world.lowest().expect("some mail is pending");
+                (self.world.mail(number).expect("it was sent").to, 1)
             } else {
                 let who = d.pick(&there);
-                let most = u64::from(self.w.waiting(who).min(5));
+                let most = u64::from(self.world.waiting(who).min(5));
                 (who, if d.chance(70) { 1 } else { d.from_to(1, most) as u32 })
             };
             let lost = d.chance(loss)
@@ -122,7 +123,7 @@ impl Making<'_> {
     fn end_of_weather(&mut self, d: &mut Dice) -> Option<()> {
         if d.chance(30) {
             for who in self.everybody() {
-                while self.w.first_of(who).is_some() {
+                while self.world.first_of(who).is_some() {
                     self.play(SchedLine::Drop { who, k: 1 })?;
                 }
             }
@@ -155,14 +156,14 @@ pub fn some_prefix(seed: u64, dials: &Dials, crashes: bool) -> Option<Scenario> 
     let (nodes, clients) = (u64::from(head.nodes), head.clients.keys().copied().collect());
     let hermit = d.from_to(1, nodes) as u32;
     let hermit = d.chance(25).then_some(hermit);
-    let mut making = Making { w, lines: Vec::new(), nodes, clients, crashes, hermit };
+    let mut making = Making { world: w, lines: Vec::new(), nodes, clients, crashes, hermit };
     for _ in 0..d.from_to(1, 10) {
         for line in making.some_events(&mut d) {
             making.play(line)?;
         }
         making.weather(&mut d)?;
         making.end_of_weather(&mut d)?;
-        if making.w.rows.len() > MOST_ROWS {
+        if making.world.rows.len() > MOST_ROWS {
             break;
         }
     }

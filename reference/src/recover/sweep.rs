@@ -36,20 +36,20 @@ type Sweeping<T> = Result<T, End>;
 
 /// A run of recovery.
 struct Sweep<'a, 'b> {
-    w: World<'a>,
+    world: World<'a>,
     view: Viewer<'b>,
-    d: Dice,
+    dice: Dice,
     ticks: usize,
     order: Order,
 }
 
 impl Sweep<'_, '_> {
     fn play(&mut self, line: SchedLine) -> Sweeping<()> {
-        self.w.line(&line).map_err(|_| End::Left("full"))
+        self.world.line(&line).map_err(|_| End::Left("full"))
     }
 
     fn look(&mut self, at: Moment, who: Option<u32>) -> Sweeping<()> {
-        (self.view)(&self.w, at, who).map_err(End::Fault)
+        (self.view)(&self.world, at, who).map_err(End::Fault)
     }
 
     /// Delivers all mail, and looks at each row.
@@ -64,32 +64,32 @@ impl Sweep<'_, '_> {
 
     /// Delivers the lowest mail. Returns whether there was one.
     fn deliver(&mut self, used: &mut u32) -> Sweeping<bool> {
-        let Some(n) = self.w.lowest() else { return Ok(false) };
+        let Some(n) = self.world.lowest() else { return Ok(false) };
         if *used == LONG {
             return Err(End::Left("cut off"));
         }
         *used += 1;
-        self.w.deliver(n).map_err(|_| End::Left("full")).map(|()| true)
+        self.world.deliver(n).map_err(|_| End::Left("full")).map(|()| true)
     }
 
     /// Returns the nodes in the order of their turns; with turns of one tick some may have several.
     fn turns(&mut self) -> Vec<u32> {
-        let living = |a: &u32| *a <= 32 && !self.w.crashed.contains(a);
-        let mut nodes: Vec<u32> = self.w.actors.keys().copied().filter(living).collect();
+        let living = |a: &u32| *a <= 32 && !self.world.crashed.contains(a);
+        let mut nodes: Vec<u32> = self.world.actors.keys().copied().filter(living).collect();
         match self.order {
             Order::Up => return nodes,
             Order::Down => nodes.reverse(),
             Order::Mixed => {
                 for i in (1..nodes.len()).rev() {
-                    nodes.swap(i, self.d.below(i as u64 + 1) as usize);
+                    nodes.swap(i, self.dice.below(i as u64 + 1) as usize);
                 }
             }
         }
-        if self.ticks == 1 && self.order == Order::Mixed && self.d.chance(70) {
+        if self.ticks == 1 && self.order == Order::Mixed && self.dice.chance(70) {
             let all = nodes.clone();
-            for _ in 0..self.d.from_to(1, 2 * all.len() as u64) {
-                let at = self.d.below(nodes.len() as u64 + 1) as usize;
-                nodes.insert(at, self.d.pick(&all));
+            for _ in 0..self.dice.from_to(1, 2 * all.len() as u64) {
+                let at = self.dice.below(nodes.len() as u64 + 1) as usize;
+                nodes.insert(at, self.dice.pick(&all));
             }
         }
         nodes
@@ -111,15 +111,15 @@ impl Sweep<'_, '_> {
     /// Lets clients ask again until all are answered. Returns how often.
     fn ask(&mut self, most: usize) -> Sweeping<usize> {
         for k in 0..=most {
-            if self.w.answered() {
+            if self.world.answered() {
                 return Ok(k);
             }
             if k == most {
                 break;
             }
-            let clients: Vec<u32> = self.w.actors.keys().copied().filter(|a| *a > 32).collect();
+            let clients: Vec<u32> = self.world.actors.keys().copied().filter(|a| *a > 32).collect();
             for who in clients {
-                if self.w.has_gone(who) {
+                if self.world.has_gone(who) {
                     self.play(SchedLine::Tick { who })?;
                     self.settle(Some(who))?;
                     self.look(Moment::Quiet, Some(who))?;
@@ -135,7 +135,7 @@ impl Sweep<'_, '_> {
             self.play(SchedLine::Go { client: *client })?;
             self.settle(None)?;
             self.look(Moment::Quiet, None)?;
-            if self.w.crashed.is_empty() && !self.w.answered() {
+            if self.world.crashed.is_empty() && !self.world.answered() {
                 return Err(End::Fault("a late client is unanswered".to_string()));
             }
         }
@@ -146,7 +146,7 @@ impl Sweep<'_, '_> {
         let gone = |w: &World, c: u16| w.has_gone(client_actor(c));
         let mut late = Vec::new();
         for c in s.clients.keys() {
-            if !gone(&self.w, *c) && self.d.chance(40) {
+            if !gone(&self.world, *c) && self.dice.chance(40) {
                 late.push(*c);
             }
         }
@@ -193,6 +193,6 @@ pub fn trial(s: &Scenario, plan: &Plan, view: Viewer) -> End {
         return End::Left("no majority");
     }
     let d = Dice::start(plan.seed ^ 77);
-    let mut sweep = Sweep { w, view, d, ticks: plan.ticks, order: plan.order };
+    let mut sweep = Sweep { world: w, view, dice: d, ticks: plan.ticks, order: plan.order };
     sweep.all(s).map_or_else(|end| end, End::Answered)
 }

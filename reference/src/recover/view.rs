@@ -34,7 +34,7 @@ impl Looked {
 
 /// A group, and all pending mail.
 pub struct GroupView<'a> {
-    pub w: &'a World<'a>,
+    pub world: &'a World<'a>,
     pub id: Draw,
     pub group: &'a GroupReplicas<'a>,
     pub members: &'a Members,
@@ -49,7 +49,7 @@ impl<'a> GroupView<'a> {
 
     /// Returns whether a node has not crashed.
     pub fn alive(&self, m: u16) -> bool {
-        !self.w.crashed.contains(&u32::from(m))
+        !self.world.crashed.contains(&u32::from(m))
     }
 
     /// Iterates over the members that have not crashed.

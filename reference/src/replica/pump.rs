@@ -1,4 +1,5 @@
-//! What a leader proposes.
+//! What a leader proposes: the rules of `pump` in `crates/sc_node_table/specs/Pump.antt`, in their
+//! order. The numbers below count them; the first that holds counts.
 
 use super::*;
 
@@ -20,9 +21,9 @@ impl Replica {
             return false;
         }
         let found = match l.must(slot) {
-            // 1.
+            // 1. a value that a promise reported is proposed again
             Must::Value(v) => Some(v),
-            // 2.
+            // 2. a gap below such a value is closed by a Noop
             Must::Gap => Some(Command::Noop),
             Must::Free => self.pick_from_queues(out),
         };
@@ -46,11 +47,11 @@ impl Replica {
     fn pick_from_queues(&mut self, out: &mut Out) -> Option<Command> {
         let l = self.leader.as_ref().expect("settled");
         let idle = l.idle();
-        // 3. another command than Call and Noop is in flight or ready
+        // 3. nothing new, while another command than Call and Noop is in flight or ready
         if l.commands().any(|c| !matches!(c, Command::Call { .. } | Command::Noop)) {
             return None;
         }
-        // 4.
+        // 4. commands of transactions come before all that is queued, each while nothing is under way
         if !self.acts.is_empty() {
             return if idle { self.acts.pop_front() } else { None };
         }
@@ -59,7 +60,7 @@ impl Replica {
                 return None;
             }
             match self.calls.front().cloned()? {
-                // 5.
+                // 5. a request, unless the group does not serve its key: then it is answered without a slot
                 Command::Call { client, seq, op } => {
                     self.calls.pop_front();
                     match self.turned_away(&op) {
@@ -67,7 +68,7 @@ impl Replica {
                         None => return Some(Command::Call { client, seq, op }),
                     }
                 }
-                // 6.
+                // 6. an order, but only while nothing is under way
                 _ => return if idle { self.calls.pop_front() } else { None },
             }
         }

@@ -34,7 +34,7 @@ fn is_formed(m: &Making) -> Result<(), String> {
 /// Checks that every client that was served has all replies.
 fn are_answered(m: &Making) -> Result<(), String> {
     for c in served(&m.lines) {
-        let client = m.w.client(client_actor(c)).expect("it was told to go");
+        let client = m.world.client(client_actor(c)).expect("it was told to go");
         let (got, asked) = (client.replies.len(), m.head.clients[&c].len());
         if got != asked {
             return Err(format!("client {c} has {got} of {asked} replies"));
@@ -76,11 +76,11 @@ fn settled_holds(m: &Making, kind: Kind, seen: &mut Seen) -> Result<(), String> 
     are_answered(m)?;
     seen.add(&format!("{name}: answered"), 1);
     seen.add(&format!("{name}: answered, with first mail taken"), u64::from(taken));
-    seen.add(&format!("{name}: replies"), m.w.clients().map(|c| c.replies.len() as u64).sum());
+    seen.add(&format!("{name}: replies"), m.world.clients().map(|c| c.replies.len() as u64).sum());
     if !m.lines.iter().any(gives_order) {
         return Ok(());
     }
-    let results = orders_end(&m.lines, &m.w)?;
+    let results = orders_end(&m.lines, &m.world)?;
     for line in &m.lines {
         let SchedLine::Told { line, .. } = line else { continue };
         let result = results.get(&line.number).map_or("open", |r| result_word(r));
@@ -96,8 +96,8 @@ fn count_cut_off(m: &Making, kind: Kind, end: &End, seen: &mut Seen) {
     let name = kind.name();
     let ordered = if m.lines.iter().any(gives_order) { "with orders" } else { "plain" };
     seen.add(&format!("{name}: cut off, {ordered}"), 1);
-    if m.w.quiet() {
-        let ended = are_answered(m).is_ok() && orders_end(&m.lines, &m.w).is_ok();
+    if m.world.quiet() {
+        let ended = are_answered(m).is_ok() && orders_end(&m.lines, &m.world).is_ok();
         let how = if ended { "answered" } else { "not answered or ended" };
         let what = format!("{name}: cut off, {ordered}, quiet in the end, {how}");
         seen.add(&what, 1);
@@ -110,10 +110,10 @@ fn count_cut_off(m: &Making, kind: Kind, end: &End, seen: &mut Seen) {
 /// Compares the counted bytes with the bound.
 fn bytes_hold(m: &Making, kind: Kind, end: &End, seen: &mut Seen) -> Result<(), String> {
     let orders = m.lines.iter().filter(|l| gives_order(l)).count() as u64;
-    let (numbers, bytes) = (numbers_of(m.head, orders), bytes_of(&m.w.rows));
+    let (numbers, bytes) = (numbers_of(m.head, orders), bytes_of(&m.world.rows));
     let all = bytes.light + bytes.heavy;
-    if all != m.w.bytes {
-        return Err(format!("{all} bytes counted, and not {}", m.w.bytes));
+    if all != m.world.bytes {
+        return Err(format!("{all} bytes counted, and not {}", m.world.bytes));
     }
     let bound = numbers.bound();
     let of = |part: u128, whole: u128| part as f64 / whole.max(1) as f64;
@@ -167,7 +167,7 @@ pub fn holds(m: &Making, kind: Kind, end: &End, seen: &mut Seen) -> Result<(), S
     }
     settled_holds(m, kind, seen)?;
     if kind == Kind::Crashed {
-        seen.add("crashed: nodes", m.w.crashed.len() as u64);
+        seen.add("crashed: nodes", m.world.crashed.len() as u64);
         return Ok(());
     }
     bytes_hold(m, kind, end, seen)

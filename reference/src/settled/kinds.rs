@@ -137,10 +137,10 @@ pub fn one(kind: Kind, seed: u64, dials: &Dials, seen: &mut Seen) -> Result<(), 
     });
     let status = match played {
         Err(Full) => 7,
-        Ok(()) if m.w.unsettled => 6,
+        Ok(()) if m.world.unsettled => 6,
         Ok(()) => 0,
     };
     seen.add(&format!("{}: scenarios", kind.name()), 1);
-    seen.add(&format!("{}: rows", kind.name()), m.w.rows.len() as u64);
+    seen.add(&format!("{}: rows", kind.name()), m.world.rows.len() as u64);
     holds(&m, kind, &End { seed, status }, seen).map_err(|e| (scenario(&m), e))
 }

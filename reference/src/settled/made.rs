@@ -38,7 +38,7 @@ impl Sizes {
 /// A run in the making, and its lines so far.
 pub struct Making<'a> {
     pub head: &'a Scenario,
-    pub w: World<'a>,
+    pub world: World<'a>,
     pub lines: Vec<SchedLine>,
     /// How many lines that deliver a first mail were not skipped.
     pub firsts: u64,
@@ -50,13 +50,13 @@ impl<'a> Making<'a> {
     /// Begins the run of a scenario.
     pub fn start(head: &'a Scenario, dials: &Dials) -> Making<'a> {
         let w = World::start(head, dials, JOURNAL_LIMIT);
-        Making { head, w, lines: Vec::new(), firsts: 0, rested: true }
+        Making { head, world: w, lines: Vec::new(), firsts: 0, rested: true }
     }
 
     /// Plays a line.
     pub fn play(&mut self, line: SchedLine) -> Result<(), Full> {
         self.lines.push(line.clone());
-        self.w.line(&line)
+        self.world.line(&line)
     }
 
     /// Plays up to so many lines that deliver a first mail, mostly one that is there.
@@ -65,14 +65,15 @@ impl<'a> Making<'a> {
             return Ok(());
         }
         for _ in 0..d.from_to(0, most) {
-            let all: Vec<u32> = self.w.actors.keys().copied().collect();
-            let there: Vec<u32> = all.iter().copied().filter(|who| self.w.first_of(*who).is_some()).collect();
+            let all: Vec<u32> = self.world.actors.keys().copied().collect();
+            let there: Vec<u32> =
+                all.iter().copied().filter(|who| self.world.first_of(*who).is_some()).collect();
             let lost = there.is_empty() || d.chance(5);
             if lost && d.chance(70) {
                 continue;
             }
             let who = d.pick(if lost { &all } else { &there });
-            self.firsts += u64::from(self.w.first_of(who).is_some());
+            self.firsts += u64::from(self.world.first_of(who).is_some());
             self.play(SchedLine::Deliver { who, k: 1 })?;
         }
         Ok(())
@@ -81,7 +82,7 @@ impl<'a> Making<'a> {
     /// Plays a `settle` or `free` line of so many deliveries.
     pub fn deliver(&mut self, d: &mut Dice, sizes: &Sizes) -> Result<(), Full> {
         let most = sizes.most(d);
-        let way = if d.chance(35) { None } else { Some(some_way(d, &self.w)) };
+        let way = if d.chance(35) { None } else { Some(some_way(d, &self.world)) };
         let workers = d.from_to(1, 16) as u32;
         let line = |most: u64| match way {
             None => SchedLine::Settle { most: most as u32 },
@@ -91,13 +92,13 @@ impl<'a> Making<'a> {
         self.lines.push(line(most.unwrap_or(MOST)));
         let (mut used, mut last) = (0, 0);
         while used < most.unwrap_or(MOST) {
-            let Some(number) = chosen(d, &self.w, &way, &mut last) else { break };
-            self.w.deliver(number)?;
+            let Some(number) = chosen(d, &self.world, &way, &mut last) else { break };
+            self.world.deliver(number)?;
             used += 1;
         }
         self.lines[at] = line(most.unwrap_or(used.max(1)));
-        self.rested = self.w.quiet();
-        self.w.unsettled |= !self.rested;
+        self.rested = self.world.quiet();
+        self.world.unsettled |= !self.rested;
         Ok(())
     }
 }

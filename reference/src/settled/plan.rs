@@ -31,9 +31,9 @@ impl Plan {
         self.left -= 1;
         let number = m.lines.iter().filter(|l| matches!(l, SchedLine::Told { .. })).count() as u32 + 1;
         match &self.orders {
-            _ if leaders(&m.w).is_empty() => some_order(d, &m.w, m.head, number),
-            Orders::Calm(mood) => calm_order(d, &m.w, m.head, mood, number),
-            Orders::Heavy(weights) => heavy_order(d, &m.w, m.head, weights, number),
+            _ if leaders(&m.world).is_empty() => some_order(d, &m.world, m.head, number),
+            Orders::Calm(mood) => calm_order(d, &m.world, m.head, mood, number),
+            Orders::Heavy(weights) => heavy_order(d, &m.world, m.head, weights, number),
         }
     }
 
