@@ -29,7 +29,7 @@ class Client:
         self.pool, self.number = pool, number
         self.actor = scenario.NODES + number
         self.child = child.Child(pool.loop, pool.words(number), self.on_lines, self.ended)
-        self.child.feed(scenario.head(pool.cluster.scenario))
+        self.child.feed_now(scenario.head(pool.cluster.scenario), 0)
         self.inputs, self.asked, self.replied = 0, 0, 0
         self.printed, self.unasked = collections.deque(), b""
         self.request, self.since, self.wait, self.hints = None, 0.0, SOONEST, 0

@@ -48,10 +48,10 @@ class Node:
 
     def replay(self):
         """Feeds the inputs of the file to the program. What it prints of them was sent before, or is repeated by ticks."""
-        self.child.feed(scenario.head(self.cluster.scenario))
+        self.child.feed(scenario.head(self.cluster.scenario), 0)
         for text in self.file.replay():
             lines = text.splitlines(True)
-            self.child.feed(b"".join([inputs.fed(line) for line in lines]))
+            self.child.feed(b"".join([inputs.fed(line) for line in lines]), len(lines))
             self.told += sum(line[:2] == b"o " for line in lines)
             self.inputs += len(lines)
             self.printed.extend([None] * len(lines))
@@ -90,7 +90,7 @@ class Node:
         """Mail came from another machine: its lines, and those for the program. Says whether it takes all."""
         if len(self.printed) + count >= MOST_INPUTS or self.child.is_full():
             return False
-        self.child.feed(fed)
+        self.child.feed(fed, count)
         can_wait = ACCEPT not in data and REQUEST not in data
         first = self.syncing.add_all(BEGIN.sub(b"m ", data), count, can_wait)
         self.printed.extend([(first + k, self.inputs + k + 1) for k in range(count)])
@@ -128,7 +128,11 @@ class Node:
                 self.rows += 1
                 self.is_changed = True
                 if line != b"[]":
-                    kept.append((of[0], self.outgoing(line, of[1])))
+                    found = self.outgoing(line, of[1])
+                    if found:
+                        kept.append((of[0], found))
+                        if of[0] > self.synced:
+                            self.syncing.hurry()
             else:
                 of(line)
         self.release()
@@ -145,8 +149,6 @@ class Node:
                 self.take(b"m %s\n" % frame, b'{"Got":%s}\n' % mail, True)
             else:
                 found.append((receiver, frame))
-        if found:
-            self.syncing.hurry()
         return found
 
     def on_synced(self, upto):

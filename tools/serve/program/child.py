@@ -1,12 +1,15 @@
 """One child process of the program, over two pipes that never block the event loop."""
 
 import os
+import select
 import subprocess
 
 PIECE = 1 << 18  # bytes of one read
 # What the program ends with where it has no such subcommand, or the scenario is none: to begin again is of no use.
 NEVER_GOOD = (2, 3)
 MOST_WAITING = 256 << 20  # bytes that a child has not read yet
+SHORT = 2  # milliseconds that the loop waits for answers, which come sooner than another turn of it
+FEW = 1000  # lines to which the answers come soon
 
 
 class Stopped(Exception):
@@ -41,18 +44,33 @@ class Child:
             os.set_blocking(one, False)
         self.fed, self.left, self.rest = [], b"", b""
         self.is_due, self.is_open = False, True
+        self.owed, self.is_exchanging = 0, False  # answers that have not come
+        self.poll = select.poll()
+        self.poll.register(self.out, select.POLLIN)
         loop.add_reader(self.out, self.read)
 
-    def feed(self, line):
-        """Gives one line, which has its line feed, or several."""
+    def feed(self, line, count=1):
+        """Gives lines, each with its line feed."""
         self.fed.append(line)
-        if not self.is_due:
+        self.owed += count
+        if not self.is_due and not self.is_exchanging:
             self.is_due = True
-            self.loop.call_soon(self.write)
+            self.loop.call_soon(self.exchange)
 
-    def feed_now(self, line):
-        """Gives one line at once, where no other waits."""
+    def exchange(self):
+        """Writes lines, and takes the answers to few of them at once, and those to what these lead to."""
+        self.write()
+        self.is_exchanging = True
+        while self.is_open and 0 < self.owed < FEW and not self.left and self.poll.poll(SHORT):
+            self.read()
+            if self.fed:
+                self.write()
+        self.is_exchanging = False
+
+    def feed_now(self, line, count=1):
+        """Gives lines at once, where no other waits."""
         self.fed.append(line)
+        self.owed += count
         if not self.is_due:
             self.write()
 
@@ -94,6 +112,7 @@ class Child:
         lines = piece.split(b"\n")
         lines[0] = self.rest + lines[0]
         self.rest = lines.pop()
+        self.owed -= len(lines)
         if lines:
             self.on_lines(lines)
 
