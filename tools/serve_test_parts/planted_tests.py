@@ -121,7 +121,7 @@ def one_number_two_requests(program):
         except stores.resp_client.Failed:
             pass
         bare.stop()
-        refused(bare, "c1")
+        refused(bare)
 
 
 TESTS = [mail_before_storage, changed_mail, rolled_back_file, two_of_one_number, one_number_two_requests]

@@ -28,7 +28,7 @@ class Actor:
 
     def __init__(self, number, answers):
         self.number, self.answers = number, answers
-        self.inputs = 0
+        self.inputs, self.all = 0, 0  # those that have a place, and all of its file
         self.sent = [None]  # of each input: the number of its first mail, and the digests of all
         self.held = b'"Go"' if number > scenario.NODES else None
 
@@ -61,6 +61,7 @@ class Rows:
                     answers = files.Answers(self.program, actor, one.scenario, self.folder)
                     self.actors[actor] = Actor(actor, answers)
                 self.actors[actor].answers.add(line)
+                self.actors[actor].all += 1
 
     def make(self):
         """Makes all rows."""
@@ -96,14 +97,18 @@ class Rows:
         return None if actor and actor.inputs >= number else (sender, number)
 
     def check_none_waits(self):
-        """Where a line waits for ever, the sender's file lacks what it sent, or two wait for each other."""
-        for (sender, number), some in sorted(self.waiting.items()):
-            one, _, (actor, line) = some[0]
-            there = self.actors[sender].inputs if sender in self.actors else 0
-            raise Different(
-                f"{one.name}: {scenario.name(actor)} got a mail of input {number} of {scenario.name(sender)},"
-                f" whose file has {there} inputs that have an order: {line.decode('latin-1')}"
-            )
+        """Where a line waits for ever, the sender's file lacks what it sent, or some wait for each other."""
+        if not self.waiting:
+            return
+        totals = {number: actor.all for number, actor in self.actors.items()}
+        lacking = [key for key in self.waiting if totals.get(key[0], 0) < key[1]]
+        sender, number = min(lacking or self.waiting)
+        one, _, (actor, line) = self.waiting[sender, number][0]
+        why = f"whose file has {totals.get(sender, 0)}" if lacking else "which waits for what this leads to"
+        raise Different(
+            f"{one.name}: {scenario.name(actor)} got a mail of input {number} of {scenario.name(sender)}, {why}:"
+            f" {line.decode('latin-1')}"
+        )
 
     # ---- lines
 
