@@ -174,7 +174,7 @@ help_page() {
     wrapped '' 0 'In place of < FILE its name alone may stand there. What is refused is explained on standard error.'
     echo
     wrapped '' 0 "Until it is built, a run is of the same code unproved, and says so on standard error:
-        the first compiles it in one to three minutes, and it is kept. The first report to look at is
+        the first compiles it in two to five minutes, and it is kept. The first report to look at is
         \`./scatter run < scenarios/lost_answer.scatter\`; then there are \`./scatter demo\` and
         \`./scatter edit\`, and the page docs/FIRST_HOUR.md."
     echo
@@ -203,7 +203,7 @@ help_word() {
     done
     [ "${input["$1"]}" = - ] || wrapped '' 2 "FILE has at most ${input["$1"]} bytes; it may stand there without <"
     if [ "${by["$1"]}" = program ]; then
-        wrapped '' 2 "until the program is built, the same code runs unproved, compiled once in one to three minutes"
+        wrapped '' 2 "until the program is built, the same code runs unproved, compiled once in two to five minutes"
     fi
     echo "./scatter help has the other subcommands and the statuses."
 }
