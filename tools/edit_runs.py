@@ -17,6 +17,7 @@ import time
 import edit_calls
 import edit_check
 import edit_rows
+import edit_states
 from edit_calls import BUSY, GONE, NO_ANSWER, Refused
 
 MOST_INPUT = 16_777_216  # bytes of a scenario that the program takes
@@ -44,7 +45,7 @@ class Program:
 class Run:
     """One run: its number, the page that asked for it, and which files have come of it."""
 
-    ENDS = ("scatter", "report", "journal", "explained", "json", "said")
+    ENDS = ("scatter", "report", "journal", "explained", "json", "said", "said.in")
 
     def __init__(self, number, page, folder):
         self.number, self.page, self.folder = number, page, folder
@@ -75,7 +76,8 @@ class Runs:
         self.program, self.folder, self.seconds = program, folder, seconds
         self.calls = edit_calls.Calls(folder, memory)
         self.guard = threading.Lock()  # of the fields below
-        self.kept, self.number, self.playing, self.storms = {}, 0, None, {}
+        self.kept, self.number, self.playing = {}, 0, None
+        self.storms, self.with_node = {}, {}
         self.at_work = threading.Lock()  # whoever has it calls the program for a run
         self.at_check = threading.Semaphore(CHECKS)
 
@@ -266,6 +268,21 @@ class Runs:
         """The text whose schedule ends with a row of a run."""
         with self.following(number, asker) as run:
             return {"text": edit_rows.text_to(self, self.with_rows(run), row, asker)}
+
+    def states(self, number, node, asker):
+        """What `scatter node` says of a node behind each of its rows, where the program has that."""
+        with self.following(number, asker) as run:
+            file, _ = self.program.now()
+            journal = self.with_rows(run).journal
+            if file not in self.with_node:
+                said = self.said_of(run, "help", os.devnull, [], asker)["said"]
+                self.with_node[file] = "node N" in said
+            if not self.with_node[file]:
+                return {"states": None}
+            rows = edit_states.write_inputs(journal, node, run.file("said.in"))
+            words, given = [file, "node", str(node)], run.file("said.in")
+            self.calls.run(words, given, run.said, self.seconds, asker, run.number)
+            return {"states": edit_states.states_of(rows, run.said)}
 
     def differ(self, one, other, asker):
         """The first row in which two runs differ, or nothing."""

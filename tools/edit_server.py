@@ -177,6 +177,7 @@ class Handler(http.server.BaseHTTPRequestHandler):
             "scan": lambda run: runs.scan(run, scan_words(fields), asker),
             "frees": lambda run: runs.frees(run, what_waits(fields), asker),
             "cut": lambda run: runs.cut(run, number(fields, "row"), asker),
+            "states": lambda run: runs.states(run, number(fields, "node", 1, 32), asker),
             "differ": lambda run: runs.differ(run, number(fields, "other"), asker),
         }
         if name not in asks:

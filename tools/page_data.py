@@ -66,6 +66,11 @@ def column(numbers):
     return {"width": width, "bytes": base64.b64encode(packed.tobytes()).decode()}
 
 
+def ballot(mail):
+    """The ballot of a mail of Paxos, as round and node; zeros of other mail."""
+    return mail.fields.get("ballot") or mail.fields.get("promised") or (0, 0)
+
+
 def shown(line):
     """A line of the scenario, whose comments may be in UTF-8."""
     try:
@@ -185,6 +190,9 @@ class Page:
             "request": column([one.request for one in about]),
             "tx": column([one.tx for one in about]),
             "order": column([one.order for one in about]),
+            "slot": column([mail.fields.get("slot", 0) for mail in mails]),
+            "round": column([ballot(mail)[0] for mail in mails]),
+            "by": column([ballot(mail)[1] for mail in mails]),
         }
 
     def entries(self):

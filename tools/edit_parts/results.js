@@ -234,6 +234,7 @@ const results = {
     if (frame !== this.frame) return;
     if (Array.isArray(said.append)) appendLines(said.append.map(String));
     if (said.frees) this.free(said.frees);
+    if (Array.isArray(said.states)) this.askStates(said.states);
     if (Number.isInteger(said.row)) this.atRow(said.row);
   },
 
@@ -245,6 +246,20 @@ const results = {
       this.scanSoon(150);
     }
     play.show();
+  },
+
+  /** What `scatter node` says of some nodes, one after another, where the program has that. */
+  async askStates(nodes) {
+    const run = this.run;
+    for (const node of nodes) {
+      try {
+        const { states } = await ask(`states?${new URLSearchParams({ run, node })}`);
+        if (run !== this.run) return;
+        this.frame.window.takeNode(node, states);
+      } catch {
+        return; // the rows' own lines stand there all the same
+      }
+    }
   },
 
   /** Looks for lines that free a request or an order, and tells the page of the rows. */

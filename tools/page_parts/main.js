@@ -352,6 +352,7 @@ function showRun(said, row) {
   takeTables(said);
   takeState();
   takeChanges();
+  takeStates();
   find("title").textContent = run.title;
   find("count").textContent = spelled(ROWS);
   find("slider").max = String(Math.max(1, ROWS));
