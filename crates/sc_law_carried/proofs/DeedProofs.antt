@@ -1,2 +1,5 @@
 pub mod RowsFollowDeeds
 pub mod CarriedDeeds
+pub mod MuteRows
+pub mod PrintedReplies
+pub mod WorkedDeeds

@@ -6,5 +6,5 @@
 pub mod deeds;
 pub mod reading;
 
-pub use deeds::carried_deeds_are_sound;
+pub use deeds::{carried_deeds_are_sound, printed_replies_keep_real_time};
 pub use reading::rows_are_read_one_by_one;

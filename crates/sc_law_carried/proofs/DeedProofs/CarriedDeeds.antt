@@ -16,7 +16,7 @@ use Rattle.sc_scenario.specs.scenario.Definitions.{IsUpTo, IsBoundedOrder}
 use Rattle.sc_scenario.specs.declared.scenario.scenarios.Scenario.{Scenario}
 use Rattle.sc_meaning.specs.sound.SoundDefinitions.{Ahead, Player, births, system_of, player_table}
 use Rattle.sc_law_carried.specs.reading.ReadingDefinitions.{is_node, is_bounded_order, may_be_line, with_lines_of, IsLawfulRead}
-use Rattle.sc_law_carried.specs.deeds.DeedDefinitions.{Came, Deed, input_got, event_of, deed_row, repeat_before, with_deed, rows_of, is_repeat, IsCarried, AreCarriedAfter, RowsAreDeeds, CarriedDeedsAreLawful, CarriedDeedsAreSound}
+use Rattle.sc_law_carried.specs.deeds.DeedDefinitions.{Came, Deed, input_got, event_of, deed_row, repeat_before, with_deed, rows_of, is_repeat, IsCarried, AreCarriedAfter, AreCarried, RowsAreDeeds, CarriedDeedsAreLawful, CarriedDeedsAreSound}
 use Rattle.sc_law_carried.proofs.ReadingProofs.LawfulRows.{no_rows_are_lawful, steps_are_lawful}
 use Rattle.sc_law_carried.proofs.DeedProofs.RowsFollowDeeds.{Follows, none_follow, repeat_follows, deed_follows, has_copy, rows_of-snoc}
 use Rattle.sc_law_carried.proofs.ReadingProofs.FormedScenarios.{read_scenarios_are_formed}
@@ -63,7 +63,7 @@ module _ (ahead : Ahead) (words : ℕ → ℕ → ℕ × ℕ) (scenario : Scenar
   s = system_of ahead words scenario
 
   -- after these deeds their rows are lawful, and leave what the deeds leave
-  record Holds (deeds : List (Deed Mail OrderLine)) : Type 0 where
+  pub record Holds (deeds : List (Deed Mail OrderLine)) : Type 0 where
     pub lawful : IsLawfulRead ahead words scenario (rows_of deeds)
     pub follows : Follows player_table deeds (rows_of deeds)
 
@@ -144,11 +144,14 @@ module _ (ahead : Ahead) (words : ℕ → ℕ → ℕ × ℕ) (scenario : Scenar
   holds_after before (deed ∷ deeds) holds carried =
       subst Holds (append_assoc before (deed ∷ []) deeds) (holds_after (before ++ deed ∷ []) deeds (by before holds deed.who deed.input deed.sent carried.0) carried.1)
 
+  -- carried deeds
+  pub carried_hold : (deeds : List (Deed Mail OrderLine)) → AreCarried ahead scenario deeds → Holds deeds
+  carried_hold deeds carried = holds_after [] deeds (record { lawful = no_rows_are_lawful ahead words scenario; follows = none_follow player_table }) carried
+
 -- ---- the laws
 
 pub carried_are_lawful : CarriedDeedsAreLawful
-carried_are_lawful ahead words scenario deeds carried =
-    (holds_after ahead words scenario [] deeds (record { lawful = no_rows_are_lawful ahead words scenario; follows = none_follow player_table }) carried).lawful
+carried_are_lawful ahead words scenario deeds carried = (carried_hold ahead words scenario deeds carried).lawful
 
 pub carried_are_sound : CarriedDeedsAreSound
 carried_are_sound ahead slots scenario formed deeds carried =

@@ -3,3 +3,4 @@ pub use Rattle.sc_law_carried.specs.deeds.Deeds.{Came, Deed, sent_in, input_got,
 pub use Rattle.sc_law_carried.specs.deeds.Carriers.{MayCome, IsCarried, AreCarriedAfter, AreCarried}
 pub use Rattle.sc_law_carried.specs.deeds.CarriedRows.{deed_row, repeat_before, with_deed, rows_of, is_repeat}
 pub use Rattle.sc_law_carried.specs.deeds.DeedLaws.{RowsAreDeeds, CarriedDeedsAreLawful, CarriedDeedsAreSound}
+pub use Rattle.sc_law_carried.specs.deeds.HeldReplies.{IsPrinted, client_now, PrintedRepliesAreDecided, PrintedRepliesComeFirst}
