@@ -293,7 +293,9 @@ def refuses_arguments(program, checks):
     """Arguments out of their ranges are said to be so, and end it with status 2."""
     words = [sys.executable, os.path.join(HERE, "tools", "edit"), "--kept", program]
     for more in (["--port", "80000"], ["--seconds", "0"], ["--seconds", "nan"], ["--memory", "x"]):
-        ran = subprocess.run([*words, *more], capture_output=True, text=True, check=False)
+        ran = subprocess.run(
+            [*words, *more], capture_output=True, text=True, timeout=SECONDS, check=False
+        )
         said = "is no number from" in ran.stderr
         checks.same(f"the arguments {more}", (ran.returncode, said), (2, True))
 

@@ -81,11 +81,10 @@ const ways = {
   /** A change by something else than the keyboard; it is one step of undo. */
   change(text, saved) {
     if (text !== this.now.text) this.remember(this.now);
+    if (saved !== undefined) this.now.saved = saved;
     this.typed = 0;
     this.take(text);
-    if (saved !== undefined) this.now.saved = saved;
     editor.show(text, 0);
-    keep.write(this.record());
   },
 
   take(text) {
