@@ -56,7 +56,7 @@ fn stored_explanations_are_those_of_the_journals() {
         assert!(explained.output == wanted, "{}", path.display());
         count += 1;
     }
-    assert_eq!(count, 20);
+    assert!(count >= 25, "{count} stored explanations");
 }
 
 #[test]
