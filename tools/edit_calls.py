@@ -40,6 +40,7 @@ class Asker:
 
     def __init__(self, connection=None, page=""):
         self.connection, self.page = connection, page
+        self.is_dropped = False  # nothing more is done for it
 
     def is_gone(self):
         """Whether the other end was closed."""
@@ -89,6 +90,9 @@ class Calls:
     def run(self, words, given, out, seconds, asker, number=0):
         """Runs a command on a file into a file for so many seconds at most; its status."""
         call = self.begin(words, given, out, seconds, asker, number)
+        if asker.is_dropped:  # maybe before this call was known, which would have been ended then
+            call.is_stopped = True
+            call.kill()
         try:
             self.wait(call, time.monotonic() + seconds, seconds)
         finally:

@@ -77,6 +77,7 @@ class Runs:
         self.calls = edit_calls.Calls(folder, memory)
         self.guard = threading.Lock()  # of the fields below
         self.kept, self.number, self.playing = {}, 0, None
+        self.active = []  # who is answered now, each with the number of its run
         self.storms, self.with_node = {}, {}
         self.at_work = threading.Lock()  # whoever has it calls the program for a run
         self.at_check = threading.Semaphore(CHECKS)
@@ -93,6 +94,8 @@ class Runs:
         """Waits for a lock while who asked is there."""
         until = time.monotonic() + seconds
         while not lock.acquire(timeout=edit_calls.LOOK):
+            if asker.is_dropped:
+                raise Refused(GONE, edit_calls.STOPPED)
             if asker.is_gone():
                 raise Refused(GONE, "the page that asked is gone")
             if time.monotonic() >= until:
@@ -111,9 +114,10 @@ class Runs:
             self.playing = asker.page
             self.number += 1
             run = self.kept[self.number] = Run(self.number, asker.page, self.folder)
-        self.calls.stop(lambda call: call.asker.page == asker.page and 0 < call.number < run.number)
+            self.active.append((asker, run.number))
+        self.drop(lambda other, number: other.page == asker.page and number < run.number)
         try:
-            with self.turn(self.at_work, asker, self.seconds, "other work is under way: stop it"):
+            with self.work(run.number, asker):
                 self.forget()
                 yield run
         finally:
@@ -134,15 +138,35 @@ class Runs:
     @contextlib.contextmanager
     def following(self, number, asker):
         """A run that is kept, with nothing else at work."""
-        with self.turn(self.at_work, asker, self.seconds, "other work is under way: stop it"):
+        with self.guard:
+            self.active.append((asker, number))
+        with self.work(number, asker):
             run = self.kept.get(number)
             if run is None:
                 raise Refused(GONE, "this run is not kept any more: run it again")
             yield run
 
+    @contextlib.contextmanager
+    def work(self, number, asker):
+        """Waits until nothing else is at work for who asked, one of those that are active."""
+        try:
+            with self.turn(self.at_work, asker, self.seconds, "other work is under way: stop it"):
+                yield
+        finally:
+            with self.guard:
+                self.active.remove((asker, number))
+
+    def drop(self, is_meant):
+        """Ends what goes on for some of those who asked, or will go on for them."""
+        with self.guard:
+            for asker, number in self.active:
+                if is_meant(asker, number):
+                    asker.is_dropped = True
+        self.calls.stop(lambda call: call.asker.is_dropped)
+
     def stop(self):
         """Ends all that goes on for runs."""
-        self.calls.stop(lambda call: call.number > 0)
+        self.drop(lambda *_: True)
 
     # ---- what is asked of a text
 
