@@ -30,6 +30,8 @@ complete -c scatter -n __fish_use_subcommand -a pool -d 'as run, where workers o
 complete -c scatter -n '__fish_seen_subcommand_from pool' -F
 complete -c scatter -n __fish_use_subcommand -a explain -d 'prints what each row of the journal in FILE decided, line by line, where `audit` says that the journal is lawful'
 complete -c scatter -n '__fish_seen_subcommand_from explain' -F
+complete -c scatter -n __fish_use_subcommand -a linear -d 'says whether the history in FILE, of any store, is linearizable, and with `order` by which linearization; it gives up behind MOST places of its search, or 10000000; the plain program in reference/ answers, of which nothing is proved'
+complete -c scatter -n '__fish_seen_subcommand_from linear' -F
 complete -c scatter -n __fish_use_subcommand -a demo -d 'runs the scenarios of scenarios/, or those that are named, and says of each what it shows'
 complete -c scatter -n __fish_use_subcommand -a edit -d 'serves a page on 127.0.0.1 to write a scenario, run it or play it step by step, and look at its rows, until it is interrupted; options are --port N, and --seconds N and --memory MIB for a call of the program'
 complete -c scatter -n __fish_use_subcommand -a serve -d 'runs a store of nodes that are processes, and answers redis clients on a port, until it is interrupted; `serve --help` names the options'
@@ -42,7 +44,7 @@ complete -c scatter -n __fish_use_subcommand -a help -d 'prints this page, or wh
 complete -c scatter -n '__fish_seen_subcommand_from run pool make' -l json -d 'prints the report as JSON'
 complete -c scatter -n '__fish_seen_subcommand_from install uninstall' -xa '(__fish_complete_directories)'
 complete -c scatter -n '__fish_seen_subcommand_from demo' -a '(__scatter_scenarios)'
-complete -c scatter -n '__fish_seen_subcommand_from help' -a 'run make journal audit scan pool explain demo edit serve order build built install uninstall help'
+complete -c scatter -n '__fish_seen_subcommand_from help' -a 'run make journal audit scan pool explain linear demo edit serve order build built install uninstall help'
 for tool in (find $__scatter_tools -maxdepth 1 -type f -executable)
     complete -p $tool -a '(__scatter_options)'
 end

@@ -4,11 +4,14 @@
 # shellcheck disable=SC2154 # the names of words.bash
 
 # Whether behind the words of a word that reads a file there is one more, which is the file's name.
+# A number is none where the word has a number that may be left out: it is one out of its range.
 names_file() {
-    local -a wanted
+    local taken needed most
     [ "$#" -ge 2 ] && is_word "$1" && [ "${input["$1"]}" != - ] || return 1
-    read -ra wanted <<<"${arguments["$1"]}"
-    [ "$#" -eq $((${#wanted[@]} + 2)) ]
+    count_taken "$@"
+    count_wanted "$1"
+    [ "$#" -eq $((taken + 2)) ] && [ "$taken" -ge "$needed" ] || return 1
+    [ "$needed" -eq "$most" ] || ! [[ "${*: -1}" =~ ^[0-9]+$ ]]
 }
 
 # Whether a word is an option, and no file's name.
@@ -116,9 +119,9 @@ say_missed_range() {
     for argument in "${wanted[@]}"; do
         case "$argument" in
             *=*)
-                range="${argument#*=}"
+                range="$(range_of "$argument")"
                 if ! is_within "$1" "$range"; then
-                    say "$name: $(name_of "$argument") is a number from ${range%%..*} to ${range##*..}, and not $1"
+                    say "$name: $(bare_name "$argument") is a number from ${range%%..*} to ${range##*..}, and not $1"
                     return 0
                 fi
                 ;;
@@ -129,8 +132,7 @@ say_missed_range() {
 
 # Says in one line what is wrong with arguments that the script does not have.
 say_what_is_wrong() {
-    local near=
-    local -a wanted
+    local near='' needed most
     if [ "$#" -eq 0 ]; then
         say "no subcommand was given"
     elif ! is_word "$1"; then
@@ -140,11 +142,13 @@ say_what_is_wrong() {
             say "there is no subcommand $1"
         fi
     elif ! say_no_option "$@"; then
-        read -ra wanted <<<"${arguments["$1"]}"
-        if [ "$(($# - 1))" -lt "${#wanted[@]}" ]; then
+        count_wanted "$1"
+        if [ "$(($# - 1))" -lt "$needed" ]; then
             say "$1 takes more arguments: $(call_of "$1")"
-        elif [ "$(($# - 1))" -gt "${#wanted[@]}" ]; then
+        elif [ "$(($# - 1))" -gt "$most" ]; then
             say "$1 takes fewer arguments: $(call_of "$1")"
+        elif [ "$needed" -ne "$most" ]; then
+            say "$1 does not take these arguments: $(call_of "$1")"
         else
             say_missed_range "$@"
         fi

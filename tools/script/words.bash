@@ -62,9 +62,28 @@ read_words() {
     keep_line "$whole"
 }
 
-# An argument's name: `N` of `N=1..1000`.
+# An argument's name: `N` of `N=1..1000`, and `[N]` of `[N=1..1000]`.
 name_of() {
-    printf '%s' "${1%%=*}"
+    case "$1" in
+        '['*=*) printf '%s]' "${1%%=*}" ;;
+        *) printf '%s' "${1%%=*}" ;;
+    esac
+}
+
+# The same without brackets.
+bare_name() {
+    local name
+    name="$(name_of "$1")"
+    name="${name#[}"
+    printf '%s' "${name%]}"
+}
+
+# An argument's range: `1..1000` of `N=1..1000` and of `[N=1..1000]`; nothing where it is no number.
+range_of() {
+    local range="${1%]}"
+    case "$range" in
+        *=*) printf '%s' "${range#*=}" ;;
+    esac
 }
 
 # A word with the names of its arguments.
@@ -108,17 +127,67 @@ is_less() {
     [ "${#1}" -lt "${#2}" ] || { [ "${#1}" -eq "${#2}" ] && [[ "$1" < "$2" ]]; }
 }
 
+# Whether a word is what an argument that may be left out takes: a number in its range, or the name itself.
+fits_option() {
+    local inner="${2#[}"
+    inner="${inner%]}"
+    case "$inner" in
+        *=*) is_within "$1" "${inner#*=}" ;;
+        *) [ "$1" = "$inner" ] ;;
+    esac
+}
+
+# How many of the words behind the first its arguments take, in `taken`: one each, but that those that may be left out
+# take only what is theirs.
+count_taken() {
+    local argument
+    local -a wanted
+    read -ra wanted <<<"${arguments["$1"]}"
+    shift
+    taken=0
+    for argument in "${wanted[@]}"; do
+        [ "$#" -ge 1 ] || return 0
+        case "$argument" in
+            '['*) fits_option "$1" "$argument" || continue ;;
+        esac
+        taken=$((taken + 1))
+        shift
+    done
+}
+
+# How many arguments a subcommand must have, in `needed`, and how many it may have, in `most`.
+count_wanted() {
+    local argument
+    local -a wanted
+    read -ra wanted <<<"${arguments["$1"]}"
+    needed=0 most="${#wanted[@]}"
+    for argument in "${wanted[@]}"; do
+        case "$argument" in
+            '['*) ;;
+            *) needed=$((needed + 1)) ;;
+        esac
+    done
+}
+
 # Whether the first word is one of the program's, and the others are as many as it takes, and numbers in their ranges
 # where it takes numbers.
 asks_program() {
-    local argument
+    [ "$#" -ge 1 ] && is_word "$1" && [ "${by["$1"]}" = program ] && has_arguments "$@"
+}
+
+# Whether the words behind the first, which the table has, are as many as it takes, and numbers in their ranges where it
+# takes numbers.
+has_arguments() {
+    local argument taken needed most
     local -a wanted
-    [ "$#" -ge 1 ] && is_word "$1" && [ "${by["$1"]}" = program ] || return 1
+    count_taken "$@"
+    count_wanted "$1"
+    [ "$#" -eq $((taken + 1)) ] && [ "$taken" -ge "$needed" ] || return 1
     read -ra wanted <<<"${arguments["$1"]}"
     shift
-    [ "$#" -eq "${#wanted[@]}" ] || return 1
     for argument in "${wanted[@]}"; do
         case "$argument" in
+            '['*) continue ;; # what is there was found to be its own
             *=*) is_within "$1" "${argument#*=}" || return 1 ;;
         esac
         shift
@@ -164,7 +233,7 @@ statuses_of() {
 
 help_page() {
     local word file
-    echo 'scatter runs a scenario of a key-value store of self-organising Paxos groups.'
+    wrapped '' 0 'scatter runs a scenario of a key-value store of self-organising Paxos groups, and says whether a history of any store is linearizable.'
     echo
     for word in "${words[@]}"; do
         wrapped "  $(call_of "$word")" 29 "${does["$word"]}"
@@ -197,9 +266,9 @@ help_word() {
     echo
     wrapped '' 2 "${does["$1"]}"
     for argument in "${wanted[@]}"; do
-        range="${argument#*=}"
-        [ "$range" = "$argument" ] ||
-            wrapped '' 2 "$(name_of "$argument") is a number from ${range%%..*} to ${range##*..}"
+        range="$(range_of "$argument")"
+        [ -z "$range" ] ||
+            wrapped '' 2 "$(bare_name "$argument") is a number from ${range%%..*} to ${range##*..}"
     done
     [ "${input["$1"]}" = - ] || wrapped '' 2 "FILE has at most ${input["$1"]} bytes; it may stand there without <"
     if [ "${by["$1"]}" = program ]; then
