@@ -3,6 +3,7 @@
 import os
 import shutil
 import subprocess
+import sys
 import time
 
 import resp_client
@@ -142,6 +143,21 @@ def commands(program):
         store.stop()
         status, told, _, _ = store.gather()
         expect(status == 0, told)
+        gathered(store)
+
+
+def gathered(store):
+    """A journal that is too small for all rows has a beginning of them; the check of the store says yes."""
+    _, whole, journal, _ = store.gather()
+    with open(journal, "rb") as file:
+        rows = file.read()
+    _, told, _, _ = store.gather("--most", "20000")
+    with open(journal, "rb") as file:
+        some = file.read()
+    expect("are left out" in told and len(some) <= 20000 and rows.startswith(some), f"a small journal: {told}, of {whole}")
+    words = [sys.executable, "-B", stores.SERVE, "--program", store.program, "--dir", store.files, "--check"]
+    done = subprocess.run(words, stdout=subprocess.PIPE, check=False)
+    expect(done.returncode == 0 and b"history: linearizable" in done.stdout and b"audit: lawful" in done.stdout, f"{done}")
 
 
 def orders(store, client):

@@ -26,7 +26,7 @@ def taken(bare):
 def some_writes(bare, name, count=8):
     client = bare.client()
     for k in range(count):
-        client.ask("SET", f"{name}{k}", f"{name} {k}")
+        client.insist("SET", f"{name}{k}", f"{name} {k}")
     client.close()
 
 

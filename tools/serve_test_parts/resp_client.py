@@ -1,6 +1,7 @@
 """A small client of redis, for where there is none: requests out, replies in."""
 
 import socket
+import time
 
 
 class Failed(Exception):
@@ -22,6 +23,16 @@ class Client:
     def ask(self, *words):
         self.send(*words)
         return self.reply()
+
+    def insist(self, *words, seconds=60):
+        """Asks until there is an answer, where asking twice does no harm."""
+        until = time.monotonic() + seconds
+        while True:
+            try:
+                return self.ask(*words)
+            except Failed as fault:
+                if time.monotonic() > until or not str(fault).startswith(("TIMEOUT", "BUSY")):
+                    raise
 
     def reply(self):
         line = self.file.readline()

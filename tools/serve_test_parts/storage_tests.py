@@ -103,7 +103,7 @@ def full_disk(program):
     with stores.Bare(program) as bare:
         bare.start_all()
         client = bare.client()
-        client.ask("SET", "a", "1")
+        client.insist("SET", "a", "1")
         node = bare.processes["node", 3, None]
         path = folders.inputs_of(bare.files, "node", 3)
         most = os.path.getsize(path) + 700
@@ -112,12 +112,12 @@ def full_disk(program):
         count = 0
         while node.poll() is None and time.monotonic() < until:
             count += 1
-            client.ask("SET", f"k{count}", "x" * 100)
+            client.insist("SET", f"k{count}", "x" * 100)
         expect(node.wait() == 75, f"a node with a full disk ends with status {node.poll()}")
         expect("File too large" in bare.log(), f"it does not say why: {bare.log()}")
         bare.kill("node", 3)
         bare.start("node", 3)
-        client.ask("SET", "after", "1")
+        client.insist("SET", "after", "1")
         bare.stop()
         status, said, _, _ = bare.gather()
         expect(status == 0, said)
@@ -156,7 +156,7 @@ asyncio.run(main())
 
 def killed_at_once(program):
     """All processes are killed at once, while requests are under way; what was acknowledged is there."""
-    with stores.Store(program, "--timeout", "20") as store:
+    with stores.Store(program) as store:
         store.start()
         acknowledged = {}
         for turn in range(2):

@@ -54,7 +54,8 @@ class Store:
     """A store by the command itself, with its keeper."""
 
     def __init__(self, program, *words, path=None):
-        self.program, self.words = program, words
+        # (a machine that is busy may take long, and that is no fault)
+        self.program, self.words = program, words if "--timeout" in words else [*words, "--timeout", "30"]
         self.folder = None if path else tempfile.TemporaryDirectory(prefix="serve-test-")
         self.path = path or self.folder.name
         self.said = os.path.join(self.path, "said.log")
@@ -79,7 +80,7 @@ class Store:
         with open(self.said, encoding="utf-8", errors="replace") as said:
             return said.read()[-2000:]
 
-    def client(self, seconds=30):
+    def client(self, seconds=60):
         return resp_client.Client(self.port, seconds)
 
     def kill(self, name):
@@ -174,7 +175,7 @@ class Bare:
             self.start("node", node, (plants or {}).get(("node", node)))
         self.start("front", 1, (plants or {}).get(("front", 1)))
 
-    def client(self, seconds=30):
+    def client(self, seconds=60):
         return resp_client.Client(self.port, seconds)
 
     def kill(self, kind, number, file=None):
