@@ -73,7 +73,7 @@ COPIES = (
     ("tools/script/forms.py", r'"W": number\("[a-z ]*", 1, ', "WORKERS"),
     ("tools/script/refusal", r"a text has at most ", "LINES"),
     ("tools/script/refusal", r"a text has at most \d+ lines and ", "INPUT"),
-    ("tools/script/refusal", r"that is audited has at most ", "JOURNAL"),
+    ("tools/script/refusal", r"that is audited,? .*has at most ", "JOURNAL"),
     ("tools/script/refusal", r"a client has at most ", "REQUESTS"),
     ("tools/script/refusal", r"there are at most ", "GROUPS"),
     ("tools/script/refusal", r"a group has at most ", "MEMBERS"),
