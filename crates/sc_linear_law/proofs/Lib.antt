@@ -1,0 +1,5 @@
+pub mod Game
+pub mod ListFacts
+pub mod Lean
+pub mod Complete
+pub mod Registers
