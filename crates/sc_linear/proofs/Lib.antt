@@ -1,0 +1,10 @@
+pub mod Exploration
+pub mod FrontLemmas
+pub mod LineLemmas
+pub mod RankLemmas
+pub mod Readers
+pub mod SeenLemmas
+pub mod StandingLemmas
+pub mod StepLemmas
+pub mod TakenLemmas
+pub mod TrailLemmas
