@@ -1,6 +1,7 @@
 pub mod Exploration
 pub mod FrontLemmas
 pub mod LineLemmas
+pub mod OneKey
 pub mod RankLemmas
 pub mod Readers
 pub mod SeenLemmas
