@@ -1,0 +1,2 @@
+mod HistoryReadings
+mod KeyLemmas
