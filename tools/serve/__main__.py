@@ -27,7 +27,7 @@ from wire import cluster, tls  # noqa: E402
 UNPROVED = "unproved: the same code answers, and not the proved program, which ./scatter build builds"
 PORT, FOLDER = 7379, "scatter.store"
 BAD_WORDS, REFUSED = 2, 2
-VERSION = "1.2.3"
+VERSION = "1.3.0"
 
 
 def number(low, high):
